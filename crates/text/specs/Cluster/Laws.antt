@@ -1,0 +1,95 @@
+-- A text's clusters hold its scalars, and are found one after the other.
+use mathlib.Core.Path.{_≡_, refl, sym, ap, ap₂, _∙_}
+use Prim.Native.Nat.{ℕ, suc}
+use mathlib.Core.Bool.{Bool, true, false, not, cond, _&&_, true≢false}
+use mathlib.Core.List.{List, [], _∷_, _++_}
+use lib.ListN.{take, drop}
+use lib.Dec.{T, eqb, eqb→eq}
+use Rattle.text.specs.Tests.{and-T, is-true, true-T, cases}
+use Rattle.text.specs.Utf8.{Scalar}
+use Rattle.text.specs.Class.{Profile, regionalIndicator, among, number}
+use Rattle.text.specs.Cluster.{Context, start, after, joined, classOf, context, joins, joinsNext, addToCluster, clustersAfter, clusters, joinAll}
+
+module _ (P : Profile) where
+  addToCluster-all : (w : Bool) (c : Scalar) (gs : List (List Scalar)) → joinAll (addToCluster P w c gs) ≡ c ∷ joinAll gs
+  unfolding joinAll addToCluster
+  addToCluster-all false c gs = refl
+  addToCluster-all true c [] = refl
+  addToCluster-all true c (g ∷ gs) = refl
+
+  clustersAfter-all : (before s : List Scalar) → joinAll (clustersAfter P before s) ≡ s
+  unfolding clustersAfter joinAll
+  clustersAfter-all before [] = refl
+  clustersAfter-all before (c ∷ s) =
+      addToCluster-all (joinsNext P (c ∷ before) s) c (clustersAfter P (c ∷ before) s) ∙ ap (λ (l : List Scalar). c ∷ l) (clustersAfter-all (c ∷ before) s)
+
+  pub clusters-all : (s : List Scalar) → joinAll (clusters P s) ≡ s
+  unfolding clusters
+  clusters-all s = clustersAfter-all [] s
+
+-- ---- one after the other
+
+-- GB12, GB13
+joined-ri : (p : ℕ) (k : Context) (c : ℕ) → p ≡ 10 → T (k .odd) → c ≡ 10 → joined p k c ≡ true
+unfolding joined among number
+joined-ri p k c e o f = rw (e, f, is-true (k .odd) o)
+
+-- behind a boundary nothing of the context before counts
+fresh : (p : ℕ) (k : Context) (c : ℕ) → joined p (after k p) c ≡ false → after (after k p) c ≡ after start c
+unfolding after among number
+fresh p k c e =
+    cases (eqb c 10)
+    (λ r. cases (eqb p 10 && not (k .odd))
+    (λ o.
+    let q = and-T (eqb p 10) (not (k .odd)) (true-T o) in
+    absurd (true≢false (sym (joined-ri p (after k p) c (eqb→eq p 10 (q .0)) (true-T o) (eqb→eq c 10 (true-T r))) ∙ e)))
+    (λ o. rw (r, o)))
+    (λ r. rw r)
+
+module _ (P : Profile) where
+  after-boundary : (before : List Scalar) (c : Scalar) → joins P before c ≡ false → context P (c ∷ before) ≡ context P (c ∷ [])
+  unfolding joins context
+  after-boundary [] c e = refl
+  after-boundary (p ∷ ps) c e = fresh (classOf P p) (context P ps) (classOf P c) e
+
+  odd-more : (d : Scalar) (x before : List Scalar) → context P (x ++ before) ≡ context P x → context P (d ∷ (x ++ before)) ≡ context P (d ∷ x)
+  unfolding context
+  odd-more d x before e = ap (λ (k : Context). after k (classOf P d)) e
+
+  joinsNext-same : (d : Scalar) (x before s : List Scalar) → context P (d ∷ (x ++ before)) ≡ context P (d ∷ x) → joinsNext P (d ∷ (x ++ before)) s ≡ joinsNext P (d ∷ x) s
+  unfolding joinsNext joins
+  joinsNext-same d x before [] e = refl
+  joinsNext-same d x before (c ∷ s) e = ap (λ (w : Context). joined (classOf P d) w (classOf P c)) e
+
+  restart-from : (d : Scalar) (x before s : List Scalar) → context P (d ∷ (x ++ before)) ≡ context P (d ∷ x) → clustersAfter P (d ∷ (x ++ before)) s ≡ clustersAfter P (d ∷ x) s
+  unfolding clustersAfter
+  restart-from d x before [] e = refl
+  restart-from d x before (c ∷ s) e =
+      let f = odd-more c (d ∷ x) before e in
+      ap₂ (λ (w : Bool) (gs : List (List Scalar)). addToCluster P w c gs) (joinsNext-same c (d ∷ x) before s f) (restart-from c (d ∷ x) before s f)
+
+  -- behind a boundary the clusters are those of the text that begins there
+  pub restart : (before : List Scalar) (c : Scalar) (s : List Scalar) → joins P before c ≡ false → clustersAfter P before (c ∷ s) ≡ clusters P (c ∷ s)
+  unfolding clusters clustersAfter
+  restart before c s e =
+      let f = after-boundary before c e in
+      ap₂ (λ (w : Bool) (gs : List (List Scalar)). addToCluster P w c gs) (joinsNext-same c [] before s f) (restart-from c [] before s f)
+
+  -- how many scalars of s belong to the cluster that `before` ends with
+  unfoldable pub further : List Scalar → List Scalar → ℕ
+  further before [] = 0
+  further before (d ∷ s) = let n : ℕ = suc (further (d ∷ before) s) in cond (joins P before d) n 0
+
+  -- the first cluster, and the clusters of the rest
+  first-after : (before : List Scalar) (c : Scalar) (s : List Scalar)
+      → clustersAfter P before (c ∷ s) ≡ (c ∷ take (further (c ∷ before) s) s) ∷ clusters P (drop (further (c ∷ before) s) s)
+  unfolding clustersAfter further addToCluster clusters joinsNext
+  first-after before c [] = refl
+  first-after before c (d ∷ s) =
+      cases (joins P (c ∷ before) d)
+      (λ e. rw e (ap (addToCluster P true c) (first-after (c ∷ before) d s)))
+      (λ e. rw e (ap (λ (gs : List (List Scalar)). (c ∷ []) ∷ gs) (restart (c ∷ before) d s e)))
+
+  pub clusters-first : (c : Scalar) (s : List Scalar) → clusters P (c ∷ s) ≡ (c ∷ take (further (c ∷ []) s) s) ∷ clusters P (drop (further (c ∷ []) s) s)
+  unfolding clusters
+  clusters-first c s = first-after [] c s

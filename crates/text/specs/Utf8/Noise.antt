@@ -1,0 +1,224 @@
+-- A noise byte stands in no sequence: it separates what stands before it and behind it, and which one it is does not matter.
+use mathlib.Core.Path.{_≡_, refl, sym, ap, ap₂, _∙_, subst}
+use Prim.Native.Nat.{ℕ, zero, suc, _≤_, _<_, zero-le}
+use native.Mathlib.Nat.{le-of-suc-le-suc, not-suc-le-zero}
+use native.Mathlib.Omega.{arith}
+use mathlib.Core.Bool.{Bool, true, false, cond, _&&_, _||_}
+use mathlib.Core.List.{List, [], _∷_, _++_}
+use lib.ListN.{length, take}
+use lib.Seq.{take-append-le}
+use lib.Dec.{T, leb, ltb, eqb, leb→le, ltb→lt, eqb→eq}
+use Rattle.text.specs.Tests.{and-T, or-T, is-false, true-T, cases}
+use Rattle.text.specs.Each.{Each, nil, cons}
+use Rattle.text.specs.Utf8.{Range, within, table, fits, lengthIn, sequence, decodedAs, decodeFrom, decode, Decoded, wellFormed, illFormed, scalar, Scalar, Piece, run, damaged, addToRun, runs, noise}
+use Rattle.text.specs.Utf8.Laws.{sequence-le}
+
+-- ---- ranges in which no noise byte lies
+
+unfoldable pub clean : Range → Bool
+clean r = _||_ (ltb (r .high) 0xC0) (_&&_ (leb 0xC2 (r .low)) (ltb (r .high) 0xF5))
+
+unfoldable pub cleanRow : List Range → Bool
+unfolding clean
+cleanRow [] = true
+cleanRow (r ∷ rs) = _&&_ (clean r) (cleanRow rs)
+
+unfoldable pub cleanTable : List (List Range) → Bool
+unfolding cleanRow
+cleanTable [] = true
+cleanTable (r ∷ rs) = _&&_ (cleanRow r) (cleanTable rs)
+
+-- of the table, by one computed test
+pub table-clean : T (cleanTable table)
+unfolding cleanTable table
+table-clean = tt
+
+pub noise-range : (n : ℕ) → T (noise n) → (0xC0 ≤ n) × (n ≤ 0xFF)
+unfolding noise
+noise-range n t =
+    or-T (eqb n 0xC0) _ t
+    (λ e. let h : n ≡ 0xC0 = eqb→eq n 0xC0 e in omega arith)
+    (λ u. or-T (eqb n 0xC1) _ u
+    (λ e. let h : n ≡ 0xC1 = eqb→eq n 0xC1 e in omega arith)
+    (λ v. let p = and-T (leb 0xF5 n) (leb n 0xFF) v in
+    let h₁ : 0xF5 ≤ n = leb→le _ _ (p .0) in
+    let h₂ : n ≤ 0xFF = leb→le _ _ (p .1) in
+    omega arith))
+
+noise-either : (n : ℕ) → T (noise n) → 0xC2 ≤ n → 0xF5 ≤ n
+unfolding noise
+noise-either n t l =
+    or-T (eqb n 0xC0) _ t
+    (λ e. let h : n ≡ 0xC0 = eqb→eq n 0xC0 e in omega arith)
+    (λ u. or-T (eqb n 0xC1) _ u
+    (λ e. let h : n ≡ 0xC1 = eqb→eq n 0xC1 e in omega arith)
+    (λ v. leb→le _ _ (and-T (leb 0xF5 n) (leb n 0xFF) v .0)))
+
+pub within-noise : (r : Range) (n : ℕ) → T (clean r) → T (noise n) → within r n ≡ false
+unfolding clean
+within-noise r n c t =
+    is-false _ (λ w.
+    let p = and-T (leb (r .low) n) (leb n (r .high)) w in
+    let lo : r .low ≤ n = leb→le _ _ (p .0) in
+    let hi : n ≤ r .high = leb→le _ _ (p .1) in
+    let b = noise-range n t in
+    or-T (ltb (r .high) 0xC0) _ c
+    (λ u. let h : r .high < 0xC0 = ltb→lt _ _ u in omega arith)
+    (λ u. let q = and-T (leb 0xC2 (r .low)) (ltb (r .high) 0xF5) u in
+    let h₁ : 0xC2 ≤ r .low = leb→le _ _ (q .0) in
+    let h₂ : r .high < 0xF5 = ltb→lt _ _ (q .1) in
+    let h₃ : 0xF5 ≤ n = noise-either n t (omega arith) in
+    omega arith))
+
+-- ---- a noise byte is in no sequence, so it ends the one before it
+
+fits-noise : (row : List Range) (a : List ℕ) (n : ℕ) (t : List ℕ) → T (cleanRow row) → T (noise n)
+    → fits row (a ++ n ∷ t) ≡ fits row a
+unfolding fits cleanRow
+fits-noise [] a n t c h = refl
+fits-noise (r ∷ rs) [] n t c h = ap (λ (w : Bool). _&&_ w (fits rs t)) (within-noise r n (and-T (clean r) (cleanRow rs) c .0) h)
+fits-noise (r ∷ rs) (b ∷ a) n t c h = ap (_&&_ (within r b)) (fits-noise rs a n t (and-T (clean r) (cleanRow rs) c .1) h)
+
+lengthIn-noise : (rows : List (List Range)) (a : List ℕ) (n : ℕ) (t : List ℕ) → T (cleanTable rows) → T (noise n)
+    → lengthIn rows (a ++ n ∷ t) ≡ lengthIn rows a
+unfolding lengthIn cleanTable
+lengthIn-noise [] a n t c h = refl
+lengthIn-noise (row ∷ rows) a n t c h =
+    let p = and-T (cleanRow row) (cleanTable rows) c in
+    ap₂ (λ (w : Bool) (k : ℕ). cond w (length row) k) (fits-noise row a n t (p .0) h) (lengthIn-noise rows a n t (p .1) h)
+
+pub sequence-noise : (a : List ℕ) (n : ℕ) (t : List ℕ) → T (noise n) → sequence (a ++ n ∷ t) ≡ sequence a
+unfolding sequence
+sequence-noise a n t h = lengthIn-noise table a n t table-clean h
+
+pub decodeFrom-noise : (k : ℕ) (a : List ℕ) (n : ℕ) (t : List ℕ) → k ≤ length a → T (noise n)
+    → decodeFrom k (a ++ n ∷ t) ≡ decodeFrom k a ++ illFormed n ∷ decode t
+unfolding decode decodeFrom
+decodeFrom-noise zero [] n t l h = ap (λ (m : ℕ). decodedAs m n t (λ k. decodeFrom k t)) (sequence-noise [] n t h)
+decodeFrom-noise (suc k) [] n t l h = absurd (not-suc-le-zero l)
+decodeFrom-noise zero (b ∷ s) n t l h =
+    ap (λ (m : ℕ). decodedAs m b (s ++ n ∷ t) (λ k. decodeFrom k (s ++ n ∷ t))) (sequence-noise (b ∷ s) n t h)
+    ∙ go (sequence (b ∷ s)) (sequence-le (b ∷ s)) (λ k q. decodeFrom-noise k s n t q h)
+  where
+    go : (m : ℕ) → m ≤ length (b ∷ s)
+        → ((k : ℕ) → k ≤ length s → decodeFrom k (s ++ n ∷ t) ≡ decodeFrom k s ++ illFormed n ∷ decodeFrom zero t)
+        → decodedAs m b (s ++ n ∷ t) (λ k. decodeFrom k (s ++ n ∷ t)) ≡ decodedAs m b s (λ k. decodeFrom k s) ++ illFormed n ∷ decodeFrom zero t
+    go zero q ih = ap (λ (us : List Decoded). illFormed b ∷ us) (ih zero zero-le)
+    go (suc m) q ih =
+        ap₂ (λ (x : List ℕ) (us : List Decoded). wellFormed (scalar (b ∷ x)) ∷ us) (take-append-le m s (n ∷ t) (le-of-suc-le-suc q)) (ih m (le-of-suc-le-suc q))
+decodeFrom-noise (suc k) (b ∷ s) n t l h = decodeFrom-noise k s n t (le-of-suc-le-suc l) h
+
+-- separation: the decode of the parts, and the noise byte between them
+pub decode-noise : (a : List ℕ) (n : ℕ) (t : List ℕ) → T (noise n) → decode (a ++ n ∷ t) ≡ decode a ++ illFormed n ∷ decode t
+unfolding decode
+decode-noise a n t h = decodeFrom-noise zero a n t zero-le h
+
+addToRun-noise : (c : Scalar) (ps : List Piece) (n : ℕ) (qs : List Piece) → addToRun c (ps ++ damaged n ∷ qs) ≡ addToRun c ps ++ damaged n ∷ qs
+unfolding addToRun
+addToRun-noise c [] n qs = refl
+addToRun-noise c (run s ∷ ps) n qs = refl
+addToRun-noise c (damaged b ∷ ps) n qs = refl
+
+runs-bad : (us : List Decoded) (n : ℕ) (vs : List Decoded) → runs (us ++ illFormed n ∷ vs) ≡ runs us ++ damaged n ∷ runs vs
+unfolding runs
+runs-bad [] n vs = refl
+runs-bad (wellFormed c ∷ us) n vs = ap (addToRun c) (runs-bad us n vs) ∙ addToRun-noise c (runs us) n (runs vs)
+runs-bad (illFormed b ∷ us) n vs = ap (λ (l : List Piece). damaged b ∷ l) (runs-bad us n vs)
+
+-- the runs of the parts, and the noise byte between them
+pub runs-noise : (a : List ℕ) (n : ℕ) (t : List ℕ) → T (noise n) → runs (decode (a ++ n ∷ t)) ≡ runs (decode a) ++ damaged n ∷ runs (decode t)
+runs-noise a n t h = ap runs (decode-noise a n t h) ∙ runs-bad (decode a) n (decode t)
+
+-- ---- exchange
+
+-- two bytes: the same, or _&&_ noise
+pub data Byte : ℕ → ℕ → Type 0 where
+  same : {b : ℕ} → Byte b b
+  exchanged : {b c : ℕ} → T (noise b) → T (noise c) → Byte b c
+
+-- two lines that differ only at places where _&&_ hold a noise byte
+abbrev pub Twin : List ℕ → List ℕ → Type 0
+Twin s t = Each Byte s t
+
+within-twin : (r : Range) {b c : ℕ} → T (clean r) → Byte b c → within r b ≡ within r c
+within-twin r k same = refl
+within-twin r k (exchanged {b = b} {c = c} h j) = within-noise r b k h ∙ sym (within-noise r c k j)
+
+fits-twin : (row : List Range) {s t : List ℕ} → T (cleanRow row) → Twin s t → fits row s ≡ fits row t
+unfolding fits cleanRow
+fits-twin [] c e = refl
+fits-twin (r ∷ rs) c nil = refl
+fits-twin (r ∷ rs) c (cons h e) =
+    let p = and-T (clean r) (cleanRow rs) c in
+    ap₂ _&&_ (within-twin r (p .0) h) (fits-twin rs (p .1) e)
+
+lengthIn-twin : (rows : List (List Range)) {s t : List ℕ} → T (cleanTable rows) → Twin s t → lengthIn rows s ≡ lengthIn rows t
+unfolding lengthIn cleanTable
+lengthIn-twin [] c e = refl
+lengthIn-twin (row ∷ rows) c e =
+    let p = and-T (cleanRow row) (cleanTable rows) c in
+    ap₂ (λ (w : Bool) (k : ℕ). cond w (length row) k) (fits-twin row (p .0) e) (lengthIn-twin rows (p .1) e)
+
+-- a sequence's own bytes are the same
+same-within : (r : Range) {b c : ℕ} → T (clean r) → Byte b c → T (within r b) → b ≡ c
+same-within r k same w = refl
+same-within r k (exchanged {b = b} h j) w = absurd (rw (within-noise r b k h) at w)
+
+fits-same : (row : List Range) {s t : List ℕ} → T (cleanRow row) → Twin s t → T (fits row s) → take (length row) s ≡ take (length row) t
+unfolding fits cleanRow
+fits-same [] c e w = refl
+fits-same (r ∷ rs) c nil w = refl
+fits-same (r ∷ rs) c (cons {a = a} {s = s} h e) w =
+    let p = and-T (clean r) (cleanRow rs) c in
+    let q = and-T (within r a) (fits rs s) w in
+    ap₂ (λ (x : ℕ) (l : List ℕ). x ∷ l) (same-within r (p .0) h (q .0)) (fits-same rs (p .1) e (q .1))
+
+lengthIn-same : (rows : List (List Range)) {s t : List ℕ} → T (cleanTable rows) → Twin s t → take (lengthIn rows s) s ≡ take (lengthIn rows s) t
+unfolding lengthIn cleanTable
+lengthIn-same [] c e = refl
+lengthIn-same (row ∷ rows) {s} c e =
+    let p = and-T (cleanRow row) (cleanTable rows) c in
+    cases (fits row s) (λ k. rw k (fits-same row (p .0) e (true-T k))) (λ k. rw k (lengthIn-same rows (p .1) e))
+
+pub data TwinUnit : Decoded → Decoded → Type 0 where
+  same : {u : Decoded} → TwinUnit u u
+  exchanged : {b c : ℕ} → Byte b c → TwinUnit (illFormed b) (illFormed c)
+
+decodedAs-twin : (m : ℕ) {b c : ℕ} (s t : List ℕ) → Byte b c → take m (b ∷ s) ≡ take m (c ∷ t) → ((k : ℕ) → Each TwinUnit (decodeFrom k s) (decodeFrom k t))
+    → Each TwinUnit (decodedAs m b s (λ k. decodeFrom k s)) (decodedAs m c t (λ k. decodeFrom k t))
+unfolding decodedAs
+decodedAs-twin zero s t h e ih = cons (exchanged h) (ih zero)
+decodedAs-twin (suc m) {b} s t h e ih =
+    subst (λ (x : List ℕ). Each TwinUnit (wellFormed (scalar (take (suc m) (b ∷ s))) ∷ decodeFrom m s) (wellFormed (scalar x) ∷ decodeFrom m t)) e (cons same (ih m))
+
+decodeFrom-twin : (k : ℕ) {s t : List ℕ} → Twin s t → Each TwinUnit (decodeFrom k s) (decodeFrom k t)
+unfolding decodeFrom sequence
+decodeFrom-twin k nil = nil
+decodeFrom-twin zero (cons {a = a} {b = b} {s = s} {t = t} h e) =
+    subst (λ (m : ℕ). Each TwinUnit (decodedAs (sequence (a ∷ s)) a s (λ k. decodeFrom k s)) (decodedAs m b t (λ k. decodeFrom k t))) (lengthIn-twin table table-clean (cons h e))
+    (decodedAs-twin (sequence (a ∷ s)) s t h (lengthIn-same table table-clean (cons h e)) (λ k. decodeFrom-twin k e))
+decodeFrom-twin (suc k) (cons h e) = decodeFrom-twin k e
+
+-- ---- runs
+
+pub data TwinPiece : Piece → Piece → Type 0 where
+  same : {p : Piece} → TwinPiece p p
+  exchanged : {b c : ℕ} → Byte b c → TwinPiece (damaged b) (damaged c)
+
+addToRun-twin : (c : Scalar) {ps qs : List Piece} → Each TwinPiece ps qs → Each TwinPiece (addToRun c ps) (addToRun c qs)
+unfolding addToRun
+addToRun-twin c nil = cons same nil
+addToRun-twin c (cons (same {p = run s}) e) = cons same e
+addToRun-twin c (cons (same {p = damaged b}) e) = cons same (cons same e)
+addToRun-twin c (cons (exchanged h) e) = cons same (cons (exchanged h) e)
+
+runsOf-twin : {us vs : List Decoded} → Each TwinUnit us vs → Each TwinPiece (runs us) (runs vs)
+unfolding runs
+runsOf-twin nil = nil
+runsOf-twin (cons (same {u = wellFormed c}) e) = addToRun-twin c (runsOf-twin e)
+runsOf-twin (cons (same {u = illFormed b}) e) = cons same (runsOf-twin e)
+runsOf-twin (cons (exchanged h) e) = cons (exchanged h) (runsOf-twin e)
+
+pub runs-twin : {s t : List ℕ} → Twin s t → Each TwinPiece (runs (decode s)) (runs (decode t))
+unfolding decode
+runs-twin e = runsOf-twin (decodeFrom-twin zero e)

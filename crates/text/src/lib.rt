@@ -1,0 +1,1 @@
+// Layer 1, text: UTF-8, classes, widths, clusters and overstrike conversion.
