@@ -1,5 +1,6 @@
 pub mod Tests
 pub mod Each
+pub mod Places
 pub mod Utf8
 pub mod Class
 pub mod Width

@@ -1,0 +1,5 @@
+pub mod Sgr
+pub mod Sequence
+pub mod Spans
+pub mod Search
+pub mod Calls
