@@ -1,0 +1,2 @@
+// Layer 4, drawing: attributes, clipping and change lists.
+pub mod attributes;
