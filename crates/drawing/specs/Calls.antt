@@ -35,17 +35,20 @@ drawing P conv places room matches qs draw line =
     let r : ℕ = decide (question1 line ∷ question2 conv line ∷ question3 matches s ∷ question4 places ss ∷ qs ++ (ask 8 (whole cs) ∷ ask 9 (leb (length list) room) ∷ [])) in
     record { number = r; count = counted (length list) r; conv = lent 0 conv s r; spans = lent noRecord places (records ss) r; list = lent 0 room list r }
 
+-- the questions between 4 and 8 of a window drawing, and of a row drawing
+abbrev pub windowQuestions : (start end : ℕ) → List Question
+windowQuestions start end = ask 5 (leb start 1048576 && leb end 1048576) ∷ ask 7 (eqb start 0 || leb (start + 1) end) ∷ []
+
+abbrev pub rowQuestions : (first count width mode : ℕ) → List Question
+rowQuestions first count width mode = ask 5 (modeAndWidth mode width && (leb first 65535 && (leb count 65535 && leb 1 count))) ∷ []
+
 module _ (P : Profile) where
   unfoldable pub windowCall : (conv places room start end : ℕ) (current : Option ℕ) (matches line : List ℕ) → Drawn
   unfolding drawing render
   windowCall conv places room start end current matches line =
-      drawing P conv places room matches
-      (ask 5 (leb start 1048576 && leb end 1048576) ∷ ask 7 (eqb start 0 || leb (start + 1) end) ∷ [])
-      (render P start end current) line
+      drawing P conv places room matches (windowQuestions start end) (render P start end current) line
 
   unfoldable pub rowCall : (conv places room first count width mode : ℕ) (current : Option ℕ) (matches line : List ℕ) → Drawn
   unfolding drawing renderWrapped modeOf
   rowCall conv places room first count width mode current matches line =
-      drawing P conv places room matches
-      (ask 5 (modeAndWidth mode width && (leb first 65535 && (leb count 65535 && leb 1 count))) ∷ [])
-      (renderWrapped P first count width (modeOf mode) current) line
+      drawing P conv places room matches (rowQuestions first count width mode) (renderWrapped P first count width (modeOf mode) current) line

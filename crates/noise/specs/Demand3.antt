@@ -1,0 +1,85 @@
+-- Demand 3: a noise byte separates what stands before it from what stands behind it, and which noise byte it is does not matter.
+-- The statements; their proofs are in Demand3/.
+use mathlib.Core.Path.{_≡_}
+use mathlib.Core.Logic.{_≢_}
+use Prim.Native.Nat.{ℕ, suc, _+_, _≤_}
+use mathlib.Core.Bool.{Bool, true, false, _&&_}
+use mathlib.Core.List.{List, [], _∷_, _++_, map}
+use mathlib.Core.Option.{some}
+use lib.ListN.{length, getD, take}
+use lib.Dec.{T}
+use Rattle.text.specs.Each.{Each}
+use Rattle.text.specs.Utf8.{noise}
+use Rattle.text.specs.Utf8.Noise.{Twin}
+use Rattle.text.specs.Class.{Profile}
+use Rattle.text.specs.Calls.{lent}
+use Rattle.text.specs.Overstrike as overstrike
+use Rattle.spans.specs.Spans.{Record, aRecord}
+use Rattle.spans.specs.Spans.Noise.{allNoise}
+use Rattle.spans.specs.Calls.{noRecord}
+use Rattle.drawing.specs.Draw.Noise.{TwinChange, MarkByte}
+use Rattle.noise.specs.Calls.{Call, read, Outcome, answer, withoutMatches, placesOf, changesOf}
+pub mod SeparationProof
+pub mod ExchangeProof
+pub mod Document01
+
+-- ---- separation: two parts, each of any bytes or none, with one or more noise bytes between them
+
+-- the records that an accepted call lists: those before the zeros
+unfoldable pub listed : Outcome → List Record
+listed a = take (a .count) (a .spans)
+
+-- byte places moved on by k
+unfoldable pub moved : ℕ → Record → Record
+moved k r = aRecord (r .kind) (r .place .0 + k) (r .len) (r .matched)
+
+-- a record of kind Invalid, length 1 and match number 0 for each noise byte, from place p on
+unfoldable pub noiseRecords : ℕ → List ℕ → List Record
+noiseRecords p [] = []
+noiseRecords p (n ∷ ns) = aRecord 4 p 1 0 ∷ noiseRecords (suc p) ns
+
+module _ (P : Profile) (first noises second : List ℕ) where
+  -- the first part's records, the noise bytes', and the second part's, behind the c bytes of the first part's converted line
+  unfoldable pub together : List Record → List Record → List Record
+  together before behind =
+      let c : ℕ = length (overstrike.convert P first) in
+      before ++ (noiseRecords c noises ++ map (moved (c + length noises)) behind)
+
+  abbrev pub line : List ℕ
+  line = first ++ (noises ++ second)
+
+  -- reading, lent conv bytes and `places` records
+  pub record Separated (conv places : ℕ) : Type 0 where
+    pub first-accepted : answer P (read conv places []) first .number ≡ 0
+    pub second-accepted : answer P (read conv places []) second .number ≡ 0
+    pub spans : listed (answer P (read conv places []) line) ≡ together (listed (answer P (read conv places []) first)) (listed (answer P (read conv places []) second))
+    -- every other accepted call without matches, conversion apart, leaves these same records, and zeros after them
+    pub others : (c : Call) (n : ℕ) → placesOf c ≡ some n → T (withoutMatches c) → answer P c line .number ≡ 0
+        → answer P c line .spans ≡ lent noRecord n (listed (answer P (read conv places []) line)) 0
+
+  -- where reading the line is accepted, it is separated
+  abbrev pub Separation : Type 0
+  Separation = 1 ≤ length noises → T (allNoise noises) → (conv places : ℕ) → answer P (read conv places []) line .number ≡ 0 → Separated conv places
+
+-- ---- exchange: two lines of equal length that differ only at places where both hold a noise byte
+
+pub record Exchanged (s t : List ℕ) : Type 0 where
+  pub length : length s ≡ length t
+  pub differ : (i : ℕ) → getD s i 0 ≢ getD t i 0 → T (noise (getD s i 0)) × T (noise (getD t i 0))
+
+-- what the call c answers to the lines s and t
+pub record Alike (P : Profile) (c : Call) (s t : List ℕ) : Type 0 where
+  pub number : answer P c s .number ≡ answer P c t .number
+  pub count : answer P c s .count ≡ answer P c t .count
+  pub spans : answer P c s .spans ≡ answer P c t .spans
+  pub rows : answer P c s .rows ≡ answer P c t .rows
+  -- converted lines, byte by byte: the same, or both noise
+  pub conv : Twin (answer P c s .conv) (answer P c t .conv)
+  -- changes, one by one: the same, or the same clipping of the marks of the noise bytes at one place of the two converted lines
+  pub changes : Each (TwinChange P (overstrike.convert P s) (overstrike.convert P t)) (changesOf P c s) (changesOf P c t)
+  -- change lists, byte by byte: the same, or the same hexadecimal digit of those marks, each list showing its own line's
+  pub list : Each (MarkByte (overstrike.convert P s) (overstrike.convert P t)) (answer P c s .list) (answer P c t .list)
+
+-- any one call without matches on each line, for any profile in which the sixteen digits have no break class and width 1
+abbrev pub Exchange : Profile → Type 0
+Exchange P = (c : Call) → T (withoutMatches c) → (s t : List ℕ) → Exchanged s t → Alike P c s t

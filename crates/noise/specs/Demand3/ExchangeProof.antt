@@ -1,0 +1,128 @@
+-- Exchange: the proof.
+use mathlib.Core.Path.{_≡_, refl, sym, ap, ap₂, _∙_}
+use mathlib.Core.Logic.{_≢_}
+use Prim.Native.Nat.{ℕ, zero, suc, _+_, _-_, _<_}
+use native.Mathlib.Omega.{arith}
+use mathlib.Core.Bool.{Bool, true, false, _&&_, true≢false}
+use mathlib.Core.List.{List, [], _∷_, _++_}
+use mathlib.Core.Option.{Option, none, some}
+use lib.ListN.{length, getD, replicate}
+use lib.Dec.{T, eqb, leb, eqb→eq, eqb-refl}
+use Rattle.text.specs.Tests.{cases, is-true, true-T}
+use Rattle.text.specs.Each.{Each, nil, cons, each-same, each-append, each-length}
+use Rattle.text.specs.Utf8.{noise}
+use Rattle.text.specs.Utf8.Noise.{Byte, Twin}
+use Rattle.text.specs.Class.{Profile}
+use Rattle.text.specs.Overstrike.{convert}
+use Rattle.text.specs.Overstrike.Noise.{convert-twin}
+use Rattle.text.specs.Calls.{Question, ask, decide, lent, counted, question1, question2, convertCall}
+use Rattle.spans.specs.Spans.{Span, spans, Record, records}
+use Rattle.spans.specs.Spans.Noise.{TwinSpan, spans-twin, records-twin}
+use Rattle.spans.specs.Search as search
+use Rattle.spans.specs.Calls.{readCall, question3, question4, noRecord}
+use Rattle.rows.specs.Rows.{Row, rows}
+use Rattle.rows.specs.Rows.Noise.{rows-twin}
+use Rattle.rows.specs.Calls.{modeOf, modeAndWidth, numbersOf, question6, rowsCall, heightCall}
+use Rattle.drawing.specs.Change.{Change, whole, encode}
+use Rattle.drawing.specs.Draw.{render, renderWrapped}
+use Rattle.drawing.specs.Draw.Noise.{PlainDigits, TwinChange, MarkByte, render-twin, renderWrapped-twin, whole-twin, encode-twin}
+use Rattle.drawing.specs.Calls.{Drawn, drawing, windowQuestions, rowQuestions, windowCall, rowCall}
+use Rattle.noise.specs.Calls.{Call, answer, noMatches, withoutMatches, changesOf}
+use Rattle.noise.specs.Calls as calls
+use Rattle.noise.specs.Demand3.{Exchanged, Alike, Exchange}
+
+-- ---- the demand's words, and lines byte by byte
+
+byte-of : (a b : ℕ) → (a ≢ b → T (noise a) × T (noise b)) → Byte a b
+byte-of a b f =
+    cases (eqb a b)
+    (λ e. rw (eqb→eq a b (true-T e)) Byte.same)
+    (λ e. let h = f (λ q. true≢false (sym (is-true _ (eqb-refl b)) ∙ ap (λ (x : ℕ). eqb x b) (sym q) ∙ e)) in Byte.exchanged (h .0) (h .1))
+
+twin-of : (s t : List ℕ) → length s ≡ length t → ((i : ℕ) → getD s i 0 ≢ getD t i 0 → T (noise (getD s i 0)) × T (noise (getD t i 0))) → Twin s t
+twin-of [] [] e f = nil
+twin-of [] (b ∷ t) e f = absurd (let z : 0 ≡ suc (length t) = e in omega arith)
+twin-of (a ∷ s) [] e f = absurd (let z : suc (length s) ≡ 0 = e in omega arith)
+twin-of (a ∷ s) (b ∷ t) e f = cons (byte-of a b (f 0)) (twin-of s t (omega arith) (λ i. f (suc i)))
+
+-- ---- lent memory
+
+lent-twin : {A : Type 0} {R : A → A → Type 0} → ((a : A) → R a a) → (blank : A) (n : ℕ) {xs ys : List A} (q r : ℕ) → q ≡ r → Each R xs ys
+    → Each R (lent blank n xs q) (lent blank n ys r)
+unfolding lent
+lent-twin f blank n {xs} {ys} zero zero e d = rw (sym (each-length d)) (each-append d (each-same f (replicate (n - length xs) blank)))
+lent-twin f blank n zero (suc r) e d = absurd (omega arith)
+lent-twin f blank n (suc q) zero e d = absurd (omega arith)
+lent-twin f blank n (suc q) (suc r) e d = each-same f (replicate n blank)
+
+module _ (P : Profile) (H : PlainDigits P) {s t : List ℕ} (e : Twin s t) where
+  abbrev l : List ℕ
+  l = convert P s
+
+  abbrev m : List ℕ
+  m = convert P t
+
+  abbrev line : length s ≡ length t
+  line = each-length e
+
+  abbrev converted : Twin l m
+  converted = convert-twin P e
+
+  abbrev read : Each (TwinSpan l m) (spans P l) (spans P m)
+  read = spans-twin P converted
+
+  lent-conv : (n q r : ℕ) → q ≡ r → Twin (lent 0 n l q) (lent 0 n m r)
+  lent-conv n q r d = lent-twin (λ x. Byte.same) 0 n q r d converted
+
+  lent-spans : (n q r : ℕ) → q ≡ r → lent noRecord n (records (spans P l)) q ≡ lent noRecord n (records (spans P m)) r
+  lent-spans n q r d = ap₂ (lent noRecord n) (records-twin read) d
+
+  record TwinDrawn (a b : Drawn) : Type 0 where
+    number : a .number ≡ b .number
+    count : a .count ≡ b .count
+    conv : Twin (a .conv) (b .conv)
+    spans : a .spans ≡ b .spans
+    list : Each (MarkByte l m) (a .list) (b .list)
+
+  -- both kinds of drawing, with the questions qs between 4 and 8
+  drawn : (b p r : ℕ) (qs : List Question) (draw : List Span → List Change) → Each (TwinChange P l m) (draw (spans P l)) (draw (spans P m))
+      → TwinDrawn (drawing P b p r [] qs draw s) (drawing P b p r [] qs draw t)
+  unfolding drawing search.read search.inOrder
+  drawn b p r qs draw y =
+      let z = encode-twin P H l m y in
+      let d : decide (question1 s ∷ question2 b s ∷ question3 [] l ∷ question4 p (spans P l) ∷ qs ++ (ask 8 (whole (draw (spans P l))) ∷ ask 9 (leb (length (encode (draw (spans P l)))) r) ∷ []))
+      ≡ decide (question1 t ∷ question2 b t ∷ question3 [] m ∷ question4 p (spans P m) ∷ qs ++ (ask 8 (whole (draw (spans P m))) ∷ ask 9 (leb (length (encode (draw (spans P m)))) r) ∷ [])) =
+      rw (line, each-length read, whole-twin P H l m y, each-length z) in
+      record { number = d; count = ap₂ counted (each-length z) d; conv = lent-conv b _ _ d; spans = lent-spans p _ _ d; list = lent-twin (λ x. MarkByte.same) 0 r _ _ d z }
+
+  alike : (c : Call) → T (withoutMatches c) → Alike P c s t
+  unfolding withoutMatches noMatches answer changesOf convertCall readCall rowsCall heightCall windowCall rowCall search.read search.inOrder
+  alike (calls.convert b) h =
+      let d : decide (question1 s ∷ question2 b s ∷ []) ≡ decide (question1 t ∷ question2 b t ∷ []) = rw line in
+      record { number = d; count = ap₂ counted (each-length converted) d; spans = refl; rows = refl; conv = lent-conv b _ _ d; changes = nil; list = nil }
+  alike (calls.read b p []) h =
+      let d : decide (question1 s ∷ question2 b s ∷ question3 [] l ∷ question4 p (spans P l) ∷ []) ≡ decide (question1 t ∷ question2 b t ∷ question3 [] m ∷ question4 p (spans P m) ∷ []) = rw (line, each-length read) in
+      record { number = d; count = ap₂ counted (each-length read) d; spans = lent-spans p _ _ d; rows = refl; conv = lent-conv b _ _ d; changes = nil; list = nil }
+  alike (calls.read b p (x ∷ xs)) h = absurd h
+  alike (calls.rows b p n w k) h =
+      let g : rows P w (modeOf k) (spans P l) ≡ rows P w (modeOf k) (spans P m) = rows-twin P w (modeOf k) read in
+      let d : decide (question1 s ∷ question2 b s ∷ question4 p (spans P l) ∷ ask 5 (modeAndWidth k w) ∷ question6 n (rows P w (modeOf k) (spans P l)) ∷ [])
+      ≡ decide (question1 t ∷ question2 b t ∷ question4 p (spans P m) ∷ ask 5 (modeAndWidth k w) ∷ question6 n (rows P w (modeOf k) (spans P m)) ∷ []) = rw (line, each-length read, g) in
+      record { number = d; count = ap₂ counted (ap length g) d; spans = lent-spans p _ _ d; rows = ap₂ (λ (x : List Row) (r : ℕ). lent 0 n (numbersOf x) r) g d; conv = lent-conv b _ _ d; changes = nil; list = nil }
+  alike (calls.height b p w k) h =
+      let g : rows P w (modeOf k) (spans P l) ≡ rows P w (modeOf k) (spans P m) = rows-twin P w (modeOf k) read in
+      let d : decide (question1 s ∷ question2 b s ∷ question4 p (spans P l) ∷ ask 5 (modeAndWidth k w) ∷ []) ≡ decide (question1 t ∷ question2 b t ∷ question4 p (spans P m) ∷ ask 5 (modeAndWidth k w) ∷ []) = rw (line, each-length read) in
+      record { number = d; count = ap₂ counted (ap length g) d; spans = lent-spans p _ _ d; rows = refl; conv = lent-conv b _ _ d; changes = nil; list = nil }
+  alike (calls.drawWindow b p r x y now []) h =
+      let c = render-twin P H l m x y now read in
+      let f = drawn b p r (windowQuestions x y) (render P x y now) c in
+      record { number = f .number; count = f .count; spans = f .spans; rows = refl; conv = f .conv; changes = c; list = f .list }
+  alike (calls.drawWindow b p r x y now (k ∷ ks)) h = absurd h
+  alike (calls.drawRow b p r x n w k now []) h =
+      let c = renderWrapped-twin P H l m x n w (modeOf k) now read in
+      let f = drawn b p r (rowQuestions x n w k) (renderWrapped P x n w (modeOf k) now) c in
+      record { number = f .number; count = f .count; spans = f .spans; rows = refl; conv = f .conv; changes = c; list = f .list }
+  alike (calls.drawRow b p r x n w k now (y ∷ ys)) h = absurd h
+
+pub exchange-of : (P : Profile) → PlainDigits P → Exchange P
+exchange-of P H c h s t e = alike P H (twin-of s t (e .length) (e .differ)) c h

@@ -1,0 +1,123 @@
+-- Separation: the proof.
+use mathlib.Core.Path.{_≡_, refl, sym, ap, ap₂, _∙_}
+use Prim.Native.Nat.{ℕ, zero, suc, _+_, _*_, _≤_}
+use native.Mathlib.Omega.{arith}
+use native.Mathlib.Nat.{not-suc-le-zero}
+use mathlib.Core.Bool.{Bool, true, false, _&&_}
+use mathlib.Core.List.{List, [], _∷_, _++_, map}
+use mathlib.Core.Option.{Option, none, some}
+use lib.ListN.{length, take, replicate, length-append, length-map}
+use lib.Seq.{take-append-seam}
+use lib.Dec.{T, leb, leb→le, le→leb}
+use Rattle.text.specs.Tests.{is-true, true-T}
+use Rattle.text.specs.Class.{Profile}
+use Rattle.text.specs.Calls.{Question, ask, decide, lent, counted, question1, question2}
+use Rattle.text.specs.Overstrike.{convert}
+use Rattle.spans.specs.Spans.{Span, spans, Record, aRecord, recordOf, records, kindOf, matchOf}
+use Rattle.spans.specs.Spans.Laws.{shift, map-append}
+use Rattle.spans.specs.Spans.Noise.{allNoise, damage, separation}
+use Rattle.spans.specs.Search as search
+use Rattle.spans.specs.Calls.{readCall, question3, question4, noRecord}
+use Rattle.rows.specs.Calls.{rowsCall, heightCall}
+use Rattle.drawing.specs.Calls.{drawing, windowCall, rowCall}
+use Rattle.noise.specs.Calls.{Call, Outcome, answer, noMatches, withoutMatches, placesOf}
+use Rattle.noise.specs.Calls as calls
+use Rattle.noise.specs.Demand3.{listed, moved, noiseRecords, together, Separated, Separation}
+
+-- ---- records
+
+records-shift : (k : ℕ) (ss : List Span) → records (map (shift k) ss) ≡ map (moved k) (records ss)
+unfolding records shift moved recordOf
+records-shift k [] = refl
+records-shift k (s ∷ ss) = ap (λ (l : List Record). moved k (recordOf s) ∷ l) (records-shift k ss)
+
+records-damage : (p : ℕ) (ns : List ℕ) → records (damage p ns) ≡ noiseRecords p ns
+unfolding records damage noiseRecords recordOf kindOf matchOf
+records-damage p [] = refl
+records-damage p (n ∷ ns) = ap (λ (l : List Record). aRecord 4 p 1 0 ∷ l) (records-damage (suc p) ns)
+
+-- ---- acceptance
+
+accepted : (n : ℕ) (b : Bool) (qs : List Question) → decide (ask (suc n) b ∷ qs) ≡ 0 → (b ≡ true) × (decide qs ≡ 0)
+unfolding decide
+accepted n true qs e = (refl, e)
+accepted n false qs e = absurd (let z : suc n ≡ 0 = e in omega arith)
+
+accept : (n : ℕ) (b : Bool) (qs : List Question) → b ≡ true → decide qs ≡ 0 → decide (ask n b ∷ qs) ≡ 0
+unfolding decide
+accept n true qs e f = f
+accept n false qs e f = absurd (true-T e)
+
+leb-down : (m n k : ℕ) → leb n k ≡ true → m ≤ n → leb m k ≡ true
+leb-down m n k e h = let d : n ≤ k = leb→le n k (true-T e) in is-true _ (le→leb m k (omega arith))
+
+-- the records in front of the zeros
+front : (r n places : ℕ) (rs : List Record) → r ≡ 0 → n ≡ length rs → take (counted n r) (lent noRecord places rs r) ≡ rs
+unfolding lent counted
+front r n places rs e f = rw (e, f) (take-append-seam rs _)
+
+length-records : (ss : List Span) → length ss ≡ length (records ss)
+unfolding records
+length-records ss = sym (length-map ss recordOf)
+
+module _ (P : Profile) where
+  -- the records of a line read without matches
+  abbrev recordsOf : List ℕ → List Record
+  recordsOf s = records (spans P (convert P s))
+
+  listed-read : (conv places : ℕ) (s : List ℕ) → answer P (calls.read conv places []) s .number ≡ 0 → listed (answer P (calls.read conv places []) s) ≡ recordsOf s
+  unfolding listed answer readCall search.read
+  listed-read conv places s e = front _ _ places (recordsOf s) e (length-records (spans P (convert P s)))
+
+  -- reading accepts what is shorter in bytes and in spans
+  read-down : (conv places : ℕ) (s t : List ℕ) → length s ≤ length t → length (spans P (convert P s)) ≤ length (spans P (convert P t))
+      → answer P (calls.read conv places []) t .number ≡ 0 → answer P (calls.read conv places []) s .number ≡ 0
+  unfolding answer readCall search.read search.inOrder
+  read-down conv places s t h k e =
+      let c : List ℕ = convert P t in
+      let d : List ℕ = convert P s in
+      let a₁ = accepted 0 (leb (length t) 4096) (question2 conv t ∷ question3 [] c ∷ question4 places (spans P c) ∷ []) e in
+      let a₂ = accepted 1 (leb (8 * length t) conv) (question3 [] c ∷ question4 places (spans P c) ∷ []) (a₁ .1) in
+      let a₃ = accepted 3 (leb (length (spans P c)) places) [] (a₂ .1) in
+      accept 1 (leb (length s) 4096) (question2 conv s ∷ question3 [] d ∷ question4 places (spans P d) ∷ []) (leb-down _ (length t) 4096 (a₁ .0) h)
+      (accept 2 (leb (8 * length s) conv) (question3 [] d ∷ question4 places (spans P d) ∷ []) (leb-down _ (8 * length t) conv (a₂ .0) (omega arith))
+      (accept 4 (leb (length (spans P d)) places) [] (leb-down _ (length (spans P c)) places (a₃ .0) k) refl))
+
+  -- every accepted call without matches, conversion apart, leaves the records of the converted line
+  leaves-records : (c : Call) (n : ℕ) (s : List ℕ) → placesOf c ≡ some n → T (withoutMatches c) → answer P c s .number ≡ 0 → answer P c s .spans ≡ lent noRecord n (recordsOf s) 0
+  unfolding withoutMatches noMatches placesOf answer readCall rowsCall heightCall windowCall rowCall drawing search.read
+  leaves-records (calls.convert b) n s p h e = absurd (let z : _≡_ {A = ℕ} 0 1 = cc in omega arith)
+  leaves-records (calls.read b k []) n s p h e = ap₂ (λ (x r : ℕ). lent noRecord x (recordsOf s) r) (cc) e
+  leaves-records (calls.read b k (m ∷ ms)) n s p h e = absurd h
+  leaves-records (calls.rows b k w x y) n s p h e = ap₂ (λ (x r : ℕ). lent noRecord x (recordsOf s) r) (cc) e
+  leaves-records (calls.height b k x y) n s p h e = ap₂ (λ (x r : ℕ). lent noRecord x (recordsOf s) r) (cc) e
+  leaves-records (calls.drawWindow b k r x y now []) n s p h e = ap₂ (λ (x r : ℕ). lent noRecord x (recordsOf s) r) (cc) e
+  leaves-records (calls.drawWindow b k r x y now (m ∷ ms)) n s p h e = absurd h
+  leaves-records (calls.drawRow b k r f c w x now []) n s p h e = ap₂ (λ (x r : ℕ). lent noRecord x (recordsOf s) r) (cc) e
+  leaves-records (calls.drawRow b k r f c w x now (m ∷ ms)) n s p h e = absurd h
+
+  -- the records of a line that is two parts with noise between them
+  records-together : (a : List ℕ) (n : ℕ) (ns b : List ℕ) → T (allNoise (n ∷ ns)) → recordsOf (a ++ ((n ∷ ns) ++ b)) ≡ together P a (n ∷ ns) b (recordsOf a) (recordsOf b)
+  unfolding together records
+  records-together a n ns b h =
+      ap records (separation P a n ns b h)
+      ∙ map-append recordOf (spans P (convert P a)) _
+      ∙ ap (λ (l : List Record). recordsOf a ++ l)
+      (map-append recordOf (damage (length (convert P a)) (n ∷ ns)) _
+      ∙ ap₂ (λ (x y : List Record). x ++ y) (records-damage (length (convert P a)) (n ∷ ns)) (records-shift _ (spans P (convert P b))))
+
+  pub separation-of : (first noises second : List ℕ) → Separation P first noises second
+  separation-of first [] second l h conv places e = absurd (not-suc-le-zero l)
+  separation-of first (n ∷ ns) second l h conv places e =
+      let w : List ℕ = first ++ ((n ∷ ns) ++ second) in
+      let d : length w ≡ length first + suc (length ns + length second) = simp length-append (omega arith) in
+      let k : length (spans P (convert P w)) ≡ length (spans P (convert P first)) + (length (damage (length (convert P first)) (n ∷ ns)) + length (spans P (convert P second))) =
+      ap length (separation P first n ns second h) ∙ simp (length-append, length-map) in
+      let f = read-down conv places first w (omega arith) (omega arith) e in
+      let g = read-down conv places second w (omega arith) (omega arith) e in
+      record {
+        first-accepted = f;
+        second-accepted = g;
+        spans = listed-read conv places w e ∙ records-together first n ns second h ∙ rw (listed-read conv places first f, listed-read conv places second g);
+        others = λ c m p t a. rw (listed-read conv places w e) (leaves-records c m w p t a);
+      }
