@@ -6,6 +6,7 @@ use lib.ListN.{drop, getD}
 use lib.Dec.{eqb, leb}
 use Rattle.spans.specs.Sgr.{digit, parameters, allowed, orders}
 use Rattle.spans.specs.declared.sgr.Sgr.{Sgr}
+pub mod Laws
 
 -- what a sequence is; the place of a hyperlink's URI is counted from the ESC
 pub data Sequence : Type 0 where
@@ -23,6 +24,11 @@ pub data Found : Type 0 where
 unfoldable pub leading : (ℕ → Bool) → List ℕ → ℕ
 leading p [] = 0
 leading p (b ∷ s) = let more : ℕ = suc (leading p s) in cond (p b) more 0
+
+-- the first place from i on whose byte does not pass it
+unfoldable pub past : (ℕ → Bool) → List ℕ → ℕ → ℕ
+unfolding leading
+past p s i = i + leading p (drop i s)
 
 -- ---- behind `ESC [`: n parameter bytes and a final byte
 
@@ -74,12 +80,11 @@ closed m e b c =
     (cond (eqb b 0x1B && eqb c 0x5C) (found (hyperlink (2 + m) (e - m)) (4 + e)) missing)
 
 unfoldable pub osc : List ℕ → Found
-unfolding leading closed
+unfolding past closed
 osc s =
-    let i : ℕ = 2 + leading idByte (drop 2 s) in
-    let m : ℕ = i + 1 in
-    let e : ℕ = m + leading uriByte (drop m s) in
-    cond (eqb (getD s 0 0) 0x38 && (eqb (getD s 1 0) 0x3B && eqb (getD s i 0) 0x3B)) (closed m e (getD s e 0) (getD s (e + 1) 0)) missing
+    let i : ℕ = past idByte s 2 in
+    let e : ℕ = past uriByte s (i + 1) in
+    cond (eqb (getD s 0 0) 0x38 && (eqb (getD s 1 0) 0x3B && eqb (getD s i 0) 0x3B)) (closed (i + 1) e (getD s e 0) (getD s (e + 1) 0)) missing
 
 -- ---- behind ESC
 

@@ -1,0 +1,129 @@
+-- A sequence stays what it is, whatever follows it.
+use mathlib.Core.Path.{_≡_, refl, sym, ap, _∙_}
+use Prim.Native.Nat.{ℕ, zero, suc, _+_, _-_, _*_, _≤_, _<_, zero-le, suc-le-suc}
+use native.Mathlib.Omega.{arith}
+use native.Mathlib.Nat.{le-of-suc-le-suc, not-suc-le-zero}
+use mathlib.Core.Logic.{_⊎_, inl, inr}
+use mathlib.Core.Bool.{Bool, true, false, not, cond, _&&_, _||_}
+use mathlib.Core.List.{List, [], _∷_, _++_}
+use lib.ListN.{length, drop, getD, length-append, length-drop, List·getD-append, List·getD-eq-default}
+use lib.Seq.{drop-append-le, getD-drop}
+use lib.Dec.{T, eqb, leb, ltb, ltb→lt, nltb→le}
+use Rattle.text.specs.Tests.{cases, true-T}
+use Rattle.spans.specs.Sgr.{digit, parameters, allowed, orders}
+use Rattle.spans.specs.Sequence.{Sequence, Found, found, missing, leading, past, parameterByte, ifKnown, erase, final, csi, charset, uriByte, idByte, closed, osc, parse}
+
+-- ---- runs of bytes that pass a test
+
+pub leading-le : (p : ℕ → Bool) (s : List ℕ) → leading p s ≤ length s
+unfolding leading
+leading-le p [] = zero-le
+leading-le p (b ∷ s) = cases (p b) (λ e. rw e (suc-le-suc (leading-le p s))) (λ e. rw e zero-le)
+
+pub leading-append : (p : ℕ → Bool) (s t : List ℕ) → leading p s < length s → leading p (s ++ t) ≡ leading p s
+unfolding leading
+leading-append p [] t h = absurd (not-suc-le-zero h)
+leading-append p (b ∷ s) t h =
+    cases (p b)
+    (λ e. let k : suc (leading p s) < suc (length s) = rw e at h in rw e (ap suc (leading-append p s t (le-of-suc-le-suc k))))
+    (λ e. rw e)
+
+pub past-from : (p : ℕ → Bool) (s : List ℕ) (i : ℕ) → i ≤ past p s i
+unfolding past
+past-from p s i = omega arith
+
+pub past-append : (p : ℕ → Bool) (s t : List ℕ) (i : ℕ) → past p s i < length s → past p (s ++ t) i ≡ past p s i
+unfolding past
+past-append p s t i h =
+    let k : leading p (drop i s) < length (drop i s) = simp length-drop (omega arith) in
+    rw (drop-append-le i s t (omega arith), leading-append p (drop i s) t k)
+
+parameters-append : (v : ℕ) (s t : List ℕ) → leading parameterByte s < length s → parameters v (s ++ t) ≡ parameters v s
+unfolding parameters leading
+parameters-append v [] t h = absurd (not-suc-le-zero h)
+parameters-append v (b ∷ s) t h =
+    cases (digit b)
+    (λ e. let k : suc (leading parameterByte s) < suc (length s) = rw e at h in rw e (parameters-append (v * 10 + (b - 0x30)) s t (le-of-suc-le-suc k)))
+    (λ e. cases (eqb b 0x3B)
+    (λ f. let k : suc (leading parameterByte s) < suc (length s) = rw (e, f) at h in rw (e, f) (ap (λ (l : List ℕ). v ∷ l) (parameters-append 0 s t (le-of-suc-le-suc k))))
+    (λ f. rw (e, f)))
+
+-- ---- the sequences
+
+-- `missing` is not found
+absurd-missing : {A : Type 0} (x : Found) (q : Sequence) (n : ℕ) → x ≡ missing → x ≡ found q n → A
+absurd-missing x q n e f = absurd (let z : _≡_ {A = ℕ} 0 1 = cc in omega arith)
+
+csi-append : (s t : List ℕ) → leading parameterByte s < length s → csi (s ++ t) ≡ csi s
+unfolding csi
+csi-append s t h =
+    let n : ℕ = leading parameterByte s in
+    rw (leading-append parameterByte s t h, parameters-append 0 s t h, List·getD-append s t 0 n h, List·getD-append s t 0 0 (omega arith))
+
+csi-short : (s : List ℕ) → length s ≤ leading parameterByte s → csi s ≡ missing
+unfolding csi
+csi-short s h = rw (List·getD-eq-default s 0 {n = leading parameterByte s} h)
+
+csi-stable : (s t : List ℕ) (q : Sequence) (n : ℕ) → csi s ≡ found q n → csi (s ++ t) ≡ found q n
+csi-stable s t q n e =
+    cases (ltb (leading parameterByte s) (length s))
+    (λ l. csi-append s t (ltb→lt _ _ (true-T l)) ∙ e)
+    (λ l. absurd-missing (csi s) q n (csi-short s (nltb→le _ _ (rw l tt))) e)
+
+charset-stable : (s t : List ℕ) (q : Sequence) (n : ℕ) → charset s ≡ found q n → charset (s ++ t) ≡ found q n
+unfolding charset
+charset-stable [] t q n e = absurd-missing missing q n refl e
+charset-stable (b ∷ s) t q n e = e
+
+closed-none : (m e b : ℕ) → eqb b 0x07 ≡ false → closed m e b 0 ≡ missing
+unfolding closed
+closed-none m e b f = rw f (cases (eqb b 0x1B) (λ g. rw g) (λ g. rw g))
+
+closed-open : (m e c : ℕ) → closed m e 0 c ≡ missing
+unfolding closed
+closed-open m e c = refl
+
+closed-bell : (m e b c d : ℕ) → eqb b 0x07 ≡ true → closed m e b c ≡ closed m e b d
+unfolding closed
+closed-bell m e b c d g = rw g
+
+-- a URI stays closed where the byte behind its terminator's first stays, or is missing
+closed-stable : (m e b c d : ℕ) (q : Sequence) (n : ℕ) → c ≡ d ⊎ c ≡ 0 → closed m e b c ≡ found q n → closed m e b d ≡ found q n
+closed-stable m e b c d q n (inl z) f = rw (sym z) f
+closed-stable m e b c d q n (inr z) f =
+    cases (eqb b 0x07)
+    (λ g. sym (closed-bell m e b c d g) ∙ f)
+    (λ g. absurd-missing (closed m e b c) q n (rw z (closed-none m e b g)) f)
+
+osc-stable : (s t : List ℕ) (q : Sequence) (n : ℕ) → osc s ≡ found q n → osc (s ++ t) ≡ found q n
+unfolding osc
+osc-stable s t q n f =
+    let i : ℕ = past idByte s 2 in
+    let e : ℕ = past uriByte s (i + 1) in
+    let a = past-from idByte s 2 in
+    let b = past-from uriByte s (i + 1) in
+    cases (ltb e (length s))
+    (λ h.
+    let k : e < length s = ltb→lt _ _ (true-T h) in
+    let c : getD s (e + 1) 0 ≡ getD (s ++ t) (e + 1) 0 ⊎ getD s (e + 1) 0 ≡ 0 = cases (ltb (e + 1) (length s)) (λ w. inl (sym (List·getD-append s t 0 (e + 1) (ltb→lt _ _ (true-T w))))) (λ w. inr (List·getD-eq-default s 0 {n = e + 1} (nltb→le _ _ (rw w tt)))) in
+    rw (past-append idByte s t 2 (omega arith), past-append uriByte s t (i + 1) k, List·getD-append s t 0 0 (omega arith), List·getD-append s t 0 1 (omega arith), List·getD-append s t 0 i (omega arith), List·getD-append s t 0 e k)
+    (cases (eqb (getD s 0 0) 0x38 && (eqb (getD s 1 0) 0x3B && eqb (getD s i 0) 0x3B))
+    (λ w. rw w (closed-stable (i + 1) e (getD s e 0) _ _ q n c (rw w at f)))
+    (λ w. absurd-missing missing q n refl (rw w at f))))
+    (λ h.
+    let z : getD s e 0 ≡ 0 = List·getD-eq-default s 0 {n = e} (nltb→le _ _ (rw h tt)) in
+    cases (eqb (getD s 0 0) 0x38 && (eqb (getD s 1 0) 0x3B && eqb (getD s i 0) 0x3B))
+    (λ w. absurd-missing missing q n (sym (closed-open (i + 1) e (getD s (e + 1) 0))) (rw (w, z) at f))
+    (λ w. absurd-missing missing q n refl (rw w at f)))
+
+pub parse-stable : (s t : List ℕ) (q : Sequence) (n : ℕ) → parse s ≡ found q n → parse (s ++ t) ≡ found q n
+unfolding parse
+parse-stable [] t q n e = absurd-missing missing q n refl e
+parse-stable (a ∷ s) t q n e =
+    cases (eqb a 0x5B)
+    (λ f. rw f (csi-stable s t q n (rw f at e)))
+    (λ f. cases (eqb a 0x28)
+    (λ g. rw (f, g) (charset-stable s t q n (rw (f, g) at e)))
+    (λ g. cases (eqb a 0x5D)
+    (λ h. rw (f, g, h) (osc-stable s t q n (rw (f, g, h) at e)))
+    (λ h. absurd-missing missing q n refl (rw (f, g, h) at e))))
