@@ -6,6 +6,7 @@ use lib.ListN.{length, take}
 use lib.Dec.{leb, eqb}
 pub mod Laws
 pub mod Noise
+pub mod Valid
 
 -- ---- the table of well-formed sequences
 
@@ -114,6 +115,12 @@ unfolding addToRun
 runs [] = []
 runs (wellFormed c ∷ ds) = addToRun c (runs ds)
 runs (illFormed b ∷ ds) = damaged b ∷ runs ds
+
+-- the scalars of the run that the bytes begin with
+unfoldable pub runOf : List Decoded → List Scalar
+runOf [] = []
+runOf (wellFormed c ∷ ds) = c ∷ runOf ds
+runOf (illFormed b ∷ ds) = []
 
 -- ---- texts
 

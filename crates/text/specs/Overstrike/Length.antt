@@ -8,22 +8,17 @@ use mathlib.Core.List.{List, [], _∷_, _++_, reverse, reverseAux}
 use lib.ListN.{length, length-append}
 use lib.Dec.{T, eqb}
 use Rattle.text.specs.Tests.{cases, and-T, true-T}
-use Rattle.text.specs.Utf8.{Scalar, Decoded, wellFormed, illFormed, decodedAs, sequence, decodeFrom, decode, Piece, run, damaged, addToRun, runs, bytesOf, ascii, asciis, sameBytes, reads}
+use Rattle.text.specs.Each.{All, all-nil, all-cons}
+use Rattle.text.specs.Utf8.{Scalar, decode, Piece, run, damaged, runs, bytesOf, ascii, asciis, sameBytes, reads}
 use Rattle.text.specs.Utf8.Laws.{bytesOf-append, decodedBytes-decode, pieceBytes, pieceBytes-runs}
+use Rattle.text.specs.Utf8.Valid.{Valid, ValidPiece, runs-valid}
 use Rattle.text.specs.Class.{Profile, isControl}
 use Rattle.text.specs.Cluster.{joins, joinsNext, addToCluster, clustersAfter, clusters, joinAll}
 use Rattle.text.specs.Cluster.Laws.{clusters-all}
 use Rattle.text.specs.Overstrike.{Style, normal, bold, underline, boldUnderline, order, Pending, none, held, struck, State, state, ambiguous, bolded, underlined, eraseFrom, backspace, strike, onBackspace, onCluster, step, steps, finish, convertRun, convertPieces, convert}
 use Rattle.text.specs.Overstrike.Laws.{convert-pieces}
 
--- ---- every scalar has a byte
-
-pub data All {A : Type 0} (Q : A → Type 0) : List A → Type 0 where
-  none′ : All Q []
-  some′ : {a : A} {s : List A} → Q a → All Q s → All Q (a ∷ s)
-
-abbrev Solid : Scalar → Type 0
-Solid c = 1 ≤ length (c .bytes)
+-- ---- every cluster has a byte
 
 abbrev size : List Scalar → ℕ
 size s = length (bytesOf s)
@@ -44,55 +39,24 @@ size-push (c ∷ s) t =
     let d = size-cons c s in
     omega arith
 
-data SolidDecoded : Decoded → Type 0 where
-  wellFormed′ : {c : Scalar} → Solid c → SolidDecoded (wellFormed c)
-  illFormed′ : {b : ℕ} → SolidDecoded (illFormed b)
-
-decodedAs-solid : (m b : ℕ) (s : List ℕ) → ((k : ℕ) → All SolidDecoded (decodeFrom k s)) → All SolidDecoded (decodedAs m b s (λ k. decodeFrom k s))
-unfolding decodedAs
-decodedAs-solid zero b s ih = some′ illFormed′ (ih zero)
-decodedAs-solid (suc m) b s ih = some′ (wellFormed′ (suc-le-suc zero-le)) (ih m)
-
-decodeFrom-solid : (k : ℕ) (s : List ℕ) → All SolidDecoded (decodeFrom k s)
-unfolding decodeFrom
-decodeFrom-solid k [] = none′
-decodeFrom-solid zero (b ∷ s) = decodedAs-solid (sequence (b ∷ s)) b s (λ k. decodeFrom-solid k s)
-decodeFrom-solid (suc k) (b ∷ s) = decodeFrom-solid k s
-
-data SolidPiece : Piece → Type 0 where
-  run′ : {s : List Scalar} → All Solid s → SolidPiece (run s)
-  damaged′ : {b : ℕ} → SolidPiece (damaged b)
-
-addToRun-solid : (c : Scalar) → Solid c → {ps : List Piece} → All SolidPiece ps → All SolidPiece (addToRun c ps)
-unfolding addToRun
-addToRun-solid c h none′ = some′ (run′ (some′ h none′)) none′
-addToRun-solid c h (some′ (run′ a) e) = some′ (run′ (some′ h a)) e
-addToRun-solid c h (some′ damaged′ e) = some′ (run′ (some′ h none′)) (some′ damaged′ e)
-
-runs-solid : {us : List Decoded} → All SolidDecoded us → All SolidPiece (runs us)
-unfolding runs
-runs-solid none′ = none′
-runs-solid (some′ (wellFormed′ {c = c} h) e) = addToRun-solid c h (runs-solid e)
-runs-solid (some′ illFormed′ e) = some′ damaged′ (runs-solid e)
-
 -- each cluster has a byte
 abbrev Full : List Scalar → Type 0
 Full g = 1 ≤ size g
 
-one : (c : Scalar) → Solid c → (g : List Scalar) → Full (c ∷ g)
+one : (c : Scalar) → Valid c → (g : List Scalar) → Full (c ∷ g)
 one c h g = let k = size-cons c g in omega arith
 
 module _ (P : Profile) where
-  addToCluster-full : (w : Bool) (c : Scalar) → Solid c → {gs : List (List Scalar)} → All Full gs → All Full (addToCluster P w c gs)
+  addToCluster-full : (w : Bool) (c : Scalar) → Valid c → {gs : List (List Scalar)} → All Full gs → All Full (addToCluster P w c gs)
   unfolding addToCluster
-  addToCluster-full false c h e = some′ (one c h []) e
-  addToCluster-full true c h none′ = some′ (one c h []) none′
-  addToCluster-full true c h (some′ {a = g} f e) = some′ (one c h g) e
+  addToCluster-full false c h e = all-cons (one c h []) e
+  addToCluster-full true c h all-nil = all-cons (one c h []) all-nil
+  addToCluster-full true c h (all-cons {a = g} f e) = all-cons (one c h g) e
 
-  clusters-full : (before : List Scalar) {s : List Scalar} → All Solid s → All Full (clustersAfter P before s)
+  clusters-full : (before : List Scalar) {s : List Scalar} → All Valid s → All Full (clustersAfter P before s)
   unfolding clustersAfter
-  clusters-full before none′ = none′
-  clusters-full before (some′ {a = c} {s = s} h e) = addToCluster-full (joinsNext P (c ∷ before) s) c h (clusters-full (c ∷ before) e)
+  clusters-full before all-nil = all-nil
+  clusters-full before (all-cons {a = c} {s = s} h e) = addToCluster-full (joinsNext P (c ∷ before) s) c h (clusters-full (c ∷ before) e)
 
 -- ---- what the machine may still write
 
@@ -219,8 +183,8 @@ module _ (P : Profile) where
 
   steps-weight : (t : State) {gs : List (List Scalar)} → All Full gs → weight (steps P t gs) ≤ weight t + 8 * size (joinAll gs)
   unfolding steps joinAll
-  steps-weight t none′ = omega arith
-  steps-weight t (some′ {a = g} {s = gs} f e) =
+  steps-weight t all-nil = omega arith
+  steps-weight t (all-cons {a = g} {s = gs} f e) =
       let a = step-weight t g f in
       let b = steps-weight (step P t g) e in
       let c = size-append g (joinAll gs) in
@@ -239,7 +203,7 @@ module _ (P : Profile) where
       omega arith
   finish-size out (struck g) b s = let k = size-push (asciis (order b normal)) out in let o = order-size b normal in let z = cost-normal in omega arith
 
-  pub convertRun-size : {s : List Scalar} → All Solid s → size (convertRun P s) ≤ 8 * size s
+  pub convertRun-size : {s : List Scalar} → All Valid s → size (convertRun P s) ≤ 8 * size s
   unfolding convertRun clusters
   convertRun-size {s} e =
       let t : State = steps P (state [] none normal normal) (clusters P s) in
@@ -250,19 +214,19 @@ module _ (P : Profile) where
       let z = start-weight in
       omega arith
 
-  convertPieces-size : {ps : List Piece} → All SolidPiece ps → length (convertPieces P ps) ≤ 8 * length (pieceBytes ps)
+  convertPieces-size : {ps : List Piece} → All ValidPiece ps → length (convertPieces P ps) ≤ 8 * length (pieceBytes ps)
   unfolding convertPieces pieceBytes
-  convertPieces-size none′ = omega arith
-  convertPieces-size (some′ {s = ps} (run′ {s = s} a) e) =
+  convertPieces-size all-nil = omega arith
+  convertPieces-size (all-cons {s = ps} (ValidPiece.valid {s = s} a) e) =
       let x = convertRun-size a in
       let y = convertPieces-size e in
       simp length-append (omega arith)
-  convertPieces-size (some′ damaged′ e) = let y = convertPieces-size e in omega arith
+  convertPieces-size (all-cons ValidPiece.ill e) = let y = convertPieces-size e in omega arith
 
   pub convert-size : (s : List ℕ) → length (convert P s) ≤ 8 * length s
   unfolding decode
   convert-size s =
-      let a = convertPieces-size (runs-solid (decodeFrom-solid zero s)) in
+      let a = convertPieces-size (runs-valid s) in
       let b : length (pieceBytes (runs (decode s))) ≡ length s = ap length (pieceBytes-runs (decode s) ∙ decodedBytes-decode s) in
       let c : length (convert P s) ≡ length (convertPieces P (runs (decode s))) = ap length (convert-pieces P s) in
       omega arith
