@@ -9,13 +9,12 @@ use mathlib.Core.Option.{some}
 use lib.ListN.{length, getD, take}
 use lib.Dec.{T}
 use Rattle.text.specs.Each.{Each}
-use Rattle.text.specs.Utf8.{noise}
+use Rattle.text.specs.Utf8.{noise, allNoise}
 use Rattle.text.specs.Utf8.Noise.{Twin}
 use Rattle.text.specs.Class.{Profile}
 use Rattle.text.specs.Calls.{lent}
 use Rattle.text.specs.Overstrike as overstrike
 use Rattle.spans.specs.Spans.{Record, aRecord}
-use Rattle.spans.specs.Spans.Noise.{allNoise}
 use Rattle.spans.specs.Calls.{noRecord}
 use Rattle.drawing.specs.Draw.Noise.{TwinChange, MarkByte}
 use Rattle.noise.specs.Calls.{Call, read, Outcome, answer, withoutMatches, placesOf, changesOf}

@@ -151,3 +151,8 @@ reads g s = sameBytes (bytesOf g) s
 
 unfoldable pub noise : ℕ → Bool
 noise b = eqb b 0xC0 || (eqb b 0xC1 || (leb 0xF5 b && leb b 0xFF))
+
+unfoldable pub allNoise : List ℕ → Bool
+unfolding noise
+allNoise [] = true
+allNoise (n ∷ ns) = noise n && allNoise ns

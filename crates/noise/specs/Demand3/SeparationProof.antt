@@ -10,12 +10,13 @@ use lib.ListN.{length, take, replicate, length-append, length-map}
 use lib.Seq.{take-append-seam}
 use lib.Dec.{T, leb, leb→le, le→leb}
 use Rattle.text.specs.Tests.{is-true, true-T}
+use Rattle.text.specs.Utf8.{allNoise}
 use Rattle.text.specs.Class.{Profile}
 use Rattle.text.specs.Calls.{Question, ask, decide, lent, counted, question1, question2}
 use Rattle.text.specs.Overstrike.{convert}
 use Rattle.spans.specs.Spans.{Span, spans, Record, aRecord, recordOf, records, kindOf, matchOf}
 use Rattle.spans.specs.Spans.Laws.{shift, map-append}
-use Rattle.spans.specs.Spans.Noise.{allNoise, damage, separation}
+use Rattle.spans.specs.Spans.Noise.{damage, separation}
 use Rattle.spans.specs.Search as search
 use Rattle.spans.specs.Calls.{readCall, question3, question4, noRecord}
 use Rattle.rows.specs.Calls.{rowsCall, heightCall}

@@ -11,7 +11,7 @@ use lib.Dec.{T}
 use Rattle.text.specs.Tests.{and-T}
 use Rattle.text.specs.Each.{Each, nil, cons, each-same, each-append}
 use Rattle.text.specs.Places.{behind, byte-at, behind-byte}
-use Rattle.text.specs.Utf8.{Scalar, decode, Piece, run, damaged, runs, bytesOf, noise}
+use Rattle.text.specs.Utf8.{Scalar, decode, Piece, run, damaged, runs, bytesOf, noise, allNoise}
 use Rattle.text.specs.Class.{Profile}
 use Rattle.text.specs.Cluster.{clusters}
 use Rattle.text.specs.Utf8.Laws.{pieceBytes, pieceBytes-runs, decodedBytes-decode}
@@ -32,12 +32,6 @@ module _ (P : Profile) where
       ap (readPieces P m p) (runs-noise a n t h)
       ∙ readPieces-append P m p (runs (decode a)) (damaged n ∷ runs (decode t))
       ∙ ap (λ (l : List ℕ). readPieces P m p (runs (decode a)) ++ readPieces P m (p + length l) (damaged n ∷ runs (decode t))) all
-
--- the bytes are all noise
-unfoldable pub allNoise : List ℕ → Bool
-unfolding noise
-allNoise [] = true
-allNoise (n ∷ ns) = _&&_ (noise n) (allNoise ns)
 
 -- the spans of noise bytes from place p on
 unfoldable pub damage : ℕ → List ℕ → List Span
