@@ -7,3 +7,4 @@ pub mod Width
 pub mod Cluster
 pub mod Overstrike
 pub mod Calls
+pub mod Code

@@ -1,7 +1,11 @@
 // Layer 1, text: UTF-8, classes, widths, clusters and overstrike conversion.
+pub mod class;
+pub mod cluster;
+pub mod utf8;
+pub mod width;
 
-// A column counts screen cells.
-pub struct Column(pub usize);
-
-// A byte place counts bytes.
+// A place in a line, counted in bytes.
 pub struct BytePlace(pub usize);
+
+// A column of the screen, counted in cells.
+pub struct Column(pub usize);

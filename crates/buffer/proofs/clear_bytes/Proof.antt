@@ -1,0 +1,48 @@
+use borrow.Author.Needs.{needs}
+use Rattle.buffer.proofs.clear_bytes.Statement.{statement}
+use Rattle.buffer.proofs.clear_bytes.Tie as tie
+use mathlib.Core.Path.{_≡_}
+use Prim.Native.Nat.{_≤_, _-_}
+use lib.ListN.{length}
+use Rattle.buffer.specs.Sink.Laws.{cleared, clear-begin, clear-turn, clear-end}
+
+abbrev Inv-loop : tie.InvT-loop
+Inv-loop out₀ from i₀ out i = (out ≡ cleared out₀ from i) × (from ≤ i) × (length out ≡ length out₀)
+
+abbrev μ-loop : tie.MeasureT-loop
+μ-loop out₀ from i₀ out i = length out₀ - i
+
+loop-holds : tie.Need-loop-holds Inv-loop μ-loop
+loop-holds c = (clear-begin _ _, search needs, search needs)
+
+slice-write-out : tie.Need-slice-write-out Inv-loop μ-loop
+slice-write-out c = search needs
+
+add-i : tie.Need-add-i Inv-loop μ-loop
+add-i c = search needs
+
+loop-less : tie.Need-loop-less Inv-loop μ-loop
+loop-less c = search needs
+
+loop-again : tie.Need-loop-again Inv-loop μ-loop
+loop-again c = (search clear-turn, search needs, search needs)
+
+same-length : tie.Need-same-length Inv-loop μ-loop
+same-length c = search needs
+
+returns : tie.Need-returns Inv-loop μ-loop
+returns c = search clear-end
+
+pub clear-bytes-spec : {M : Type 1} → statement M
+clear-bytes-spec =
+    tie.close
+    (tie.spec
+    Inv-loop
+    μ-loop
+    loop-holds
+    slice-write-out
+    add-i
+    loop-less
+    loop-again
+    same-length
+    returns)

@@ -1,0 +1,198 @@
+-- Writers one after the other, loops that write, and what a run of writes came to by its count.
+use mathlib.Core.Path.{_≡_, refl, sym, ap, ap₂, _∙_}
+use mathlib.Core.List.{List, [], _∷_, _++_, append-nil, append-assoc}
+use mathlib.Core.Logic.{_⊎_, inl, inr, ⊎-elim}
+use Prim.Native.Nat.{ℕ, zero, suc, _+_, _-_, _≤_, _<_}
+use native.Mathlib.Nat.{not-suc-le-zero, add-zero, sub-zero, suc-sub-suc}
+use native.Mathlib.Numerals.{add-one}
+use native.Mathlib.Omega.{arith}
+use lib.ListN.{length, set, take, drop, getD, replicate, drop-of-length-le, length-append, length-set, length-replicate, getD-replicate}
+use lib.Seq.{set-out, drop-cons, set-append-seam, take-append-seam, sets, sets-eq, paste, paste-zero, paste-suc, take-all, take-length}
+use borrow.Author.Tests.{lt-ltb, le-ltb, le-leb, lt-leb}
+use Rattle.buffer.specs.Sink.{Sink, sink, bump, put, emit, landed, written, Copied}
+
+abbrev countOf : Sink → ℕ
+countOf (sink l r) = r
+
+abbrev listOf : Sink → List ℕ
+listOf (sink l r) = l
+
+le-or-lt : (a b : ℕ) → (a ≤ b) ⊎ (b < a)
+le-or-lt zero b = inl (omega arith)
+le-or-lt (suc a) zero = inr (omega arith)
+le-or-lt (suc a) (suc b) = ⊎-elim (λ (p : a ≤ b). inl (omega arith)) (λ (q : b < a). inr (omega arith)) (le-or-lt a b)
+
+-- ---- one more
+
+pub put-in : (l : List ℕ) (at b : ℕ) → at < length l → sink (set l at b) (at + 1) ≡ put (sink l at) b
+unfolding put bump
+put-in l at b h = rw (lt-ltb at (length l) h)
+
+pub put-past : (l : List ℕ) (at b : ℕ) → length l ≤ at → sink l (length l + 1) ≡ put (sink l at) b
+unfolding put bump
+put-past l at b h = rw (le-ltb at (length l) h, set-out l at b h)
+
+-- ---- writers one after the other
+
+pub emit-none : (s : Sink) → emit s [] ≡ s
+unfolding emit
+emit-none s = refl
+
+pub emit-append : (s : Sink) (xs ys : List ℕ) → emit s (xs ++ ys) ≡ emit (emit s xs) ys
+unfolding emit
+emit-append s [] ys = refl
+emit-append s (x ∷ xs) ys = emit-append (put s x) xs ys
+
+pub then-emit : (s s′ s″ : Sink) (xs ys : List ℕ) → s′ ≡ emit s xs → s″ ≡ emit s′ ys → s″ ≡ emit s (xs ++ ys)
+then-emit s s′ s″ xs ys p q = q ∙ (rw (p, ← emit-append s xs ys))
+
+-- ---- a loop that writes what is left of xs, one by one: a turn, and the end
+
+pub emit-turn : (s s′ : Sink) (xs : List ℕ) (j : ℕ) {e : Sink} → j < length xs → emit s (drop j xs) ≡ e → s′ ≡ put s (getD xs j 0) → emit s′ (drop (j + 1) xs) ≡ e
+unfolding emit
+emit-turn s s′ xs j h p q = rw (q, add-one) (rw (drop-cons xs j 0 h) at p)
+
+pub emit-end : (s : Sink) (xs : List ℕ) (j : ℕ) {e : Sink} → length xs ≤ j → emit s (drop j xs) ≡ e → s ≡ e
+unfolding emit
+emit-end s xs j h p = rw (drop-of-length-le xs h) at p
+
+-- ---- a machine that reads a list: what it writes of each, what it goes on with, and what it writes at the end
+
+module _ {A S : Type 0} (next : S → A → S) (gives : S → A → List ℕ) (ends : S → List ℕ) where
+  unfoldable pub run : S → List A → List ℕ
+  run s [] = ends s
+  run s (x ∷ xs) = gives s x ++ run (next s x) xs
+
+  -- a turn of a loop that runs it on what is left, and the end
+  pub run-turn : (z : A) (s s′ : S) (k k′ : Sink) (xs : List A) (j : ℕ) {e : Sink} → j < length xs → emit k (run s (drop j xs)) ≡ e → s′ ≡ next s (getD xs j z) → k′ ≡ emit k (gives s (getD xs j z)) → emit k′ (run s′ (drop (j + 1) xs)) ≡ e
+  unfolding run
+  run-turn z s s′ k k′ xs j h p q r =
+      rw (q, r, add-one) (sym (emit-append k (gives s (getD xs j z)) (run (next s (getD xs j z)) (drop (suc j) xs))) ∙ (rw (drop-cons xs j z h) at p))
+
+  pub run-end : (s : S) (k k′ : Sink) (xs : List A) (j : ℕ) {e : Sink} → length xs ≤ j → emit k (run s (drop j xs)) ≡ e → k′ ≡ emit k (ends s) → k′ ≡ e
+  unfolding run
+  run-end s k k′ xs j h p r = r ∙ (rw (drop-of-length-le xs h) at p)
+
+-- ---- writes that fit
+
+emit-sets : (xs l : List ℕ) (at : ℕ) → at + length xs ≤ length l → emit (sink l at) xs ≡ sink (sets l at xs) (at + length xs)
+unfolding emit
+emit-sets [] l at h = ap (sink l) (sym (add-zero at))
+emit-sets (x ∷ xs) l at h =
+    let g : suc at + length xs ≤ length (set l at x) = rw (length-set l at x) (omega arith) in
+    let n : suc at + length xs ≡ at + suc (length xs) = omega arith in
+    rw (← put-in l at x (omega arith), add-one) (emit-sets xs (set l at x) (suc at) g ∙ ap (sink (sets (set l at x) (suc at) xs)) n)
+
+pub emit-room : (l xs : List ℕ) (at : ℕ) → at + length xs ≤ length l → emit (sink l at) xs ≡ sink (written l at xs) (at + length xs)
+emit-room l xs at h = emit-sets xs l at h ∙ ap (λ (m : List ℕ). sink m (at + length xs)) (sets-eq xs l at h)
+
+pub emit-copied : (l l′ xs : List ℕ) (at r : ℕ) → at ≤ length l → length xs ≤ length l - at → Copied l l′ at xs r → sink l′ r ≡ emit (sink l at) xs
+emit-copied l l′ xs at r h k c = rw (c .bytes, c .end) (sym (emit-room l xs at (omega arith)))
+
+-- ---- what a run of writes into n zeros came to, by its count
+
+-- a full buffer takes nothing more
+stuck : (l xs : List ℕ) → emit (sink l (length l + 1)) xs ≡ sink l (length l + 1)
+unfolding emit
+stuck l [] = refl
+stuck l (x ∷ xs) = rw (← put-past l (length l + 1) x (omega arith)) (stuck l xs)
+
+-- in the place of the first zero after p
+put-next : (p z : List ℕ) (x : ℕ) → put (sink (p ++ 0 ∷ z) (length p)) x ≡ sink ((p ++ x ∷ []) ++ z) (length (p ++ x ∷ []))
+put-next p z x =
+    let h : length p < length (p ++ 0 ∷ z) = rw length-append (omega arith) in
+    rw (← put-in (p ++ 0 ∷ z) (length p) x h, set-append-seam, append-assoc, length-append)
+
+-- after p, into k zeros
+emit-fits : (p xs : List ℕ) (k : ℕ) → length xs ≤ k → emit (sink (p ++ replicate k 0) (length p)) xs ≡ sink (p ++ (xs ++ replicate (k - length xs) 0)) (length p + length xs)
+unfolding emit
+emit-fits p [] k h = rw (sub-zero, add-zero)
+emit-fits p (x ∷ xs) zero h = absurd (not-suc-le-zero h)
+emit-fits p (x ∷ xs) (suc k) h =
+    rw put-next
+    (emit-fits (p ++ x ∷ []) xs k (omega arith)
+    ∙ rw (append-assoc, length-append, suc-sub-suc) (ap (sink (p ++ x ∷ (xs ++ replicate (k - length xs) 0))) (omega arith)))
+
+emit-over : (p xs : List ℕ) (k : ℕ) → k < length xs → (l : List ℕ) × (emit (sink (p ++ replicate k 0) (length p)) xs ≡ sink l (length p + k + 1))
+unfolding emit
+emit-over p [] k h = absurd (not-suc-le-zero h)
+emit-over p (x ∷ xs) zero h = (p, rw (append-nil, ← put-past p (length p) x (omega arith), add-zero) (stuck p xs))
+emit-over p (x ∷ xs) (suc k) h =
+    let w = emit-over (p ++ x ∷ []) xs k (omega arith) in
+    let e : length (p ++ x ∷ []) + k + 1 ≡ length p + suc k + 1 = rw length-append (omega arith) in
+    (w .0, rw (put-next, ← e) (w .1))
+
+-- all fitted
+pub record Fitted (n : ℕ) (xs l : List ℕ) (r : ℕ) : Type 0 where
+  pub small : length xs ≤ n
+  pub count : r ≡ length xs
+  pub bytes : l ≡ landed n xs
+
+pub all-in : (n : ℕ) (xs l : List ℕ) (r : ℕ) → sink l r ≡ emit (sink (replicate n 0) 0) xs → r ≤ n → Fitted n xs l r
+unfolding landed
+all-in n xs l r e h = ⊎-elim
+    (λ (s : length xs ≤ n).
+    let f = emit-fits [] xs n s in
+    let g : sink l r ≡ sink (xs ++ replicate (n - length xs) 0) (0 + length xs) = e ∙ f in
+    record { small = s; count = omega (arith, ap countOf g); bytes = rw (le-leb (length xs) n s) (ap listOf g) })
+    (λ (o : n < length xs).
+    let f = emit-over [] xs n o in
+    absurd (omega (arith, ap countOf (e ∙ f .1))))
+    (le-or-lt (length xs) n)
+
+-- or not
+pub left-over : (n : ℕ) (xs l : List ℕ) (r : ℕ) → sink l r ≡ emit (sink (replicate n 0) 0) xs → n < r → (n < length xs) × (replicate n 0 ≡ landed n xs)
+unfolding landed
+left-over n xs l r e h = ⊎-elim
+    (λ (s : length xs ≤ n). absurd (omega (arith, ap countOf (e ∙ emit-fits [] xs n s))))
+    (λ (o : n < length xs). (o, rw (lt-leb (length xs) n o)))
+    (le-or-lt (length xs) n)
+
+-- what was written is the front of what landed
+pub take-landed : (n : ℕ) (xs : List ℕ) → length xs ≤ n → take (length xs) (landed n xs) ≡ xs
+unfolding landed
+take-landed n xs h = rw (le-leb (length xs) n h, take-append-seam xs (replicate (n - length xs) 0))
+
+-- ---- a loop that copies: a turn, and the end
+
+pub copy-turn : (l l′ xs : List ℕ) (at j : ℕ) → at + length xs ≤ length l → j < length xs → l′ ≡ paste l at xs j → set l′ (at + j) (getD xs j 0) ≡ paste l at xs (j + 1)
+copy-turn l l′ xs at j h k e = rw (e, add-one) (paste-suc l at xs j 0 (omega arith) k)
+
+pub copy-end : (l l′ xs : List ℕ) (at j : ℕ) → j ≤ length xs → length xs ≤ j → l′ ≡ paste l at xs j → Copied l l′ at xs (at + j)
+copy-end l l′ xs at j h k e =
+    let z : j ≡ length xs = omega arith in
+    record { bytes = e ∙ rw (z, take-length xs); end = ap (λ (n : ℕ). at + n) z }
+
+-- ---- a loop that clears a list from a place on: a turn, and the end
+
+abbrev zeros : ℕ → List ℕ
+zeros n = replicate n 0
+
+unfoldable pub cleared : List ℕ → ℕ → ℕ → List ℕ
+cleared l from i = paste l from (zeros (length l - from)) (i - from)
+
+pub clear-begin : (l : List ℕ) (from : ℕ) → l ≡ cleared l from from
+unfolding cleared
+clear-begin l from = let z : from - from ≡ 0 = omega arith in rw z (paste-zero l from (zeros (length l - from)))
+
+pub clear-turn : (l l′ : List ℕ) (from i : ℕ) → from ≤ i → i < length l′ → length l′ ≡ length l → l′ ≡ cleared l from i → set l′ i 0 ≡ cleared l from (i + 1)
+unfolding cleared
+clear-turn l l′ from i h k n e =
+    let zs : List ℕ = zeros (length l - from) in
+    let j : ℕ = i - from in
+    let p : from + j ≡ i = omega arith in
+    let q : i + 1 - from ≡ suc j = omega arith in
+    let r : j < length zs = rw (length-replicate {A = ℕ} (length l - from) 0) (omega arith) in
+    let z : getD zs j 0 ≡ 0 = getD-replicate (length l - from) j 0 0 (omega arith) in
+    let s : set (paste l from zs j) (from + j) (getD zs j 0) ≡ paste l from zs (suc j) = paste-suc l from zs j 0 (omega arith) r in
+    let t : set (paste l from zs j) i 0 ≡ paste l from zs (suc j) = ap₂ (λ (k v : ℕ). set (paste l from zs j) k v) (sym p) (sym z) ∙ s in
+    ap (λ (m : List ℕ). set m i 0) e ∙ t ∙ ap (paste l from zs) (sym q)
+
+pub clear-end : (l l′ : List ℕ) (from i : ℕ) → from ≤ i → length l′ ≤ i → length l′ ≡ length l → l′ ≡ cleared l from i → l′ ≡ take from l ++ replicate (length l - from) 0
+unfolding cleared
+clear-end l l′ from i h k n e =
+    let zs : List ℕ = zeros (length l - from) in
+    let a : take (i - from) zs ≡ zs = take-all (i - from) zs (rw (length-replicate {A = ℕ} (length l - from) 0) (omega arith)) in
+    let past : length l ≤ from + (i - from) = omega arith in
+    let b : drop (from + (i - from)) l ≡ [] = drop-of-length-le l past in
+    e ∙ rw (a, b, append-nil)

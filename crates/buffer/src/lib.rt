@@ -1,0 +1,117 @@
+// Writing into lent memory. A buffer is written from its front with a count that saturates one past the buffer's length.
+ghost use mathlib.Core.Path.{_≡_};
+ghost use Prim.Native.Nat.{_+_, _-_, _≤_, _<_};
+ghost use mathlib.Core.List.{_++_};
+ghost use lib.ListN.{length, take, replicate};
+ghost use Rattle.buffer.specs.Sink.{sink, put, emit, Copied};
+ghost use Rattle.buffer.specs.Numbers.{le2, le4, hexDigit};
+
+// Writes one byte at the count `at`, and returns the next count.
+pub fn push_byte(out: &mut [u8], at: usize, b: u8) -> usize
+    ensures { λ r. ⌜ sink (now (out .exit)) r ≡ put (sink (now (out .entry)) at) b ⌝ }
+{
+    if at < out.len() {
+        out[at] = b;
+        at + 1
+    } else {
+        out.len() + 1
+    }
+}
+
+// As push_byte, for a number.
+pub fn push_number(out: &mut [usize], at: usize, n: usize) -> usize
+    ensures { λ r. ⌜ sink (now (out .exit)) r ≡ put (sink (now (out .entry)) at) n ⌝ }
+{
+    if at < out.len() {
+        out[at] = n;
+        at + 1
+    } else {
+        out.len() + 1
+    }
+}
+
+// Copies src to the place `at`, where there is room for it.
+pub fn copy_bytes(out: &mut [u8], at: usize, src: &[u8]) -> usize
+    requires { ⌜ at + length (now src) ≤ length (now out) ⌝ }
+    ensures { λ r. ⌜ Copied (now (out .entry)) (now (out .exit)) at (now (src .entry)) r ⌝ }
+{
+    let mut j = 0;
+    while j < src.len() {
+        out[at + j] = src[j];
+        j += 1;
+    }
+    at + j
+}
+
+// The bytes one by one, where they may not fit.
+fn push_each(out: &mut [u8], at: usize, src: &[u8]) -> usize
+    ensures { λ r. ⌜ sink (now (out .exit)) r ≡ emit (sink (now (out .entry)) at) (now (src .entry)) ⌝ }
+{
+    let mut a = at;
+    let mut j = 0;
+    while j < src.len() {
+        a = push_byte(out, a, src[j]);
+        j += 1;
+    }
+    a
+}
+
+// Writes the bytes of src in order.
+pub fn push_bytes(out: &mut [u8], at: usize, src: &[u8]) -> usize
+    ensures { λ r. ⌜ sink (now (out .exit)) r ≡ emit (sink (now (out .entry)) at) (now (src .entry)) ⌝ }
+{
+    if at <= out.len() {
+        if src.len() <= out.len() - at {
+            return copy_bytes(out, at, src);
+        }
+    }
+    push_each(out, at, src)
+}
+
+// A number in two bytes, little-endian.
+pub fn push_le2(out: &mut [u8], at: usize, n: usize) -> usize
+    ensures { λ r. ⌜ sink (now (out .exit)) r ≡ emit (sink (now (out .entry)) at) (le2 n) ⌝ }
+{
+    let a = push_byte(out, at, (n % 256) as u8);
+    push_byte(out, a, (n / 256 % 256) as u8)
+}
+
+// A number in four bytes, little-endian.
+pub fn push_le4(out: &mut [u8], at: usize, n: usize) -> usize
+    ensures { λ r. ⌜ sink (now (out .exit)) r ≡ emit (sink (now (out .entry)) at) (le4 n) ⌝ }
+{
+    let a = push_byte(out, at, (n % 256) as u8);
+    let b = push_byte(out, a, (n / 256 % 256) as u8);
+    let c = push_byte(out, b, (n / 65536 % 256) as u8);
+    push_byte(out, c, (n / 16777216 % 256) as u8)
+}
+
+// The hexadecimal digit of n, in capitals.
+pub fn hex_digit(n: u8) -> u8
+    requires { ⌜ n < 16 ⌝ }
+    ensures { λ r. ⌜ r ≡ hexDigit n ⌝ }
+{
+    if n < 10 { 0x30 + n } else { 0x37 + n }
+}
+
+// Zeros from the place `from` on.
+pub fn clear_bytes(out: &mut [u8], from: usize)
+    ensures { λ _. ⌜ now (out .exit) ≡ take from (now (out .entry)) ++ replicate (length (now (out .entry)) - from) 0 ⌝ }
+{
+    let mut i = from;
+    while i < out.len() {
+        out[i] = 0;
+        i += 1;
+    }
+}
+
+// As clear_bytes, for numbers.
+pub fn clear_numbers(out: &mut [usize], from: usize)
+    ensures { λ _. ⌜ now (out .exit) ≡ take from (now (out .entry)) ++ replicate (length (now (out .entry)) - from) 0 ⌝ }
+{
+    let mut i = from;
+    while i < out.len() {
+        out[i] = 0;
+        i += 1;
+    }
+}

@@ -1,0 +1,186 @@
+-- A text read backward: the regional indicators that end at a place, a boundary there, and where the last cluster begins.
+use Prim.Native.Nat.{_<_, _≤_, ℕ}
+use native.Mathlib.Omega.{arith}
+use mathlib.Core.Bool.{Bool, false, not, true}
+use mathlib.Core.List.{List, [], _∷_, reverse, reverse-reverse, reverseAux}
+use mathlib.Core.Logic.{_≢_}
+use mathlib.Core.Path.{_∙_, _≡_, ap, refl, sym}
+use lib.ListN.{drop, length}
+use borrow.Author.Tests.{ne-eqb}
+use Rattle.text.specs.Class.{Profile, among, number}
+use Rattle.text.specs.Cluster.{after, context, joined, joins}
+use Rattle.text.specs.Code.{JoinsAt, OddTo, back, contextOf, firstSequence, runOf, size, whole, withoutLast}
+use Rattle.text.specs.Tests.{cases}
+use Rattle.text.specs.Utf8.{Scalar, decode, decodeFrom}
+use Rattle.text.proofs.Runs.{back-scalar, run-drop, run-head, run-inside, size-bytes, size-pos, size-reverse}
+
+pub flip : Bool → Bool → Bool
+flip true b = not b
+flip false b = b
+
+flip-not : (a b : Bool) → flip a (not b) ≡ flip (not a) b
+unfolding flip
+flip-not true true = refl
+flip-not true false = refl
+flip-not false b = refl
+
+flip-false : (a : Bool) → flip a false ≡ a
+unfolding flip
+flip-false true = refl
+flip-false false = refl
+
+-- at the place i of t: the parity so far, and in total
+pub record Left (P : Profile) (t : List ℕ) (i : ℕ) (odd total : Bool) : Type 0 where
+  pub rest : List Scalar
+  pub es : List Scalar
+  pub parts : runOf (decode t) ≡ reverseAux rest es
+  pub place : size rest ≡ i
+  pub parity : total ≡ flip odd (context P rest .odd)
+
+-- at the place q of t, where a scalar of its last cluster begins
+pub record At (P : Profile) (t : List ℕ) (q total : ℕ) : Type 0 where
+  pub c : Scalar
+  pub rest : List Scalar
+  pub es : List Scalar
+  pub parts : runOf (decode t) ≡ reverseAux rest (c ∷ es)
+  pub place : size rest ≡ q
+  pub work : total ≡ size (withoutLast P (c ∷ rest))
+
+module _ (P : Profile) where
+  -- the class at the start of a scalar
+  class-of : (t : List ℕ) (j k : ℕ) (d : Scalar) (rest es : List Scalar) → runOf (decode t) ≡ reverseAux rest (d ∷ es) → j ≡ size rest
+      → k ≡ number (P .class (firstSequence (decode (drop j t)) .code)) → k ≡ number (P .class (d .code))
+  class-of t j k d rest es e p f =
+      f ∙ ap (λ (i : ℕ). number (P .class (firstSequence (decode (drop i t)) .code))) p
+      ∙ ap (λ (v : ℕ). number (P .class v)) (run-head (drop (size rest) t) d es (run-drop rest (d ∷ es) t e) .coded)
+
+  pub odd-begin : (t : List ℕ) (q : ℕ) (rest es : List Scalar) → runOf (decode t) ≡ reverseAux rest es → size rest ≡ q → Left P t q false (context P rest .odd)
+  unfolding flip
+  odd-begin t q rest es e p = record { rest = rest; es = es; parts = e; place = p; parity = refl }
+
+  odd-ri : (d : Scalar) (rest : List Scalar) → number (P .class (d .code)) ≡ 10 → context P (d ∷ rest) .odd ≡ not (context P rest .odd)
+  unfolding context after among
+  odd-ri d rest e = rw e refl
+
+  odd-other : (d : Scalar) (rest : List Scalar) → (number (P .class (d .code)) ≢ 10) → context P (d ∷ rest) .odd ≡ false
+  unfolding context after among
+  odd-other d rest e = rw (ne-eqb (number (P .class (d .code))) 10 e) refl
+
+  odd-none : context P [] .odd ≡ false
+  unfolding context
+  odd-none = refl
+
+  module _ (t : List ℕ) (i : ℕ) (odd total : Bool) (j k : ℕ) (pos : 0 < i) (e : j ≡ back t i) (f : k ≡ number (P .class (firstSequence (decode (drop j t)) .code))) where
+    on-by : (rest es : List Scalar) → runOf (decode t) ≡ reverseAux rest es → size rest ≡ i → total ≡ flip odd (context P rest .odd) → k ≡ 10 → Left P t j (not odd) total
+    unfolding size
+    on-by [] es p q w z = absurd (omega arith)
+    on-by (d ∷ rest) es p q w z =
+        let b : j ≡ size rest = e ∙ ap (back t) (sym q) ∙ back-scalar d rest es t p in
+        let r : number (P .class (d .code)) ≡ 10 = sym (class-of t j k d rest es p b f) ∙ z in
+        record { rest = rest; es = d ∷ es; parts = p; place = sym b; parity = w ∙ ap (flip odd) (odd-ri d rest r) ∙ flip-not odd (context P rest .odd) }
+
+    stop-by : (rest es : List Scalar) → runOf (decode t) ≡ reverseAux rest es → size rest ≡ i → total ≡ flip odd (context P rest .odd) → (k ≢ 10) → odd ≡ total
+    unfolding size
+    stop-by [] es p q w z = absurd (omega arith)
+    stop-by (d ∷ rest) es p q w z =
+        let b : j ≡ size rest = e ∙ ap (back t) (sym q) ∙ back-scalar d rest es t p in
+        let r : k ≡ number (P .class (d .code)) = class-of t j k d rest es p b f in
+        sym (w ∙ ap (flip odd) (odd-other d rest (λ x. z (r ∙ x))) ∙ flip-false odd)
+
+    pub odd-on : k ≡ 10 → Left P t i odd total → Left P t j (not odd) total
+    odd-on z l = on-by (l .rest) (l .es) (l .parts) (l .place) (l .parity) z
+
+    pub odd-stop : (k ≢ 10) → Left P t i odd total → odd ≡ total
+    odd-stop z l = stop-by (l .rest) (l .es) (l .parts) (l .place) (l .parity) z
+
+  end-by : (t : List ℕ) (odd total : Bool) (rest es : List Scalar) → runOf (decode t) ≡ reverseAux rest es → size rest ≤ 0 → total ≡ flip odd (context P rest .odd) → odd ≡ total
+  end-by t odd total [] es p q w = sym (w ∙ ap (flip odd) odd-none ∙ flip-false odd)
+  end-by t odd total (d ∷ rest) es p q w = let h = size-pos d rest es t p in absurd (omega arith)
+
+  pub odd-end : (t : List ℕ) (i : ℕ) (odd total : Bool) → i ≤ 0 → Left P t i odd total → odd ≡ total
+  odd-end t i odd total h l = end-by t odd total (l .rest) (l .es) (l .parts) (rw (l .place) h) (l .parity)
+
+  -- ---- a boundary
+
+  pub joins-zero : (t : List ℕ) (q : ℕ) → q ≡ 0 → JoinsAt P t q false
+  unfolding joins
+  joins-zero t q z c [] es p e = refl
+  joins-zero t q z c (d ∷ rest) es p e = let h = size-pos d rest (c ∷ es) t p in absurd (omega arith)
+
+  module _ (t : List ℕ) (q j p k : ℕ) (odd r : Bool) (z : q ≢ 0) (b : j ≡ back t q) (f : p ≡ number (P .class (firstSequence (decode (drop j t)) .code)))
+      (g : k ≡ number (P .class (firstSequence (decode (drop q t)) .code))) (e : r ≡ joined p (contextOf odd) k) where
+    joins-by : ((d : Scalar) (rest es : List Scalar) → runOf (decode t) ≡ reverseAux (d ∷ rest) es → size (d ∷ rest) ≡ q → p ≡ number (P .class (d .code)) → odd ≡ context P (d ∷ rest) .odd) → JoinsAt P t q r
+    unfolding joins size
+    joins-by o c [] es h s = absurd (z (sym s))
+    joins-by o c (d ∷ rest) es h s =
+        let w : j ≡ size rest = b ∙ ap (back t) (sym s) ∙ back-scalar d rest (c ∷ es) t h in
+        let x : p ≡ number (P .class (d .code)) = class-of t j p d rest (c ∷ es) h w f in
+        let y : k ≡ number (P .class (c .code)) = class-of t q k c (d ∷ rest) es h (sym s) g in
+        let v : odd ≡ context P (d ∷ rest) .odd = o d rest (c ∷ es) h s x in
+        e ∙ rw (x, y, v) refl
+
+    pub joins-regional : OddTo P t q odd → JoinsAt P t q r
+    joins-regional o = joins-by (λ d rest es h s x. o (d ∷ rest) es h s)
+
+    pub joins-other : odd ≡ false → (p ≢ 10) → JoinsAt P t q r
+    joins-other n m = joins-by (λ d rest es h s x. n ∙ sym (odd-other d rest (λ w. m (x ∙ w))))
+
+  -- ---- the last cluster
+
+  begin-by : (t : List ℕ) (q : ℕ) (rev : List Scalar) → runOf (decode t) ≡ reverseAux rev [] → size rev ≡ length t → (length t ≢ 0) → q ≡ back t (length t) → At P t q (size (withoutLast P rev))
+  unfolding size
+  begin-by t q [] e s h b = absurd (h (sym s))
+  begin-by t q (d ∷ rest) e s h b =
+      record { c = d; rest = rest; es = []; parts = e; place = sym (b ∙ ap (back t) (sym s) ∙ back-scalar d rest [] t e); work = refl }
+
+  pub last-begin : (t : List ℕ) (q : ℕ) → whole t → (length t ≢ 0) → q ≡ back t (length t) → At P t q (size (withoutLast P (reverse (runOf (decode t)))))
+  unfolding size
+  last-begin t q w h b =
+      let e : size (reverse (runOf (decode t))) ≡ length t = size-reverse (runOf (decode t)) ∙ size-bytes (runOf (decode t)) ∙ ap length w in
+      begin-by t q (reverse (runOf (decode t))) (sym (reverse-reverse (runOf (decode t)))) e h b
+
+  pub last-empty : (t : List ℕ) → length t ≡ 0 → 0 ≡ size (withoutLast P (reverse (runOf (decode t))))
+  unfolding size withoutLast runOf decode decodeFrom
+  last-empty [] h = refl
+  last-empty (b ∷ t) h = absurd (omega arith)
+
+  pub last-inside : (t : List ℕ) (q total : ℕ) → At P t q total → q < length t
+  last-inside t q total a = rw (a .place) at (run-inside (a .c) (a .rest) (a .es) t (a .parts))
+
+  module _ (t : List ℕ) (q total : ℕ) (r : Bool) (j : JoinsAt P t q r) where
+    pub last-stop : r ≡ false → At P t q total → q ≡ total
+    unfolding withoutLast
+    last-stop f a =
+        let e : joins P (a .rest) (a .c) ≡ false = sym (j (a .c) (a .rest) (a .es) (a .parts) (a .place)) ∙ f in
+        sym (rw e at (a .work) ∙ a .place)
+
+    go-by : (c : Scalar) (rest es : List Scalar) (p : ℕ) → runOf (decode t) ≡ reverseAux rest (c ∷ es) → size rest ≡ q → total ≡ size (withoutLast P (c ∷ rest))
+        → 0 < q → r ≡ true → p ≡ back t q → At P t p total
+    unfolding withoutLast size
+    go-by c [] es p e s w h f b = absurd (omega arith)
+    go-by c (d ∷ rest) es p e s w h f b =
+        let x : joins P (d ∷ rest) c ≡ true = sym (j c (d ∷ rest) es e s) ∙ f in
+        record { c = d; rest = rest; es = c ∷ es; parts = e; place = sym (b ∙ ap (back t) (sym s) ∙ back-scalar d rest (c ∷ es) t e); work = rw x at w }
+
+    pub last-on : (p : ℕ) → 0 < q → r ≡ true → p ≡ back t q → At P t q total → At P t p total
+    last-on p h f b a = go-by (a .c) (a .rest) (a .es) p (a .parts) (a .place) (a .work) h f b
+
+  last-by : (t : List ℕ) (total : ℕ) (c : Scalar) (rest es : List Scalar) → runOf (decode t) ≡ reverseAux rest (c ∷ es) → size rest ≤ 0 → total ≡ size (withoutLast P (c ∷ rest)) → 0 ≡ total
+  unfolding withoutLast size joins
+  last-by t total c [] es p q w = sym w
+  last-by t total c (d ∷ rest) es p q w = let h = size-pos d rest (c ∷ es) t p in absurd (omega arith)
+
+  pub last-end : (t : List ℕ) (q total : ℕ) → q ≤ 0 → At P t q total → q ≡ total
+  last-end t q total h a = let z : 0 ≡ total = last-by t total (a .c) (a .rest) (a .es) (a .parts) (rw (a .place) h) (a .work) in omega arith
+
+  without-le : (rev : List Scalar) → size (withoutLast P rev) ≤ size rev
+  unfolding withoutLast size
+  without-le [] = omega arith
+  without-le (c ∷ rest) =
+      cases (joins P rest c) (λ e. rw e (let h = without-le rest in omega arith)) (λ e. rw e (omega arith))
+
+  pub last-le : (t : List ℕ) → whole t → size (withoutLast P (reverse (runOf (decode t)))) ≤ length t
+  unfolding size
+  last-le t w =
+      let e : size (reverse (runOf (decode t))) ≡ length t = size-reverse (runOf (decode t)) ∙ size-bytes (runOf (decode t)) ∙ ap length w in
+      let h = without-le (reverse (runOf (decode t))) in omega arith

@@ -1,0 +1,106 @@
+-- The bytes of a sequence: a first one, and continuation bytes; and going back to the first.
+-- ---- the bytes of a sequence: a first one, and continuation bytes
+use Prim.Native.Nat.{_+_, _-_, _<_, _≤_, suc, zero, ℕ}
+use native.Mathlib.Omega.{arith}
+use mathlib.Core.Bool.{Bool, _&&_, false, true}
+use mathlib.Core.List.{List, [], _∷_}
+use mathlib.Core.Path.{_∙_, _≡_, refl, sym}
+use lib.Dec.{T, leb, leb→le}
+use lib.ListN.{getD, length}
+use borrow.Author.Tests.{le-leb}
+use Rattle.text.specs.Code.{back, isTail}
+use Rattle.text.specs.Tests.{and-T, cases, true-T}
+use Rattle.text.specs.Utf8.{Range, fits, lengthIn, sequence, table}
+use Rattle.text.specs.Utf8.Laws.{continuation-bad, sequence-le}
+
+tailRanges : List Range → Bool
+tailRanges [] = true
+tailRanges (r ∷ rs) = (leb 0x80 (r .low) && leb (r .high) 0xBF) && tailRanges rs
+
+tailRow : List Range → Bool
+unfolding tailRanges
+tailRow [] = true
+tailRow (r ∷ rs) = tailRanges rs
+
+tailRows : List (List Range) → Bool
+unfolding tailRow
+tailRows [] = true
+tailRows (row ∷ rows) = _&&_ (tailRow row) (tailRows rows)
+
+fits-tails : (rs : List Range) (s : List ℕ) (i : ℕ) → T (tailRanges rs) → T (fits rs s) → i < length rs → isTail (getD s i 0) ≡ true
+unfolding tailRanges fits
+fits-tails [] s i t f h = absurd (omega arith)
+fits-tails (r ∷ rs) [] i t f h = absurd f
+fits-tails (r ∷ rs) (b ∷ s) zero t f h =
+    let w = and-T (leb (r .low) b) (leb b (r .high)) (and-T (_&&_ (leb (r .low) b) (leb b (r .high))) (fits rs s) f .0) in
+    let x = and-T (leb 0x80 (r .low)) (leb (r .high) 0xBF) (and-T (_&&_ (leb 0x80 (r .low)) (leb (r .high) 0xBF)) (tailRanges rs) t .0) in
+    let h₁ : r .low ≤ b = leb→le _ _ (w .0) in
+    let h₂ : b ≤ r .high = leb→le _ _ (w .1) in
+    let h₃ : 0x80 ≤ r .low = leb→le _ _ (x .0) in
+    let h₄ : r .high ≤ 0xBF = leb→le _ _ (x .1) in
+    let l : 0x80 ≤ b = omega arith in
+    let m : b ≤ 0xBF = omega arith in
+    rw (le-leb 0x80 b l, le-leb b 0xBF m) refl
+fits-tails (r ∷ rs) (b ∷ s) (suc i) t f h =
+    fits-tails rs s i (and-T (_&&_ (leb 0x80 (r .low)) (leb (r .high) 0xBF)) (tailRanges rs) t .1) (and-T (_&&_ (leb (r .low) b) (leb b (r .high))) (fits rs s) f .1) (omega arith)
+
+row-tails : (row : List Range) (s : List ℕ) (i : ℕ) → T (tailRow row) → T (fits row s) → suc i < length row → isTail (getD s (suc i) 0) ≡ true
+unfolding tailRow fits
+row-tails [] s i t f h = absurd (omega arith)
+row-tails (r ∷ rs) [] i t f h = absurd f
+row-tails (r ∷ rs) (b ∷ s) i t f h = fits-tails rs s i t (and-T (_&&_ (leb (r .low) b) (leb b (r .high))) (fits rs s) f .1) (omega arith)
+
+rows-tails : (rows : List (List Range)) (s : List ℕ) (i n : ℕ) → T (tailRows rows) → lengthIn rows s ≡ n → suc i < n → isTail (getD s (suc i) 0) ≡ true
+unfolding tailRows lengthIn
+rows-tails [] s i n t e h = absurd (omega arith)
+rows-tails (row ∷ rows) s i n t e h =
+    cases (fits row s)
+    (λ f. row-tails row s i (and-T (tailRow row) (tailRows rows) t .0) (true-T f) (let l : length row ≡ n = rw f at e in omega arith))
+    (λ f. rows-tails rows s i n (and-T (tailRow row) (tailRows rows) t .1) (rw f at e) h)
+
+pub seq-tails : (s : List ℕ) (i n : ℕ) → sequence s ≡ n → suc i < n → isTail (getD s (suc i) 0) ≡ true
+unfolding sequence tailRows table
+seq-tails s i n e h = rows-tails table s i n tt e h
+
+pub seq-lead : (s : List ℕ) (n : ℕ) → sequence s ≡ suc n → isTail (getD s 0 0) ≡ false
+seq-lead [] n e = let h : sequence [] ≤ 0 = sequence-le [] in absurd (omega arith)
+seq-lead (b ∷ s) n e =
+    cases (isTail b)
+    (λ t.
+    let w = and-T (leb 0x80 b) (leb b 0xBF) (true-T t) in
+    let z : sequence (b ∷ s) ≡ 0 = continuation-bad b s (leb→le _ _ (w .0)) (leb→le _ _ (w .1)) in
+    absurd (omega arith))
+    (λ f. f)
+
+-- ---- going back to the last byte that is no continuation byte
+
+pub back-le : (s : List ℕ) (q : ℕ) → back s q ≤ q
+unfolding back
+back-le s zero = omega arith
+back-le s (suc q) = cases (isTail (getD s q 0)) (λ e. rw e (omega (arith, back-le s q))) (λ e. rw e (omega arith))
+
+pub back-lt : (s : List ℕ) (q : ℕ) → 0 < q → back s q < q
+unfolding back
+back-lt s zero h = absurd (omega arith)
+back-lt s (suc q) h = cases (isTail (getD s q 0)) (λ e. rw e (omega (arith, back-le s q))) (λ e. rw e (omega arith))
+
+pub back-tail : (s : List ℕ) (q j b : ℕ) → 0 < q → j ≡ q - 1 → b ≡ getD s j 0 → isTail b ≡ true → back s q ≡ back s j
+unfolding back
+back-tail s zero j b h e f t = absurd (omega arith)
+back-tail s (suc q) j b h e f t = let i : j ≡ q = omega arith in rw (← i, ← f, t) refl
+
+pub back-here : (s : List ℕ) (q j b : ℕ) → 0 < q → j ≡ q - 1 → b ≡ getD s j 0 → isTail b ≡ false → j ≡ back s q
+unfolding back
+back-here s zero j b h e f t = absurd (omega arith)
+back-here s (suc q) j b h e f t = let i : j ≡ q = omega arith in rw (← i, ← f, t) refl
+
+pub back-zero : (s : List ℕ) (q : ℕ) → q ≤ 0 → back s q ≡ 0
+unfolding back
+back-zero s zero h = refl
+back-zero s (suc q) h = absurd (omega arith)
+
+pub back-to : (k : ℕ) (t : List ℕ) (m n q : ℕ) → q ≡ k + m + 1 → k < n → isTail (getD t m 0) ≡ false → ((i : ℕ) → suc i < n → isTail (getD t (m + suc i) 0) ≡ true) → back t q ≡ m
+back-to zero t m n q e h l f = sym (back-here t q m (getD t m 0) (omega arith) (omega arith) refl l)
+back-to (suc k) t m n q e h l f =
+    back-tail t q (m + suc k) (getD t (m + suc k) 0) (omega arith) (omega arith) refl (f k h)
+    ∙ back-to k t m n (m + suc k) (omega arith) (omega arith) l f

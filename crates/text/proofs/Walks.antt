@@ -1,0 +1,83 @@
+-- The first cluster of a text, as the code walks it.
+use Prim.Native.Nat.{_+_, _<_, _≤_, ℕ}
+use native.Mathlib.Nat.{add-assoc, add-zero}
+use native.Mathlib.Omega.{arith}
+use mathlib.Core.Bool.{Bool, false, true}
+use mathlib.Core.List.{List, [], _∷_}
+use mathlib.Core.Logic.{_≢_}
+use mathlib.Core.Path.{_∙_, _≡_, ap, refl, sym}
+use lib.ListN.{drop, length, take}
+use Rattle.text.specs.Class.{Profile, among, class01, classT, classV, control, cr, extend, inAny, lf, number, zwj}
+use Rattle.text.specs.Cluster.{after, classOf, clusters, context, joined, joins, start}
+use Rattle.text.specs.Cluster.Laws.{clusters-first, further}
+use Rattle.text.specs.Code.{contextOf, firstOf, firstSequence, firstSize, moreFrom, runOf, size}
+use Rattle.text.specs.Tests.{cases}
+use Rattle.text.specs.Utf8.{Scalar, decode}
+use Rattle.text.specs.Width.{wides, width01, widthOf}
+use Rattle.text.specs.declared.utf8.Sequence.{Sequence}
+use Rattle.text.proofs.Units.{run-bad, run-end, run-good, run-size, scalarAt}
+
+module _ (P : Profile) where
+  more-further : (s : List Scalar) (p : Scalar) (ps : List Scalar) → size (take (further P (p ∷ ps) s) s) ≡ moreFrom P (classOf P p) (context P (p ∷ ps)) s
+  unfolding further moreFrom size joins context
+  more-further [] p ps = refl
+  more-further (c ∷ s) p ps =
+      cases (joined (classOf P p) (context P (p ∷ ps)) (classOf P c))
+      (λ e. rw e (ap (λ (m : ℕ). length (c .bytes) + m) (more-further s c (p ∷ ps))))
+      (λ e. rw e refl)
+
+  pub first-size : (c : Scalar) (s : List Scalar) → firstSize P (c ∷ s) ≡ length (c .bytes) + moreFrom P (classOf P c) (after start (classOf P c)) s
+  unfolding firstSize firstOf size context
+  first-size c s = rw (clusters-first P c s) (ap (λ (m : ℕ). length (c .bytes) + m) (more-further s c []))
+
+  pub first-none : firstSize P [] ≡ 0
+  unfolding firstSize firstOf size clusters
+  first-none = refl
+
+module _ (P : Profile) (s : List ℕ) (p : ℕ) (u : Sequence) (here : p < length s) (read : u ≡ firstSequence (decode (drop p s))) where
+  pub first-bad : u .len ≡ 0 → p ≡ p + firstSize P (runOf (decode (drop p s)))
+  first-bad z = sym (rw (run-bad s p u here read z, first-none P) (add-zero p))
+
+  pub first-good : (k m : ℕ) → (u .len ≢ 0) → k ≡ number (P .class (u .code)) → m ≡ p + u .len + moreFrom P k (after start k) (runOf (decode (drop (p + u .len) s)))
+      → m ≡ p + firstSize P (runOf (decode (drop p s)))
+  first-good k m z kv e =
+      rw (run-good s p u here read z, first-size P (scalarAt p (u .code) (u .len) s) (runOf (decode (drop (p + u .len) s))), run-size s p u here read z, ← kv, ← add-assoc) e
+
+  -- one turn of the loop
+  module _ (prev : ℕ) (odd : Bool) (total : ℕ) (same : total ≡ p + moreFrom P prev (contextOf odd) (runOf (decode (drop p s)))) where
+    pub stop-bad : u .len ≡ 0 → p ≡ total
+    unfolding moreFrom
+    stop-bad z = sym (rw (run-bad s p u here read z, add-zero) at same)
+
+    module _ (k : ℕ) (r : Bool) (z : u .len ≢ 0) (kv : k ≡ number (P .class (u .code))) (rr : r ≡ joined prev (contextOf odd) k) where
+      pub stop-rule : r ≡ false → p ≡ total
+      unfolding moreFrom
+      stop-rule f = sym (rw (run-good s p u here read z, ← kv, sym rr ∙ f, add-zero) at same)
+
+      pub go-on : r ≡ true → total ≡ p + u .len + moreFrom P k (after (contextOf odd) k) (runOf (decode (drop (p + u .len) s)))
+      unfolding moreFrom
+      go-on t = rw (run-good s p u here read z, ← kv, sym rr ∙ t, run-size s p u here read z, ← add-assoc) at same
+
+pub stop-end : (P : Profile) (s : List ℕ) (p prev : ℕ) (odd : Bool) (total : ℕ) → length s ≤ p → total ≡ p + moreFrom P prev (contextOf odd) (runOf (decode (drop p s))) → p ≡ total
+unfolding moreFrom
+stop-end P s p prev odd total h same = sym (rw (run-end s p h, add-zero) at same)
+
+-- ---- widths
+
+pub width-le : (v : ℕ) → width01 v ≤ 2
+unfolding width01
+width-le v = cases (among (number (class01 v)) (cr ∷ lf ∷ control ∷ extend ∷ zwj ∷ classV ∷ classT ∷ [])) (λ e. rw e (omega arith)) (λ e. rw e (cases (inAny wides v) (λ f. rw f (omega arith)) (λ f. rw f (omega arith))))
+
+module _ (P : Profile) (s : List ℕ) (p : ℕ) (u : Sequence) (here : p < length s) (read : u ≡ firstSequence (decode (drop p s)))
+    (w total : ℕ) (same : total ≡ w + widthOf P (runOf (decode (drop p s)))) where
+  pub width-stop : u .len ≡ 0 → w ≡ total
+  unfolding widthOf
+  width-stop z = sym (rw (run-bad s p u here read z, add-zero) at same)
+
+  pub width-on : (x : ℕ) → (u .len ≢ 0) → x ≡ P .width (u .code) → total ≡ w + x + widthOf P (runOf (decode (drop (p + u .len) s)))
+  unfolding widthOf
+  width-on x z e = rw (run-good s p u here read z, ← e, ← add-assoc) at same
+
+pub width-end : (P : Profile) (s : List ℕ) (p w total : ℕ) → length s ≤ p → total ≡ w + widthOf P (runOf (decode (drop p s))) → w ≡ total
+unfolding widthOf
+width-end P s p w total h same = sym (rw (run-end s p h, add-zero) at same)

@@ -1,0 +1,29 @@
+use native.Mathlib.Omega.{arith}
+use borrow.Author.Needs.{needs}
+use Rattle.text.proofs.Units.{run-room}
+use Rattle.text.proofs.Walks.{first-bad, first-good}
+use Rattle.text.proofs.cluster.first_end.Statement.{statement}
+use Rattle.text.proofs.cluster.first_end.Tie as tie
+
+decode-requires : tie.Need-decode-requires
+decode-requires c κs = search needs
+
+returns : tie.Need-returns
+returns c = search first-bad
+
+add-more-end : tie.Need-add-more-end
+add-more-end c = omega (arith, run-room (c .before .before .before .before .before .args .s .now) (c .before .before .before .before .before .args .at) (c .before .before .before .decode .result) (c .before .before .before .before .before .pre) (c .before .before .before .decode .ensures) (c .before .if1 .left))
+
+class-requires : tie.Need-class-requires
+class-requires c κs = search needs
+
+more-end-requires : tie.Need-more-end-requires
+more-end-requires c κs = run-room (c .before .before .before .before .before .before .args .s .now) (c .before .before .before .before .before .before .args .at) (c .before .before .before .before .decode .result) (c .before .before .before .before .before .before .pre) (c .before .before .before .before .decode .ensures) (c .before .before .if1 .left)
+
+returns-2 : tie.Need-returns-2
+returns-2 c = search first-good
+
+pub first-end-spec : {M : Type 1} → statement M
+first-end-spec =
+    tie.close
+    (tie.spec decode-requires returns add-more-end class-requires more-end-requires returns-2)

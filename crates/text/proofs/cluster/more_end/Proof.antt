@@ -1,0 +1,73 @@
+use Prim.Native.Nat.{_+_, _-_, _≤_}
+use native.Mathlib.Omega.{arith}
+use mathlib.Core.Path.{_≡_}
+use lib.ListN.{drop, length}
+use borrow.Author.Needs.{needs}
+use Rattle.text.specs.Cluster.{after, start}
+use Rattle.text.specs.Code.{contextOf, moreFrom, profileOf, runOf}
+use Rattle.text.specs.Utf8.{decode}
+use Rattle.text.proofs.Units.{run-room}
+use Rattle.text.proofs.Walks.{go-on, stop-bad, stop-end, stop-rule}
+use Rattle.text.proofs.cluster.more_end.Statement.{statement}
+use Rattle.text.proofs.cluster.more_end.Tie as tie
+
+abbrev Inv-loop : tie.InvT-loop
+Inv-loop profile s from c p₀ before₀ p before = (p ≤ length s) × (from + moreFrom (profileOf profile) c (after start c) (runOf (decode (drop from s))) ≡ p + moreFrom (profileOf profile) (before .class) (contextOf (before .odd)) (runOf (decode (drop p s))))
+
+abbrev μ-loop : tie.MeasureT-loop
+μ-loop profile s from c p₀ before₀ p before = length s - p
+
+with-scalar-requires : tie.Need-with-scalar-requires Inv-loop μ-loop
+with-scalar-requires c κs = search needs
+
+loop-holds : tie.Need-loop-holds Inv-loop μ-loop
+loop-holds c = (search needs, rw (c .with-scalar .ensures))
+
+decode-requires : tie.Need-decode-requires Inv-loop μ-loop
+decode-requires c κs = search needs
+
+returns : tie.Need-returns Inv-loop μ-loop
+returns c = search stop-bad
+
+class-requires : tie.Need-class-requires Inv-loop μ-loop
+class-requires c κs = search needs
+
+is-joined-requires : tie.Need-is-joined-requires Inv-loop μ-loop
+is-joined-requires c κs = search needs
+
+with-scalar-requires-2 : tie.Need-with-scalar-requires-2 Inv-loop μ-loop
+with-scalar-requires-2 c κs = search needs
+
+add-p : tie.Need-add-p Inv-loop μ-loop
+add-p c = omega (arith, run-room (c .before .before .before .before .before .before .before .before .before .before .before .before .args .s .now) (c .before .before .before .before .before .before .before .before .before .loop .p) (c .before .before .before .before .before .before .before .decode .result) (c .before .before .before .before .before .before .before .before .loop-test .taken) (c .before .before .before .before .before .before .before .decode .ensures) (c .before .before .before .before .before .if1 .left))
+
+loop-less : tie.Need-loop-less Inv-loop μ-loop
+loop-less c = omega (arith, run-room (c .before .before .before .before .before .before .before .before .before .before .before .before .args .s .now) (c .before .before .before .before .before .before .before .before .before .loop .p) (c .before .before .before .before .before .before .before .decode .result) (c .before .before .before .before .before .before .before .before .loop-test .taken) (c .before .before .before .before .before .before .before .decode .ensures) (c .before .before .before .before .before .if1 .left))
+
+loop-again : tie.Need-loop-again Inv-loop μ-loop
+loop-again c = (run-room (c .before .before .before .before .before .before .before .before .before .before .before .before .args .s .now) (c .before .before .before .before .before .before .before .before .before .loop .p) (c .before .before .before .before .before .before .before .decode .result) (c .before .before .before .before .before .before .before .before .loop-test .taken) (c .before .before .before .before .before .before .before .decode .ensures) (c .before .before .before .before .before .if1 .left), rw (c .before .with-scalar2 .ensures) (go-on _ (c .before .before .before .before .before .before .before .before .before .before .before .before .args .s .now) (c .before .before .before .before .before .before .before .before .before .loop .p) (c .before .before .before .before .before .before .before .decode .result) (c .before .before .before .before .before .before .before .before .loop-test .taken) (c .before .before .before .before .before .before .before .decode .ensures) _ _ _ (c .before .before .before .before .before .before .before .before .before .loop .inv .1) _ _ (c .before .before .before .before .before .if1 .left) (c .before .before .before .before .class .ensures) (c .before .before .before .is-joined .ensures) (c .before .before .if2 .taken)))
+
+returns-2 : tie.Need-returns-2 Inv-loop μ-loop
+returns-2 c = stop-rule _ (c .before .before .before .before .before .before .before .before .before .before .args .s .now) (c .before .before .before .before .before .before .before .loop .p) (c .before .before .before .before .before .decode .result) (c .before .before .before .before .before .before .loop-test .taken) (c .before .before .before .before .before .decode .ensures) _ _ _ (c .before .before .before .before .before .before .before .loop .inv .1) _ _ (c .before .before .before .if1 .left) (c .before .before .class .ensures) (c .before .is-joined .ensures) (c .if2 .left)
+
+returns-3 : tie.Need-returns-3 Inv-loop μ-loop
+returns-3 c = search stop-end
+
+pub more-end-spec : {M : Type 1} → statement M
+more-end-spec =
+    tie.close
+    (tie.spec
+    Inv-loop
+    μ-loop
+    with-scalar-requires
+    loop-holds
+    decode-requires
+    returns
+    class-requires
+    is-joined-requires
+    with-scalar-requires-2
+    add-p
+    loop-less
+    loop-again
+    returns-2
+    returns-3)

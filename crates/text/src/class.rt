@@ -1,0 +1,96 @@
+// Classes of scalars: UAX #29's Grapheme_Cluster_Break, whitespace.
+ghost use mathlib.Core.Path.{_≡_};
+ghost use Rattle.text.specs.Class.{number, inAny, controls, extends, whitespace, isControl};
+ghost use Rattle.text.specs.Code.{profileOf};
+
+// The version of the text profile that classes and widths are taken from: 0 is document 01's.
+pub struct Profile {
+    pub version: u8,
+}
+
+fn in_controls(x: u32) -> bool
+    ensures { λ r. ⌜ r ≡ inAny controls x ⌝ }
+{
+    (x <= 0x1F)
+        | (((0x7F <= x) & (x <= 0x9F))
+            | (((0x200B <= x) & (x <= 0x200B))
+                | (((0x200E <= x) & (x <= 0x200F))
+                    | (((0x2028 <= x) & (x <= 0x202E))
+                        | (((0x2060 <= x) & (x <= 0x206F)) | ((0xFEFF <= x) & (x <= 0xFEFF)))))))
+}
+
+fn in_extends(x: u32) -> bool
+    ensures { λ r. ⌜ r ≡ inAny extends x ⌝ }
+{
+    ((0x300 <= x) & (x <= 0x36F))
+        | (((0x483 <= x) & (x <= 0x489))
+            | (((0x1DC0 <= x) & (x <= 0x1DFF))
+                | (((0x200C <= x) & (x <= 0x200C))
+                    | (((0x20D0 <= x) & (x <= 0x20F0))
+                        | (((0xFE00 <= x) & (x <= 0xFE0F))
+                            | (((0xFE20 <= x) & (x <= 0xFE2F))
+                                | ((0xE0100 <= x) & (x <= 0xE01EF))))))))
+}
+
+// The number of a scalar's class.
+pub fn class(profile: Profile, x: u32) -> u8
+    ensures { λ r. ⌜ r ≡ number (profileOf profile .class x) ⌝ }
+{
+    if x == 0x0D {
+        return 0;
+    }
+    if x == 0x0A {
+        return 1;
+    }
+    if in_controls(x) {
+        return 2;
+    }
+    if in_extends(x) {
+        return 3;
+    }
+    if x == 0x200D {
+        return 4;
+    }
+    if ((0x1100 <= x) & (x <= 0x115F)) | ((0xA960 <= x) & (x <= 0xA97C)) {
+        return 5;
+    }
+    if ((0x1160 <= x) & (x <= 0x11A7)) | ((0xD7B0 <= x) & (x <= 0xD7C6)) {
+        return 6;
+    }
+    if ((0x11A8 <= x) & (x <= 0x11FF)) | ((0xD7CB <= x) & (x <= 0xD7FB)) {
+        return 7;
+    }
+    if (0xAC00 <= x) & (x <= 0xD7A3) {
+        if (x - 0xAC00) % 28 == 0 {
+            return 8;
+        }
+        return 9;
+    }
+    if (0x1F1E6 <= x) & (x <= 0x1F1FF) {
+        return 10;
+    }
+    11
+}
+
+// char::is_whitespace
+pub fn is_whitespace(x: u32) -> bool
+    ensures { λ r. ⌜ r ≡ whitespace x ⌝ }
+{
+    ((0x09 <= x) & (x <= 0x0D))
+        | (((0x20 <= x) & (x <= 0x20))
+            | (((0x85 <= x) & (x <= 0x85))
+                | (((0xA0 <= x) & (x <= 0xA0))
+                    | (((0x1680 <= x) & (x <= 0x1680))
+                        | (((0x2000 <= x) & (x <= 0x200A))
+                            | (((0x2028 <= x) & (x <= 0x2029))
+                                | (((0x202F <= x) & (x <= 0x202F))
+                                    | (((0x205F <= x) & (x <= 0x205F))
+                                        | ((0x3000 <= x) & (x <= 0x3000))))))))))
+}
+
+// char::is_control
+pub fn is_control(x: u32) -> bool
+    ensures { λ r. ⌜ r ≡ isControl x ⌝ }
+{
+    (x <= 0x1F) | ((0x7F <= x) & (x <= 0x9F))
+}

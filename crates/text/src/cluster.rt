@@ -1,0 +1,201 @@
+// Grapheme clusters: UAX #29's rules, walked forward and backward.
+use super::class::Profile;
+use super::class::class;
+use super::utf8::byte_at;
+use super::utf8::decode;
+ghost use mathlib.Core.Path.{_≡_};
+ghost use Prim.Native.Nat.{_+_, _≤_, _<_};
+ghost use mathlib.Core.List.{reverse};
+ghost use lib.ListN.{length, drop};
+ghost use lib.Seq.{slice};
+ghost use Rattle.text.specs.Utf8.{decode};
+ghost use Rattle.text.specs.Class.{number};
+ghost use Rattle.text.specs.Cluster.{start, after, joined};
+ghost use Rattle.text.specs.Code.{profileOf, firstSequence, runOf, size, contextOf, seen, moreFrom, firstSize, back, whole, withoutLast, OddTo, JoinsAt};
+
+// What the rules ask of the scalars before a place: the last one's class, and whether an odd number of regional indicators ends there.
+pub struct Seen {
+    pub class: u8,
+    pub odd: bool,
+}
+
+// The same with one more scalar, of class c.
+fn with_scalar(odd: bool, c: u8) -> Seen
+    ensures { λ r. ⌜ r ≡ seen c (after (contextOf odd) c) ⌝ }
+{
+    Seen {
+        class: c,
+        odd: (c == 10) & !odd,
+    }
+}
+
+// Is there no boundary before a scalar of class c?
+fn is_joined(s: Seen, c: u8) -> bool
+    ensures { λ r. ⌜ r ≡ joined (s .class) (contextOf (s .odd)) c ⌝ }
+{
+    let p = s.class;
+    // GB3
+    if (p == 0) & (c == 1) {
+        return true;
+    }
+    // GB4
+    if (p == 2) | ((p == 0) | (p == 1)) {
+        return false;
+    }
+    // GB5
+    if (c == 2) | ((c == 0) | (c == 1)) {
+        return false;
+    }
+    // GB6
+    if (p == 5) & ((c == 5) | ((c == 6) | ((c == 8) | (c == 9)))) {
+        return true;
+    }
+    // GB7
+    if ((p == 8) | (p == 6)) & ((c == 6) | (c == 7)) {
+        return true;
+    }
+    // GB8
+    if ((p == 9) | (p == 7)) & (c == 7) {
+        return true;
+    }
+    // GB9
+    if (c == 3) | (c == 4) {
+        return true;
+    }
+    // GB12, GB13
+    if s.odd & (c == 10) {
+        return true;
+    }
+    // GB999
+    false
+}
+
+// The end of the cluster that a scalar of class c begins, whose next scalar stands at `from`.
+fn more_end(profile: Profile, s: &[u8], from: usize, c: u8) -> usize
+    requires { ⌜ from ≤ length (now s) ⌝ }
+    ensures { λ r. ⌜ r ≡ from + moreFrom (profileOf profile) c (after start c) (runOf (decode (drop from (now (s .entry))))) ⌝ }
+{
+    let mut p = from;
+    let mut before = with_scalar(false, c);
+    while p < s.len() {
+        let u = decode(s, p);
+        if u.len == 0 {
+            return p;
+        }
+        let k = class(profile, u.code);
+        if is_joined(before, k) {
+            before = with_scalar(before.odd, k);
+            p += u.len;
+        } else {
+            return p;
+        }
+    }
+    p
+}
+
+// The end of the cluster that begins at a place; the place itself where a damaged byte stands there.
+pub fn first_end(profile: Profile, s: &[u8], at: usize) -> usize
+    requires { ⌜ at < length (now s) ⌝ }
+    ensures { λ r. ⌜ r ≡ at + firstSize (profileOf profile) (runOf (decode (drop at (now (s .entry))))) ⌝ }
+{
+    let u = decode(s, at);
+    if u.len == 0 {
+        return at;
+    }
+    more_end(profile, s, at + u.len, class(profile, u.code))
+}
+
+// The same within the stretch that ends at `end`.
+pub fn cluster_end(profile: Profile, s: &[u8], at: usize, end: usize) -> usize
+    requires { ⌜ (at < end) × (end ≤ length (now s)) ⌝ }
+    ensures { λ r. ⌜ r ≡ at + firstSize (profileOf profile) (runOf (decode (slice at end (now (s .entry))))) ⌝ }
+{
+    first_end(profile, &s[..end], at)
+}
+
+// The start of the scalar that ends at q.
+fn scalar_start(s: &[u8], q: usize) -> usize
+    requires { ⌜ q ≤ length (now s) ⌝ }
+    ensures { λ r. ⌜ r ≡ back (now (s .entry)) q ⌝ }
+{
+    let mut i = q;
+    while 0 < i {
+        let j = i - 1;
+        let b = byte_at(s, j);
+        if (0x80 <= b) & (b <= 0xBF) {
+            i = j;
+        } else {
+            return j;
+        }
+    }
+    0
+}
+
+fn class_at(profile: Profile, s: &[u8], at: usize) -> u8
+    requires { ⌜ at < length (now s) ⌝ }
+    ensures { λ r. ⌜ r ≡ number (profileOf profile .class (firstSequence (decode (drop at (now (s .entry)))) .code)) ⌝ }
+{
+    let u = decode(s, at);
+    class(profile, u.code)
+}
+
+// Does an odd number of regional indicators end at q, the end of a scalar of the text?
+fn odd_to(profile: Profile, t: &[u8], q: usize) -> bool
+    requires { ⌜ q ≤ length (now t) ⌝ }
+    ensures { λ r. ⌜ OddTo (profileOf profile) (now (t .entry)) q r ⌝ }
+{
+    let mut odd = false;
+    let mut i = q;
+    while 0 < i {
+        let j = scalar_start(t, i);
+        if class_at(profile, t, j) == 10 {
+            odd = !odd;
+            i = j;
+        } else {
+            return odd;
+        }
+    }
+    odd
+}
+
+// Is there no boundary at q, the start of a scalar of the text?
+fn joins_at(profile: Profile, t: &[u8], q: usize) -> bool
+    requires { ⌜ q < length (now t) ⌝ }
+    ensures { λ r. ⌜ JoinsAt (profileOf profile) (now (t .entry)) q r ⌝ }
+{
+    if q == 0 {
+        return false;
+    }
+    let p = class_at(profile, t, scalar_start(t, q));
+    let c = class_at(profile, t, q);
+    if p == 10 {
+        let odd = odd_to(profile, t, q);
+        return is_joined(Seen { class: p, odd: odd }, c);
+    }
+    is_joined(
+        Seen {
+            class: p,
+            odd: false,
+        },
+        c,
+    )
+}
+
+// Where the last cluster of a valid text begins.
+pub fn last_start(profile: Profile, t: &[u8]) -> usize
+    requires { ⌜ whole (now t) ⌝ }
+    ensures { λ r. ⌜ r ≡ size (withoutLast (profileOf profile) (reverse (runOf (decode (now (t .entry)))))) ⌝ }
+{
+    if t.len() == 0 {
+        return 0;
+    }
+    let mut q = scalar_start(t, t.len());
+    while 0 < q {
+        if joins_at(profile, t, q) {
+            q = scalar_start(t, q);
+        } else {
+            return q;
+        }
+    }
+    q
+}

@@ -1,0 +1,78 @@
+// Widths of scalars and of stretches, in columns.
+use super::class::Profile;
+use super::class::class;
+use super::utf8::decode;
+ghost use mathlib.Core.Path.{_≡_};
+ghost use Prim.Native.Nat.{_+_, _≤_};
+ghost use mathlib.Core.List.{[], _∷_};
+ghost use lib.ListN.{length, drop};
+ghost use lib.Seq.{slice};
+ghost use Rattle.text.specs.Utf8.{decode};
+ghost use Rattle.text.specs.Class.{number, among, inAny, cr, lf, control, extend, zwj, classV, classT};
+ghost use Rattle.text.specs.Width.{wides, widthOf};
+ghost use Rattle.text.specs.Code.{profileOf, runOf};
+
+fn in_wides(x: u32) -> bool
+    ensures { λ r. ⌜ r ≡ inAny wides x ⌝ }
+{
+    ((0x1100 <= x) & (x <= 0x115F))
+        | (((0x2E80 <= x) & (x <= 0x303E))
+            | (((0x3041 <= x) & (x <= 0xA4CF))
+                | (((0xA960 <= x) & (x <= 0xA97C))
+                    | (((0xAC00 <= x) & (x <= 0xD7A3))
+                        | (((0xF900 <= x) & (x <= 0xFAFF))
+                            | (((0xFE30 <= x) & (x <= 0xFE6F))
+                                | (((0xFF01 <= x) & (x <= 0xFF60))
+                                    | (((0xFFE0 <= x) & (x <= 0xFFE6))
+                                        | (((0x1F300 <= x) & (x <= 0x1F64F))
+                                            | (((0x1F900 <= x) & (x <= 0x1F9FF))
+                                                | (((0x20000 <= x) & (x <= 0x2FFFD))
+                                                    | ((0x30000 <= x) & (x <= 0x3FFFD)))))))))))))
+}
+
+// CR, LF, Control, Extend, ZWJ, V or T
+fn has_no_width(profile: Profile, x: u32) -> bool
+    ensures { λ r. ⌜ r ≡ among (number (profileOf profile .class x)) (cr ∷ lf ∷ control ∷ extend ∷ zwj ∷ classV ∷ classT ∷ []) ⌝ }
+{
+    let c = class(profile, x);
+    (c == 0) | ((c == 1) | ((c == 2) | ((c == 3) | ((c == 4) | ((c == 6) | (c == 7))))))
+}
+
+// The width of a scalar.
+pub fn width(profile: Profile, x: u32) -> usize
+    ensures { λ r. ⌜ r ≡ profileOf profile .width x ⌝ }
+{
+    if has_no_width(profile, x) {
+        return 0;
+    }
+    if in_wides(x) {
+        return 2;
+    }
+    1
+}
+
+// The width of the run that begins at a place.
+fn run_width(profile: Profile, s: &[u8], at: usize) -> usize
+    requires { ⌜ at ≤ length (now s) ⌝ }
+    ensures { λ r. ⌜ r ≡ widthOf (profileOf profile) (runOf (decode (drop at (now (s .entry))))) ⌝ }
+{
+    let mut p = at;
+    let mut w: usize = 0;
+    while p < s.len() {
+        let u = decode(s, p);
+        if u.len == 0 {
+            return w;
+        }
+        w += width(profile, u.code);
+        p += u.len;
+    }
+    w
+}
+
+// The width of the stretch from one place to another, up to a damaged byte.
+pub fn text_width(profile: Profile, s: &[u8], at: usize, end: usize) -> usize
+    requires { ⌜ (at ≤ end) × (end ≤ length (now s)) ⌝ }
+    ensures { λ r. ⌜ r ≡ widthOf (profileOf profile) (runOf (decode (slice at end (now (s .entry))))) ⌝ }
+{
+    run_width(profile, &s[..end], at)
+}
