@@ -4,6 +4,7 @@ use crate::changes;
 use crate::drawn::{self, Window};
 use streampager::probe::{self, Reading, Record};
 use termwiz::surface::change::Change;
+use unicode_segmentation::{GraphemeCursor, UnicodeSegmentation};
 
 /// Stands for "no current match".
 pub const NONE: usize = usize::MAX;
@@ -214,4 +215,27 @@ fn drawing(
         list: bytes,
         ..Answer::default()
     })
+}
+
+/// How many bytes the text searched has.
+pub fn text_searched_len(line: &[u8]) -> usize {
+    probe::text_searched(&probe::convert(line)).len()
+}
+
+/// `Line::new` and `Line::new_search` without a match must read alike.
+pub fn check_constructors(line: &[u8]) {
+    let (plain, searched) = (Reading::new(line, &[]), Reading::searched(line, &[]));
+    assert!(plain.same_spans(&searched) && plain.records() == searched.records());
+}
+
+/// The last cluster found from the end of a text, as overstrike erases it, must
+/// be the last one found from its start.
+pub fn check_last_clusters(line: &[u8]) {
+    for run in line.utf8_chunks() {
+        let text = run.valid();
+        let from_start = text.grapheme_indices(true).last().map(|(place, _)| place);
+        let mut cursor = GraphemeCursor::new(text.len(), text.len(), true);
+        let from_end = cursor.prev_boundary(text, 0).ok().flatten();
+        assert_eq!(from_start, from_end, "last cluster of {text:?}");
+    }
 }

@@ -71,3 +71,18 @@ fn colour(colour: ColorAttribute) -> [u8; 4] {
         ColorAttribute::TrueColor(red, green, blue) => [2, red, green, blue],
     }
 }
+
+/// The changes of a list: kind and body of each.
+pub fn decode(list: &[u8]) -> Vec<(u16, &[u8])> {
+    let mut changes = Vec::new();
+    let mut rest = list;
+    while let Some((head, behind)) = rest.split_first_chunk::<6>() {
+        let [a, b, c, d, e, f] = *head;
+        let len = u32::from_le_bytes([a, b, c, d]) as usize;
+        let (body, next) = behind.split_at(len);
+        changes.push((u16::from_le_bytes([e, f]), body));
+        rest = next;
+    }
+    assert!(rest.is_empty(), "a whole number of changes");
+    changes
+}

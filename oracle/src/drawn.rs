@@ -34,10 +34,12 @@ impl Window {
     }
 }
 
-/// A text handed on for drawing, the index of its record and its first column.
+/// A text handed on for drawing, with the index of its record, its first column
+/// and its width.
 pub struct Drawn {
     pub record: usize,
     pub begin: usize,
+    pub width: usize,
     pub text: String,
 }
 
@@ -55,6 +57,21 @@ pub fn straddles(conv: &[u8], records: &[Record], window: Window) -> bool {
     found
 }
 
+/// Begin and end of each cluster that is drawn of a line read without matches.
+pub fn clusters(line: &[u8]) -> Vec<(usize, usize)> {
+    let answer = crate::read(line, &[], 8 * line.len(), usize::MAX);
+    let mut clusters = Vec::new();
+    each_text(&answer.conv, &answer.records, |drawn| {
+        let mut column = drawn.begin;
+        clusters.extend(drawn.text.graphemes(true).map(|cluster| {
+            let begin = column;
+            column += cluster.width();
+            (begin, column)
+        }));
+    });
+    clusters
+}
+
 /// Calls `hand_on` with each text in the order of the drawing.
 pub fn each_text(conv: &[u8], records: &[Record], mut hand_on: impl FnMut(&Drawn)) {
     let mut column = 0;
@@ -65,11 +82,11 @@ pub fn each_text(conv: &[u8], records: &[Record], mut hand_on: impl FnMut(&Drawn
             line_drawing = bytes == b"\x1B(0";
         }
         for text in texts(span.kind, bytes, line_drawing, column) {
-            let width = text.width();
-            let begin = column;
+            let (begin, width) = (column, text.width());
             hand_on(&Drawn {
                 record,
                 begin,
+                width,
                 text,
             });
             column += width;

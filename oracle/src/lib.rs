@@ -3,10 +3,18 @@
 //! with the source's panic in every drawing, and a difference is a panic here.
 
 mod answer;
-mod changes;
-mod drawn;
+pub mod changes;
+pub mod coverage;
+pub mod drawn;
 pub mod format;
+pub mod generate;
+pub mod noise;
+pub mod random;
+pub mod sample;
+pub mod statements;
 
-pub use answer::{convert, draw_row, draw_window, height, read, rows, Answer, NONE};
+pub use answer::{check_constructors, check_last_clusters, text_searched_len};
+pub use answer::{convert, draw_row, draw_window, height, read, rows};
+pub use answer::{Answer, NONE};
 pub use format::{Call, Case};
 pub use streampager::probe::{clip, Record};

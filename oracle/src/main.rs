@@ -1,8 +1,17 @@
 //! The program around the oracle.
 
-use oracle::Case;
+use oracle::coverage::Coverage;
+use oracle::format::answer_text;
+use oracle::generate;
+use oracle::noise::{self, Counts};
+use oracle::random::Random;
+use oracle::statements::{self, Statement};
+use oracle::{sample as recorded, Case};
 use std::io::{self, BufRead, BufWriter, Write};
 use std::process::ExitCode;
+
+const USAGE: &str = "usage: oracle answer | verify | bench-lines | corners | profile
+       | random COUNT SEED | demand3 COUNT SEED | sample SEED | coverage";
 
 type Outcome = Result<(), String>;
 
@@ -22,7 +31,14 @@ fn run(arguments: &[&str]) -> Outcome {
     match arguments {
         ["answer"] => answer(),
         ["verify"] => verify(),
-        _ => Err("usage: oracle answer | verify".to_string()),
+        ["bench-lines"] => bench_lines(),
+        ["corners"] => corners(),
+        ["profile"] => profile(),
+        ["random", count, seed] => random(number(count)?, number(seed)? as u64),
+        ["demand3", count, seed] => demand3(number(count)?, number(seed)? as u64),
+        ["sample", seed] => sample(number(seed)? as u64),
+        ["coverage"] => coverage(),
+        _ => Err(USAGE.to_string()),
     }
 }
 
@@ -52,19 +68,135 @@ fn answer() -> Outcome {
 fn verify() -> Outcome {
     let (mut agree, mut differ) = (0, 0);
     for (number, line) in cases() {
-        let question = line.split(" = ").next().unwrap_or_default();
-        let answered = parse(number, question)?.answered();
-        if answered == line {
+        let (question, stated) = line
+            .split_once(" = ")
+            .ok_or(format!("line {number}: no answer"))?;
+        let case = parse(number, question)?;
+        let answer = answer_text(&case.call, &case.answer());
+        if answer == stated {
             agree += 1;
         } else {
             differ += 1;
-            println!("line {number} is\n  {line}\nand should be\n  {answered}");
+            println!("line {number}: {line}\n  should be = {answer}");
         }
     }
     println!("verify: {agree} agree, {differ} differ");
-    if differ == 0 {
+    outcome(differ == 0, "verify")
+}
+
+fn number(text: &str) -> Result<usize, String> {
+    text.parse().map_err(|_| format!("not a number: {text:?}"))
+}
+
+/// Compares statements with the source's answers.
+fn hold(name: &str, statements: &[Statement]) -> Outcome {
+    let faults: Vec<String> = statements.iter().filter_map(Statement::fault).collect();
+    for fault in &faults {
+        println!("{name}: not as stated: {fault}");
+    }
+    println!(
+        "{name}: {} of {} hold",
+        statements.len() - faults.len(),
+        statements.len()
+    );
+    outcome(faults.is_empty(), name)
+}
+
+fn outcome(good: bool, name: &str) -> Outcome {
+    if good {
         Ok(())
     } else {
-        Err(format!("{differ} answers differ"))
+        Err(format!("{name} failed"))
     }
+}
+
+fn bench_lines() -> Outcome {
+    hold("bench lines", &statements::bench_lines())?;
+    let clips = |&(text, offset, width, clipped): &(&str, usize, usize, Option<&str>)| {
+        oracle::clip(text, offset, width).as_deref() == clipped
+    };
+    let good = statements::CLIPPINGS
+        .iter()
+        .filter(|clipping| clips(clipping))
+        .count();
+    let all = statements::CLIPPINGS.len();
+    println!("bench lines, clipping: {good} of {all} hold");
+    outcome(good == all, "clipping")
+}
+
+fn corners() -> Outcome {
+    hold("corners", &statements::corners())
+}
+
+/// Rust's own whitespace and control characters are those of document 01.
+fn profile() -> Outcome {
+    let scalars = (0..=0x10FFFF).filter_map(char::from_u32);
+    let (mut all, mut differ) = (0, 0);
+    for c in scalars {
+        let scalar = u32::from(c);
+        let whitespace = profile::in_any(profile::WHITESPACE, scalar);
+        let control = profile::within((0, 0x1F), scalar) || profile::within((0x7F, 0x9F), scalar);
+        all += 1;
+        differ += usize::from(c.is_whitespace() != whitespace || c.is_control() != control);
+    }
+    println!("profile: whitespace and controls of {all} scalars, {differ} differ");
+    outcome(differ == 0, "profile")
+}
+
+/// Any calls, with and without matches: each answer is checked as it is made,
+/// and the text of each case is read back.
+fn random(count: usize, seed: u64) -> Outcome {
+    let mut random = Random::new(seed);
+    let mut coverage = Coverage::default();
+    for _ in 0..count {
+        let case = generate::case(&mut random, true);
+        coverage.add(&case);
+        if case.to_string().parse() != Ok(case.clone()) {
+            return Err(format!("not read back: {case}"));
+        }
+        oracle::check_constructors(&case.line);
+        oracle::check_last_clusters(&case.line);
+    }
+    coverage.print();
+    Ok(())
+}
+
+fn demand3(count: usize, seed: u64) -> Outcome {
+    let Counts {
+        cases,
+        accepted,
+        further,
+    } = noise::separation(count, seed)?;
+    println!("demand 3, separation: {cases} lines, {accepted} accepted, records of {further} other calls");
+    let Counts {
+        cases,
+        accepted,
+        further,
+    } = noise::exchange(count, seed)?;
+    println!("demand 3, exchange: {cases} pairs, {accepted} accepted, {further} with other digits");
+    Ok(())
+}
+
+fn sample(seed: u64) -> Outcome {
+    let mut out = BufWriter::new(io::stdout().lock());
+    writeln!(out, "{}", recorded::header(seed)).map_err(|e| e.to_string())?;
+    for case in recorded::cases(seed) {
+        writeln!(out, "{}", case.answered()).map_err(|e| e.to_string())?;
+    }
+    Ok(())
+}
+
+/// Counts what the whole lines on standard input cover.
+fn coverage() -> Outcome {
+    let mut coverage = Coverage::default();
+    for (number, line) in cases() {
+        let question = line.split(" = ").next().unwrap_or_default();
+        coverage.add(&parse(number, question)?);
+    }
+    coverage.print();
+    let missing = coverage.missing();
+    for what in &missing {
+        println!("missing: {what}");
+    }
+    outcome(missing.is_empty(), "coverage")
 }
