@@ -2,8 +2,7 @@
 
 use crate::format::{Call, Case};
 use crate::generate::{self, SINGLE_PARAMETERS};
-use std::collections::BTreeMap;
-use std::collections::BTreeSet;
+use std::collections::{BTreeMap, BTreeSet};
 
 /// The numbers that a call can return, 0 included.
 fn numbers(name: &str) -> &'static [usize] {
@@ -36,23 +35,21 @@ pub struct Coverage {
     parameters: BTreeSet<u32>,
     /// Texts drawn.
     texts: BTreeSet<String>,
-    pub longest: usize,
+    /// The longest line, and the largest sizes lent: conversion buffer, spans,
+    /// rows, change list.
+    longest: usize,
+    lent: [usize; 4],
 }
 
 impl Coverage {
-    pub fn of<'a>(cases: impl IntoIterator<Item = &'a Case>) -> Coverage {
-        let mut coverage = Coverage::default();
-        for case in cases {
-            coverage.add(case);
-        }
-        coverage
-    }
-
     pub fn add(&mut self, case: &Case) {
         let answer = case.answer();
         let name = case.call.name();
         self.cases += 1;
         self.longest = self.longest.max(case.line.len());
+        for (largest, size) in self.lent.iter_mut().zip(case.call.lent()) {
+            *largest = size.max(*largest);
+        }
         *self.returned.entry((name, answer.number)).or_default() += 1;
         if answer.number != 0 {
             return;
@@ -144,35 +141,36 @@ impl Coverage {
     }
 
     pub fn print(&self) {
-        println!("cases: {}, longest line {} bytes", self.cases, self.longest);
+        println!("cases: {}, longest line {}", self.cases, self.longest);
         for name in Call::NAMES {
-            let returned = self.returned.iter().filter(|entry| entry.0 .0 == name);
-            let counts: Vec<String> = returned.map(|(key, n)| format!("{}: {n}", key.1)).collect();
-            let matched = self.matched.get(name).copied().unwrap_or(0);
-            let all: usize = self
-                .returned
-                .iter()
-                .filter(|e| e.0 .0 == name)
-                .map(|e| e.1)
-                .sum();
-            println!(
-                "  {name}: {all} cases, returning {}; accepted with matches {matched}",
-                counts.join(", ")
-            );
+            self.print_call(name);
         }
-        let kinds: Vec<String> = self
-            .kinds
-            .iter()
-            .map(|(k, n)| format!("{k}: {n}"))
-            .collect();
-        println!("  span kinds {}", kinds.join(", "));
+        println!("  span kinds {}", listed(&self.kinds));
         println!(
             "  {} single bytes, {} scalars, {} style parameters drawn",
             self.single_bytes.len(),
             self.scalars.len(),
             self.parameters.len()
         );
+        let [conv, spans, rows, list] = self.lent;
+        println!("  lent at most {conv} bytes, {spans} spans, {rows} numbers, {list} bytes");
     }
+
+    fn print_call(&self, name: &str) {
+        let returned = self.returned.iter().filter(|entry| entry.0 .0 == name);
+        let returned: BTreeMap<usize, usize> = returned.map(|(key, n)| (key.1, *n)).collect();
+        let all: usize = returned.values().sum();
+        let matched = self.matched.get(name).copied().unwrap_or(0);
+        println!(
+            "  {name}: {all} cases, returning {}; accepted with matches {matched}",
+            listed(&returned)
+        );
+    }
+}
+
+fn listed(counts: &BTreeMap<usize, usize>) -> String {
+    let texts: Vec<String> = counts.iter().map(|(k, n)| format!("{k}: {n}")).collect();
+    texts.join(", ")
 }
 
 fn mode(call: &Call) -> Option<usize> {

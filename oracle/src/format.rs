@@ -80,6 +80,46 @@ impl Call {
         }
     }
 
+    /// The sizes lent: conversion buffer, spans, rows, change list; 0 for what
+    /// the call does not have.
+    pub fn lent(&self) -> [usize; 4] {
+        match *self {
+            Call::Convert { conv } => [conv, 0, 0, 0],
+            Call::Read { conv, spans, .. } | Call::Height { conv, spans, .. } => {
+                [conv, spans, 0, 0]
+            }
+            Call::Rows {
+                conv, spans, rows, ..
+            } => [conv, spans, rows, 0],
+            Call::DrawWindow {
+                conv, spans, list, ..
+            }
+            | Call::DrawRow {
+                conv, spans, list, ..
+            } => [conv, spans, 0, list],
+        }
+    }
+
+    /// Lends other sizes, given in the same order.
+    pub fn lend(&mut self, sizes: [usize; 4]) {
+        let [for_conv, for_spans, for_rows, for_list] = sizes;
+        match self {
+            Call::Convert { conv } => *conv = for_conv,
+            Call::Read { conv, spans, .. } | Call::Height { conv, spans, .. } => {
+                (*conv, *spans) = (for_conv, for_spans);
+            }
+            Call::Rows {
+                conv, spans, rows, ..
+            } => (*conv, *spans, *rows) = (for_conv, for_spans, for_rows),
+            Call::DrawWindow {
+                conv, spans, list, ..
+            }
+            | Call::DrawRow {
+                conv, spans, list, ..
+            } => (*conv, *spans, *list) = (for_conv, for_spans, for_list),
+        }
+    }
+
     pub fn matches(&self) -> &[usize] {
         match self {
             Call::Read { matches, .. }

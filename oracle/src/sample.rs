@@ -1,7 +1,7 @@
 //! The recorded sample: fixed cases, and random ones that depend on the seed.
 
 use crate::coverage::known_parameters;
-use crate::format::{Call, Case};
+use crate::format::Case;
 use crate::generate;
 use crate::random::Random;
 use crate::statements::{self, convert, height, read, rows};
@@ -51,12 +51,11 @@ fn stated() -> Vec<Case> {
         .collect()
 }
 
-/// The same call, lent just what it needs where it was lent more.
+/// The same call, with a change list of what it needs or of 64 bytes.
 fn snug(mut case: Case) -> Case {
-    let answer = case.answer();
-    if let Call::DrawWindow { list, .. } | Call::DrawRow { list, .. } = &mut case.call {
-        *list = (*list).min(answer.list.len().max(64));
-    }
+    let [conv, spans, rows, list] = case.call.lent();
+    let need = case.answer().list.len().max(64);
+    case.call.lend([conv, spans, rows, list.min(need)]);
     case
 }
 
@@ -175,16 +174,18 @@ fn long_lines() -> Vec<Case> {
     let pattern = b"ab c-d\t\xE6\xBC\xA2 ";
     let line: Vec<u8> = pattern.iter().copied().cycle().take(4096).collect();
     let above = vec![b'a'; 4097];
-    vec![
-        height(&line, 80, 2),
-        snug(draw_row(&line, 3, 2, 40, 1)),
+    let accepted = [height(&line, 80, 2), draw_row(&line, 3, 2, 40, 1)];
+    let refused = [
         convert(&above),
         read(&above, &[0, 1]),
         rows(&above, 80, 1),
         height(&above, 80, 1),
-        snug(draw_window(&above, 0, 80)),
-        snug(draw_row(&above, 0, 1, 80, 1)),
-    ]
+        draw_window(&above, 0, 80),
+        draw_row(&above, 0, 1, 80, 1),
+    ];
+    let little = |case: &Case| with_sizes(case, [8 * 4097, 1, 2, 64]);
+    let fitting = accepted.iter().map(|case| with_sizes(case, needs(case)));
+    fitting.chain(refused.iter().map(little)).collect()
 }
 
 /// Each call with each lent size at what it needs and one below.
@@ -211,45 +212,31 @@ fn lent_sizes() -> Vec<Case> {
 
 /// A call with all lent sizes just enough, and with each in turn one too small.
 fn around_need(case: &Case) -> Vec<Case> {
+    let enough = needs(case);
+    let mut cases = vec![with_sizes(case, enough)];
+    cases.extend((0..4).map(|index| {
+        let mut sizes = enough;
+        sizes[index] = sizes[index].saturating_sub(1);
+        with_sizes(case, sizes)
+    }));
+    cases
+}
+
+/// The sizes that an accepted call needs.
+fn needs(case: &Case) -> [usize; 4] {
     let answer = case.answer();
-    let needs = [
+    [
         8 * case.line.len(),
         answer.records.len(),
         answer.pairs.len(),
         answer.list.len(),
-    ];
-    let fitted = |short: Option<usize>| {
-        let mut sizes = needs;
-        if let Some(index) = short {
-            sizes[index] = sizes[index].saturating_sub(1);
-        }
-        let mut case = case.clone();
-        lend(&mut case.call, sizes);
-        case
-    };
-    let mut cases = vec![fitted(None)];
-    cases.extend((0..4).map(|index| fitted(Some(index))));
-    cases
+    ]
 }
 
-fn lend(call: &mut Call, sizes: [usize; 4]) {
-    match call {
-        Call::Convert { conv } => *conv = sizes[0],
-        Call::Read { conv, spans, .. } | Call::Height { conv, spans, .. } => {
-            [*conv, *spans] = [sizes[0], sizes[1]];
-        }
-        Call::Rows {
-            conv, spans, rows, ..
-        } => [*conv, *spans, *rows] = [sizes[0], sizes[1], sizes[2]],
-        Call::DrawWindow {
-            conv, spans, list, ..
-        }
-        | Call::DrawRow {
-            conv, spans, list, ..
-        } => {
-            [*conv, *spans, *list] = [sizes[0], sizes[1], sizes[3]];
-        }
-    }
+fn with_sizes(case: &Case, sizes: [usize; 4]) -> Case {
+    let mut case = case.clone();
+    case.call.lend(sizes);
+    case
 }
 
 /// Mostly short lines; a few dozen are longer.
