@@ -358,6 +358,7 @@ pub fn corners() -> Vec<Statement> {
     let parts = [
         noise_and_runs,
         questions,
+        clusters,
         rows_and_bytes,
         overstrike,
         style_orders,
@@ -442,6 +443,42 @@ fn questions(list: &mut Vec<Statement>) {
     s.matching("65 CC 81", &[0, 1], &[MATCH, UNPRINTABLE]);
     let moved = draw_row_with(&bytes("65 CC 81"), &[0, 1], NONE, 1, 1, 8, 1);
     s.say(moved, Says::Changes("a00000002 t3C552B303330313E d"));
+}
+
+/// Rows at width 0 show the clusters: a row for each, behind an empty first one.
+fn clusters(list: &mut Vec<Statement>) {
+    let mut s = about(list, "clusters");
+    let (ri, zwj, mark) = ("F0 9F 87 A6", "E2 80 8D", "CC 81");
+    s.rows(&format!("{ri} {ri} {ri}"), 0, 1, &[(0, 0), (0, 2), (2, 3)]);
+    s.rows(
+        &format!("{ri} {mark} {ri} {ri}"),
+        0,
+        1,
+        &[(0, 0), (0, 1), (1, 3)],
+    );
+    s.rows(&format!("61 {zwj} 62"), 0, 1, &[(0, 0), (0, 1), (1, 2)]);
+    s.rows(
+        &format!("F0 9F 98 80 {zwj} F0 9F 98 80"),
+        0,
+        1,
+        &[(0, 0), (0, 2), (2, 4)],
+    );
+    let (l, v, t) = ("E1 84 80", "E1 85 A1", "E1 86 A8");
+    let (lv, lvt) = ("EA B0 80", "EA B0 81");
+    s.reads(&format!("{l} {l} {v} {v} {t} {t}"), &[TEXT]);
+    s.rows(&format!("{l} {l} {v} {v} {t} {t}"), 0, 1, &[(0, 0), (0, 4)]);
+    s.rows(&format!("{l} {lv} {v} {t}"), 0, 1, &[(0, 0), (0, 4)]);
+    s.rows(&format!("{l} {lvt} {t}"), 0, 1, &[(0, 0), (0, 4)]);
+    s.reads(&format!("{lvt} {v}"), &[TEXT, UNPRINTABLE]);
+    s.reads(&format!("{l} {t}"), &[TEXT, UNPRINTABLE]);
+    s.reads(&format!("{v} {l}"), &[UNPRINTABLE, TEXT]);
+    s.reads(&format!("{t} {v}"), &[UNPRINTABLE, UNPRINTABLE]);
+    s.rows(&format!("{lv} {l}"), 0, 1, &[(0, 0), (0, 2), (2, 4)]);
+    s.reads("0D 0A 0A 0D", &[CRLF, LF, CONTROL]);
+    s.reads(
+        &format!("0A {mark} 09 {mark} C2 80 {mark}"),
+        &[LF, UNPRINTABLE, TAB, UNPRINTABLE, UNPRINTABLE, UNPRINTABLE],
+    );
 }
 
 fn rows_and_bytes(list: &mut Vec<Statement>) {

@@ -6,9 +6,11 @@ use std::{env, fs};
 
 const UNCHANGED: [&str; 5] = ["config", "line_drawing", "overstrike", "search", "util"];
 
+const PROBE: &str =
+    "pub mod probe { include!(concat!(env!(\"CARGO_MANIFEST_DIR\"), \"/src/probe.rs\")); }\n";
+
 fn main() {
     println!("cargo:rerun-if-env-changed=CONSOLE_LINES_SOURCE");
-    println!("cargo:rerun-if-env-changed=CARGO_MANIFEST_DIR");
     let here = PathBuf::from(env::var_os("CARGO_MANIFEST_DIR").unwrap());
     let out = PathBuf::from(env::var_os("OUT_DIR").unwrap());
     let source = source_folder(&here);
@@ -18,12 +20,9 @@ fn main() {
         let path = source.join(name).with_extension("rs");
         modules += &module(name, &watched(&path));
     }
-    let line = watched(&source.join("line.rs"));
-    let probe = here.join("src/probe.rs");
-    let child = format!("\n#[path = {:?}]\npub mod probe;\n", probe);
-    let text = fs::read_to_string(line).unwrap() + &child;
-    fs::write(out.join("line.rs"), text).unwrap();
-    modules += &module("line", &out.join("line.rs"));
+    let line = fs::read_to_string(watched(&source.join("line.rs"))).unwrap();
+    fs::write(out.join("line.rs"), line + PROBE).unwrap();
+    modules += &module("line", Path::new("line.rs"));
     fs::write(out.join("source.rs"), modules).unwrap();
 }
 

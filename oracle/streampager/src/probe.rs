@@ -1,5 +1,5 @@
-//! A child of line.rs: reads and draws with the source, and finds the byte place
-//! and length of each span, which the source does not keep.
+// A child module of line.rs: reads and draws with the source, and finds the byte
+// place and length of each span, which the source does not keep.
 
 use std::borrow::Cow;
 use std::cell::RefCell;
