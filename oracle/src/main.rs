@@ -162,19 +162,29 @@ fn random(count: usize, seed: u64) -> Outcome {
 }
 
 fn demand3(count: usize, seed: u64) -> Outcome {
-    let Counts {
-        cases,
-        accepted,
-        further,
-    } = noise::separation(count, seed)?;
-    println!("demand 3, separation: {cases} lines, {accepted} accepted, records of {further} other calls");
-    let Counts {
-        cases,
-        accepted,
-        further,
-    } = noise::exchange(count, seed)?;
-    println!("demand 3, exchange: {cases} pairs, {accepted} accepted, {further} with other digits");
+    print_separation("random", noise::separation(count, seed)?);
+    print_separation("short", noise::short_separation()?);
+    print_exchange("random", noise::exchange(count, seed)?);
+    print_exchange("short", noise::short_exchange()?);
     Ok(())
+}
+
+fn print_separation(lines: &str, counts: Counts) {
+    let Counts {
+        cases,
+        accepted,
+        further,
+    } = counts;
+    println!("demand 3, separation, {lines} lines: {cases}, {accepted} accepted, records of {further} other calls");
+}
+
+fn print_exchange(lines: &str, counts: Counts) {
+    let Counts {
+        cases,
+        accepted,
+        further,
+    } = counts;
+    println!("demand 3, exchange, {lines} lines: {cases}, {accepted} accepted, {further} with other digits");
 }
 
 fn sample(seed: u64) -> Outcome {

@@ -1,10 +1,10 @@
 //! Demand 3 on random lines: noise separation and noise exchange.
 
-use crate::answer::Answer;
+use crate::answer::{Answer, NONE};
 use crate::changes;
 use crate::drawn::{self, Window};
 use crate::format::{Call, Case};
-use crate::generate::{self, NOISE};
+use crate::generate::{self, any_line, NOISE};
 use crate::random::Random;
 use streampager::probe::Record;
 
@@ -28,41 +28,92 @@ pub fn separation(count: usize, seed: u64) -> Result<Counts, String> {
     let mut random = Random::new(seed);
     let mut counts = Counts::default();
     while counts.cases < count {
-        counts.cases += 1;
-        separate(&mut random, &mut counts)?;
+        let (first, second) = (any_line(&mut random), any_line(&mut random));
+        let noise: Vec<u8> = (0..random.between(1, 3))
+            .map(|_| random.pick(&NOISE))
+            .collect();
+        let line = [&first[..], &noise, &second].concat();
+        let conv = generate::size(&mut random, 8 * line.len());
+        let reading = generate::reading(&mut random, &line, conv, false);
+        let other = generate::call(&mut random, &line, false);
+        separate(&first, &noise, &second, &reading, &other, &mut counts)?;
     }
     Ok(counts)
 }
 
-fn separate(random: &mut Random, counts: &mut Counts) -> Result<(), String> {
-    let (first, second) = (generate::any_line(random), generate::any_line(random));
-    let noise: Vec<u8> = (0..random.between(1, 3))
-        .map(|_| random.pick(&NOISE))
-        .collect();
-    let line = [&first[..], &noise, &second].concat();
-    let fault = |what: &str, case: &Case| Err(format!("{what}: {}", case.answered()));
+/// Every two short parts with a noise byte between them.
+pub fn short_separation() -> Result<Counts, String> {
+    let mut counts = Counts::default();
+    let parts = short_lines(b"a_\x08\x1B\xC3\xA9\r\n", 3);
+    for first in &parts {
+        for second in &parts {
+            let (conv, spans) = (64, 8);
+            let reading = Call::Read {
+                matches: Vec::new(),
+                conv,
+                spans,
+            };
+            let other = Call::Height {
+                width: 2,
+                mode: 2,
+                conv,
+                spans,
+            };
+            separate(first, &[0xFF], second, &reading, &other, &mut counts)?;
+        }
+    }
+    Ok(counts)
+}
 
-    let conv = generate::size(random, 8 * line.len());
-    let call = generate::reading(random, &line, conv, false);
-    let whole = call.answer(&line);
+/// All lines of at most `most` of these bytes.
+fn short_lines(bytes: &[u8], most: usize) -> Vec<Vec<u8>> {
+    let mut lines = vec![Vec::new()];
+    let mut begin = 0;
+    for _ in 0..most {
+        let end = lines.len();
+        for index in begin..end {
+            for &byte in bytes {
+                lines.push([&lines[index][..], &[byte]].concat());
+            }
+        }
+        begin = end;
+    }
+    lines
+}
+
+fn separate(
+    first: &[u8],
+    noise: &[u8],
+    second: &[u8],
+    reading: &Call,
+    other: &Call,
+    counts: &mut Counts,
+) -> Result<(), String> {
+    let line = [first, noise, second].concat();
+    let fault = |what: &str, call: &Call| {
+        Err(format!(
+            "{what}: {}",
+            Case::new(&line, call.clone()).answered()
+        ))
+    };
+    let whole = reading.answer(&line);
+    counts.cases += 1;
     if whole.number != 0 {
         return Ok(());
     }
     counts.accepted += 1;
-    let (one, two) = (call.answer(&first), call.answer(&second));
-    let case = Case { line, call };
+    let (one, two) = (reading.answer(first), reading.answer(second));
     if one.number != 0 || two.number != 0 {
-        return fault("a part is refused", &case);
+        return fault("a part is refused", reading);
     }
     if whole.records != separated(&one, noise.len(), &two) {
-        return fault("the records are not those of the parts", &case);
+        return fault("the records are not those of the parts", reading);
     }
-    let other = generate::call(random, &case.line, false);
-    let answer = other.answer(&case.line);
+    let answer = other.answer(&line);
     if answer.number == 0 && !matches!(other, Call::Convert { .. }) {
         counts.further += 1;
         if answer.records != whole.records {
-            return fault("another call has other records", &case);
+            return fault("another call has other records", other);
         }
     }
     Ok(())
@@ -104,6 +155,65 @@ pub fn exchange(count: usize, seed: u64) -> Result<Counts, String> {
         compare(&call, &line, &other, &mut counts)?;
     }
     Ok(counts)
+}
+
+/// Every short line with its noise byte exchanged, in calls of every kind.
+pub fn short_exchange() -> Result<Counts, String> {
+    let mut counts = Counts::default();
+    for line in short_lines(b"a-\t\x08\xE6\xBC\xA2\xFF", 4) {
+        let other: Vec<u8> = line
+            .iter()
+            .map(|&b| if b == 0xFF { 0xC0 } else { b })
+            .collect();
+        if line == other {
+            continue;
+        }
+        for call in few_calls() {
+            counts.cases += 1;
+            compare(&call, &line, &other, &mut counts)?;
+        }
+    }
+    Ok(counts)
+}
+
+fn few_calls() -> Vec<Call> {
+    let (conv, spans, rows, list) = (32, 4, 16, 400);
+    let (matches, current) = (Vec::new(), NONE);
+    let mut calls = vec![Call::Convert { conv }];
+    for (width, mode) in [(0, 1), (3, 1), (5, 1), (0, 2), (3, 2), (5, 2)] {
+        calls.push(Call::Rows {
+            width,
+            mode,
+            conv,
+            spans,
+            rows,
+        });
+        let (matches, first, count) = (matches.clone(), 1, 1);
+        calls.push(Call::DrawRow {
+            matches,
+            current,
+            first,
+            count,
+            width,
+            mode,
+            conv,
+            spans,
+            list,
+        });
+    }
+    for (start, end) in [(0, 1), (0, 3), (0, 6), (1, 2), (1, 4), (2, 4), (3, 9)] {
+        let matches = matches.clone();
+        calls.push(Call::DrawWindow {
+            matches,
+            current,
+            start,
+            end,
+            conv,
+            spans,
+            list,
+        });
+    }
+    calls
 }
 
 fn is_noise(byte: &u8) -> bool {

@@ -527,6 +527,12 @@ fn overstrike(list: &mut Vec<Statement>) {
     );
     s.reads("5F 08 CC 81", &[STYLE, STYLE]);
     s.converts("61 08 61", "1B 5B 31 6D 61 1B 5B 32 32 6D");
+    // the most that 4,096 bytes give
+    let (bold, under) = ("61 08 61", "5F 08 62");
+    let pairs = format!("{bold} 63").repeat(1018);
+    let triples = format!("{bold} {under} 63").repeat(3);
+    let most = bytes(&format!("{pairs}{triples}{bold}"));
+    s.say(convert(&most), Says::Count(11_265));
     s.converts("61 08 FF", "FF");
     s.converts("61 FF 08 61", "61 FF 08 61");
 }

@@ -111,7 +111,7 @@ fn class_by_table(scalar: u32) -> Class {
     } else if in_any(T, scalar) {
         Class::T
     } else if within(SYLLABLE, scalar) {
-        if (scalar - SYLLABLE.0) % 28 == 0 {
+        if (scalar - SYLLABLE.0).is_multiple_of(28) {
             Class::Lv
         } else {
             Class::Lvt
