@@ -1,8 +1,11 @@
 //! Counts of what a list of cases covers.
 
+use crate::answer::Answer;
+use crate::changes;
 use crate::format::{Call, Case};
 use crate::generate::{self, SINGLE_PARAMETERS};
 use std::collections::{BTreeMap, BTreeSet};
+use streampager::probe::line_drawn;
 
 /// The numbers that a call can return, 0 included.
 fn numbers(name: &str) -> &'static [usize] {
@@ -69,75 +72,88 @@ impl Coverage {
             self.scalars.extend(run.valid().chars().map(u32::from));
         }
         if !answer.list.is_empty() {
-            let orders = answer.records.iter().filter(|record| record.kind == 6);
-            let orders = orders.map(|r| &answer.conv[r.place..r.place + r.len]);
-            self.parameters.extend(orders.filter_map(first_parameter));
-            let changes = crate::changes::decode(&answer.list);
-            let texts = changes.into_iter().filter(|change| change.0 == 1);
-            self.texts
-                .extend(texts.map(|(_, body)| String::from_utf8_lossy(body).into_owned()));
+            self.add_drawing(&answer);
+        }
+    }
+
+    fn add_drawing(&mut self, answer: &Answer) {
+        let orders = answer.records.iter().filter(|record| record.kind == 6);
+        let orders = orders.map(|r| &answer.conv[r.place..r.place + r.len]);
+        self.parameters.extend(orders.filter_map(first_parameter));
+        for (kind, body) in changes::decode(&answer.list) {
+            if kind == 1 {
+                self.texts
+                    .insert(String::from_utf8_lossy(body).into_owned());
+            }
         }
     }
 
     /// What is missing of all that a sample must hold.
     pub fn missing(&self) -> Vec<String> {
-        let mut missing = Vec::new();
-        let mut want = |there: bool, what: String| {
-            if !there {
-                missing.push(what);
-            }
-        };
+        let mut wanted = self.wanted_calls();
+        wanted.extend(self.wanted_texts());
+        wanted.extend(self.wanted_sequences());
+        let missing = wanted.into_iter().filter(|(there, _)| !there);
+        missing.map(|(_, what)| what).collect()
+    }
+
+    /// Each call with each number, mode, and with matches.
+    fn wanted_calls(&self) -> Vec<(bool, String)> {
+        let mut wanted = Vec::new();
         for name in Call::NAMES {
             for &number in numbers(name) {
-                want(
-                    self.returned.contains_key(&(name, number)),
-                    format!("{name} returning {number}"),
-                );
+                let there = self.returned.contains_key(&(name, number));
+                wanted.push((there, format!("{name} returning {number}")));
             }
         }
         for name in ["rows", "height", "draw_row"] {
             for mode in 0..3 {
-                want(
-                    self.modes.contains_key(&(name, mode)),
-                    format!("{name} in mode {mode}"),
-                );
+                let there = self.modes.contains_key(&(name, mode));
+                wanted.push((there, format!("{name} in mode {mode}")));
             }
         }
         for name in ["read", "draw_window", "draw_row"] {
-            want(
-                self.matched.contains_key(name),
-                format!("{name} with matches"),
-            );
+            let there = self.matched.contains_key(name);
+            wanted.push((there, format!("{name} with matches")));
         }
-        for kind in 1..=13 {
-            want(self.kinds.contains_key(&kind), format!("span kind {kind}"));
-        }
-        for byte in 0..=255 {
-            want(
-                self.single_bytes.contains(&byte),
-                format!("a line of the byte {byte:02X}"),
-            );
-        }
-        for scalar in generate::boundaries() {
-            want(
-                self.scalars.contains(&scalar),
-                format!("scalar {scalar:04X}"),
-            );
-        }
-        for parameter in known_parameters() {
-            want(
-                self.parameters.contains(&parameter),
-                format!("style order {parameter}"),
-            );
-        }
-        for byte in 0x5F..=0x7E_u8 {
-            let drawn = streampager::probe::line_drawn(&char::from(byte).to_string());
-            want(
-                self.texts.contains(&drawn),
-                format!("line drawing of {byte:02X}"),
-            );
-        }
-        missing
+        wanted
+    }
+
+    /// Each byte by itself, and each range of the profile at its ends.
+    fn wanted_texts(&self) -> Vec<(bool, String)> {
+        let byte = |byte| {
+            let there = self.single_bytes.contains(&byte);
+            (there, format!("a line of the byte {byte:02X}"))
+        };
+        let scalar = |scalar| {
+            let there = self.scalars.contains(&scalar);
+            (there, format!("scalar {scalar:04X}"))
+        };
+        let bytes = (0..=255).map(byte);
+        bytes
+            .chain(generate::boundaries().into_iter().map(scalar))
+            .collect()
+    }
+
+    /// Each kind of span, known parameter and line-drawing replacement.
+    fn wanted_sequences(&self) -> Vec<(bool, String)> {
+        let kind = |kind| {
+            let there = self.kinds.contains_key(&kind);
+            (there, format!("span kind {kind}"))
+        };
+        let parameter = |parameter| {
+            let there = self.parameters.contains(&parameter);
+            (there, format!("style order {parameter}"))
+        };
+        let replacement = |byte: u8| {
+            let drawn = line_drawn(&char::from(byte).to_string());
+            let there = self.texts.contains(&drawn);
+            (there, format!("line drawing of {byte:02X}"))
+        };
+        let kinds = (1..=13).map(kind);
+        let parameters = known_parameters().into_iter().map(parameter);
+        let replacements = (0x5F..=0x7E).map(replacement);
+        kinds.chain(parameters).chain(replacements).collect()
     }
 
     pub fn print(&self) {

@@ -5,14 +5,15 @@ use crate::format::Case;
 use crate::generate;
 use crate::random::Random;
 use crate::statements::{self, convert, height, read, rows};
-use crate::statements::{draw_row, draw_window, draw_window_with};
+use crate::statements::{draw_row, draw_row_with, draw_window, draw_window_with};
+use crate::text_searched_len;
 use profile::Range;
 use std::collections::HashSet;
 
 /// A statement about a longer line is not recorded; `long_lines` has a few.
 const LONGEST_STATEMENT: usize = 200;
 
-const RANDOM_CASES: usize = 950;
+const RANDOM_CASES: usize = 900;
 
 /// The comment lines at the top.
 pub fn header(seed: u64) -> String {
@@ -29,6 +30,7 @@ pub fn cases(seed: u64) -> Vec<Case> {
     cases.extend(boundary_scalars());
     cases.extend(style_parameters());
     cases.extend(line_drawing());
+    cases.extend(carried_state());
     cases.extend(cut());
     cases.extend(long_lines());
     cases.extend(lent_sizes());
@@ -123,6 +125,35 @@ fn style_parameters() -> Vec<Case> {
 fn line_drawing() -> Vec<Case> {
     let draw = |byte: u8| snug(draw_window(&[0x1B, b'(', b'0', byte], 0, 4));
     (0x5E..=0x7F).map(draw).collect()
+}
+
+/// Lines through which hyperlinks, styles, line drawing and the colour at the
+/// line's end are carried, drawn with and without matches.
+fn carried_state() -> Vec<Case> {
+    let lines: [&[u8]; 10] = [
+        b"\x1B]8;;u\x07ab\x1B]8;;\x07c",
+        b"\x1B]8;id=1;u;v\x1B\\a\x1B[31;4mb\x1B[mc",
+        b"\x1B]8;;u\x07a\x1B]8;;vw\x07\x01b\xFFc",
+        b"\x1B[7;44ma\x1B[K\x1B[0mb\x1B[1K",
+        b"\x1B[41ma\tb\x1B[0K\x1B[42m\r\n",
+        b"\x1B(0aqx\x1B]8;;u\x07q\x1B(Bq\n",
+        b"a\x08ab\x08_c\x1B[24md",
+        b"\x1B[1;3;9mab\x1B[5mc\x1B[2J\x1B[22;29md",
+        b"\x1B]8;;\xC3\xA9\x07a\xCC\x81\x1B]8;;u\x01b",
+        b"\x1B[38;5;9;48;2;1;2;3;58;5;4ma\x1B[39mb\x1B[49mc\x1B[59md",
+    ];
+    let mut cases = Vec::new();
+    for line in lines {
+        let len = text_searched_len(line);
+        let matches = [len / 3, len / 3, len / 3, len / 2, len / 2, len];
+        cases.push(draw_window(line, 0, 20));
+        cases.push(draw_window(line, 1, 3));
+        cases.push(draw_row(line, 0, 1, 2, 1));
+        cases.push(draw_row(line, 1, 2, 2, 2));
+        cases.push(draw_window_with(line, &matches, 1, 0, 20));
+        cases.push(draw_row_with(line, &matches, 2, 0, 9, 3, 2));
+    }
+    cases.into_iter().map(snug).collect()
 }
 
 /// Marks, tabs and wide clusters in windows and rows that cut them.
