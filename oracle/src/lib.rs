@@ -17,4 +17,4 @@ pub use answer::{check_constructors, check_last_clusters, text_searched_len};
 pub use answer::{convert, draw_row, draw_window, height, read, rows};
 pub use answer::{Answer, NONE};
 pub use format::{Call, Case};
-pub use streampager::probe::{clip, Record};
+pub use streampager::probe::{clip, line_drawn, Record};

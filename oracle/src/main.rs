@@ -128,7 +128,8 @@ fn corners() -> Outcome {
     hold("corners", &statements::corners())
 }
 
-/// Rust's own whitespace and control characters are those of document 01.
+/// Rust's own whitespace and control characters are those of document 01, and
+/// line drawing replaces a scalar by another that is one cluster of one column.
 fn profile() -> Outcome {
     let scalars = (0..=0x10FFFF).filter_map(char::from_u32);
     let (mut all, mut differ) = (0, 0);
@@ -140,7 +141,12 @@ fn profile() -> Outcome {
         differ += usize::from(c.is_whitespace() != whitespace || c.is_control() != control);
     }
     println!("profile: whitespace and controls of {all} scalars, {differ} differ");
-    outcome(differ == 0, "profile")
+    let plain = |c: char| profile::class(c) == profile::Class::Other && profile::width(c) == 1;
+    let replaced = (0x5F..=0x7E_u8).map(|byte| oracle::line_drawn(&char::from(byte).to_string()));
+    let replaced = replaced.filter(|text| text.chars().count() == 1 && text.chars().all(plain));
+    let replaced = replaced.count();
+    println!("profile: {replaced} of 32 replacements are one plain scalar");
+    outcome(differ == 0 && replaced == 32, "profile")
 }
 
 /// Any calls, with and without matches: each answer is checked as it is made,

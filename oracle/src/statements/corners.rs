@@ -228,6 +228,8 @@ fn style_orders(list: &mut Vec<Statement>) {
     s.reads(&format!("1B '[{}m'", ";".repeat(32)), &[CONTROL, TEXT]);
     s.reads(&format!("1B '[10{}m'", ";".repeat(32)), &[CONTROL, TEXT]);
     s.reads(&format!("1B '[1{}10m'", ";".repeat(32)), &[CONTROL, TEXT]);
+    s.draws("1B '[1m' 1B '[m' 61", 0, 1, "d t61 d");
+    s.draws("1B '[1m' 1B '[;m' 61", 0, 1, "d t61 d");
     s.draws("1B '[1;38;7m' 61", 0, 1, "a01 t61 d");
     s.draws("1B '[38;5;m' 61", 0, 1, "a0000000001 t61 d");
     s.draws("1B '[38;5;7m' 61", 0, 1, "a000000000107 t61 d");
