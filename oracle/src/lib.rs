@@ -1,0 +1,20 @@
+//! Answers the six calls of document 01 with the unchanged Rust source. The
+//! questions are put by document 01's words; question 8's words are compared
+//! with the source's panic in every drawing, and a difference is a panic here.
+
+mod answer;
+pub mod changes;
+pub mod coverage;
+pub mod drawn;
+pub mod format;
+pub mod generate;
+pub mod noise;
+pub mod random;
+pub mod sample;
+pub mod statements;
+
+pub use answer::{check_constructors, check_last_clusters, text_searched_len};
+pub use answer::{convert, draw_row, draw_window, height, read, rows};
+pub use answer::{Answer, NONE};
+pub use format::{Call, Case};
+pub use streampager::probe::{clip, line_drawn, Record};

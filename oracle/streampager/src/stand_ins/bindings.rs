@@ -1,0 +1,4 @@
+//! src/config.rs names a keymap.
+
+#[derive(Clone, Debug, PartialEq, Eq)]
+pub struct Keymap;
