@@ -1,0 +1,75 @@
+use Prim.Native.Nat.{_+_, _-_, _≤_}
+use lib.ListN.{length}
+use borrow.Author.Needs.{needs}
+use Rattle.vectors.proofs.fields.is_word.Statement.{statement}
+use Rattle.vectors.proofs.fields.is_word.Tie as tie
+use Rattle.vectors.proofs.fields.is_word.Reads as reads
+use Rattle.vectors.proofs.fields.is_word.Lts as lts
+
+abbrev Inv-loop : tie.InvT-loop
+Inv-loop s at word i₀ i = i ≤ length word
+
+abbrev μ-loop : tie.MeasureT-loop
+μ-loop s at word i₀ i = length word - i
+
+-- src/fields.rt:45:5
+loop-holds : tie.Need-loop-holds Inv-loop μ-loop
+loop-holds c = search needs
+
+-- src/fields.rt:46:12
+sub-if1 : tie.Need-sub-if1 Inv-loop μ-loop
+sub-if1 c = search needs
+
+-- src/fields.rt:47:13
+returns : tie.Need-returns Inv-loop μ-loop
+returns c = search needs
+
+-- src/fields.rt:49:14
+add-if2 : tie.Need-add-if2 Inv-loop μ-loop
+add-if2 c = search needs
+
+-- src/fields.rt:49:12
+shared-slice-read-if2 : tie.Need-shared-slice-read-if2 Inv-loop μ-loop
+shared-slice-read-if2 c = search needs
+
+-- src/fields.rt:49:25
+shared-slice-read-if2-2 : tie.Need-shared-slice-read-if2-2 Inv-loop μ-loop
+shared-slice-read-if2-2 c = search needs
+
+-- src/fields.rt:50:13
+returns-2 : tie.Need-returns-2 Inv-loop μ-loop
+returns-2 c = search needs
+
+-- src/fields.rt:52:9
+add-i : tie.Need-add-i Inv-loop μ-loop
+add-i c = search needs
+
+-- src/fields.rt:45:5
+loop-less : tie.Need-loop-less Inv-loop μ-loop
+loop-less c = search needs
+
+-- src/fields.rt:45:5
+loop-again : tie.Need-loop-again Inv-loop μ-loop
+loop-again c = search needs
+
+-- src/fields.rt:41:1
+returns-3 : tie.Need-returns-3 Inv-loop μ-loop
+returns-3 c = search needs
+
+pub is-word-spec : {M : Type 1} → statement M
+is-word-spec =
+    tie.close
+    (tie.spec
+    Inv-loop
+    μ-loop
+    loop-holds
+    sub-if1
+    returns
+    add-if2
+    shared-slice-read-if2
+    shared-slice-read-if2-2
+    returns-2
+    add-i
+    loop-less
+    loop-again
+    returns-3)

@@ -1,0 +1,67 @@
+use mathlib.Core.Path.{_≡_}
+use Prim.Native.Nat.{_+_, _-_, _≤_}
+use lib.ListN.{length}
+use borrow.Author.Needs.{needs}
+use Rattle.vectors.proofs.input.all.Statement.{statement}
+use Rattle.vectors.proofs.input.all.Tie as tie
+use Rattle.vectors.proofs.input.all.Reads as reads
+use Rattle.vectors.proofs.input.all.Lts as lts
+use Rattle.vectors.proofs.input.more.Reads as more-reads
+
+abbrev Inv-loop : tie.InvT-loop
+Inv-loop buf₀ state₀ turns₀ buf state turns = length buf ≡ length buf₀
+
+abbrev μ-loop : tie.MeasureT-loop
+μ-loop buf₀ state₀ turns₀ buf state turns = turns
+
+-- src/input.rt:83:5
+loop-holds : tie.Need-loop-holds Inv-loop μ-loop
+loop-holds c = search needs
+
+-- src/input.rt:85:13
+same-length : tie.Need-same-length Inv-loop μ-loop
+same-length c = search needs
+
+-- src/input.rt:85:13
+returns : tie.Need-returns Inv-loop μ-loop
+returns c = search needs
+
+-- src/input.rt:87:9
+more-requires : tie.Need-more-requires Inv-loop μ-loop
+more-requires c κs = search needs
+
+-- src/input.rt:88:9
+sub-turns : tie.Need-sub-turns Inv-loop μ-loop
+sub-turns c = search needs
+
+-- src/input.rt:83:5
+loop-less : tie.Need-loop-less Inv-loop μ-loop
+loop-less c = search needs
+
+-- src/input.rt:83:5
+loop-again : tie.Need-loop-again Inv-loop μ-loop
+loop-again c = search needs
+
+-- src/input.rt:79:1
+same-length-2 : tie.Need-same-length-2 Inv-loop μ-loop
+same-length-2 c = search needs
+
+-- src/input.rt:79:1
+returns-2 : tie.Need-returns-2 Inv-loop μ-loop
+returns-2 c = search needs
+
+pub all-spec : {M : Type 1} → statement M
+all-spec =
+    tie.close
+    (tie.spec
+    Inv-loop
+    μ-loop
+    loop-holds
+    same-length
+    returns
+    more-requires
+    sub-turns
+    loop-less
+    loop-again
+    same-length-2
+    returns-2)

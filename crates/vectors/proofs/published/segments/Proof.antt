@@ -1,0 +1,85 @@
+use mathlib.Core.Path.{_≡_}
+use Prim.Native.Nat.{_+_, _-_, _≤_}
+use lib.ListN.{length}
+use borrow.Author.Needs.{needs}
+use Rattle.vectors.proofs.published.segments.Statement.{statement}
+use Rattle.vectors.proofs.published.segments.Tie as tie
+use Rattle.vectors.proofs.published.segments.Reads as reads
+use Rattle.vectors.proofs.published.segments.Lts as lts
+use Rattle.text.proofs.cluster.first_end.Reads as first-end-reads
+use Rattle.vectors.proofs.fields.behind.Reads as behind-reads
+use Rattle.vectors.proofs.fields.number.Reads as number-reads
+use Rattle.vectors.proofs.fields.past.Reads as past-reads
+
+abbrev Inv-loop : tie.InvT-loop
+Inv-loop line s at i₀ list₀ i list = (i ≤ length line) × (list ≤ length s)
+
+abbrev μ-loop : tie.MeasureT-loop
+μ-loop line s at i₀ list₀ i list = length line - i
+
+-- src/published.rt:58:5
+loop-holds : tie.Need-loop-holds Inv-loop μ-loop
+loop-holds c = search needs
+
+-- src/published.rt:59:13
+first-end-requires : tie.Need-first-end-requires Inv-loop μ-loop
+first-end-requires c κs = search needs
+
+-- src/published.rt:61:13
+returns : tie.Need-returns Inv-loop μ-loop
+returns c = search needs
+
+-- src/published.rt:64:13
+returns-2 : tie.Need-returns-2 Inv-loop μ-loop
+returns-2 c = search needs
+
+-- src/published.rt:66:12
+sub-if3 : tie.Need-sub-if3 Inv-loop μ-loop
+sub-if3 c = search needs
+
+-- src/published.rt:66:47
+past-requires : tie.Need-past-requires Inv-loop μ-loop
+past-requires c κs = search needs
+
+-- src/published.rt:66:23
+number-requires : tie.Need-number-requires Inv-loop μ-loop
+number-requires c κs = search needs
+
+-- src/published.rt:67:13
+returns-3 : tie.Need-returns-3 Inv-loop μ-loop
+returns-3 c = search needs
+
+-- src/published.rt:69:9
+behind-requires : tie.Need-behind-requires Inv-loop μ-loop
+behind-requires c κs = search needs
+
+-- src/published.rt:58:5
+loop-less : tie.Need-loop-less Inv-loop μ-loop
+loop-less c = search needs
+
+-- src/published.rt:58:5
+loop-again : tie.Need-loop-again Inv-loop μ-loop
+loop-again c = search needs
+
+-- src/published.rt:53:1
+returns-4 : tie.Need-returns-4 Inv-loop μ-loop
+returns-4 c = search needs
+
+pub segments-spec : {M : Type 1} → statement M
+segments-spec =
+    tie.close
+    (tie.spec
+    Inv-loop
+    μ-loop
+    loop-holds
+    first-end-requires
+    returns
+    returns-2
+    sub-if3
+    past-requires
+    number-requires
+    returns-3
+    behind-requires
+    loop-less
+    loop-again
+    returns-4)

@@ -1,0 +1,58 @@
+use mathlib.Core.Path.{_≡_}
+use Prim.Native.Nat.{_+_, _-_, _≤_}
+use lib.ListN.{length}
+use borrow.Author.Needs.{needs}
+use Rattle.vectors.proofs.replayed.Statement.{statement}
+use Rattle.vectors.proofs.replayed.Tie as tie
+use Rattle.vectors.proofs.replayed.Reads as reads
+use Rattle.vectors.proofs.replayed.Lts as lts
+use Rattle.vectors.proofs.fields.behind.Reads as behind-reads
+use Rattle.vectors.proofs.tried.Reads as tried-reads
+
+abbrev Inv-loop : tie.InvT-loop
+Inv-loop s counts₀ at₀ counts at = at ≤ length s
+
+abbrev μ-loop : tie.MeasureT-loop
+μ-loop s counts₀ at₀ counts at = length s - at
+
+-- src/main.rt:60:5
+loop-holds : tie.Need-loop-holds Inv-loop μ-loop
+loop-holds c = search needs
+
+-- src/main.rt:61:9
+tried-requires : tie.Need-tried-requires Inv-loop μ-loop
+tried-requires c κs = search needs
+
+-- src/main.rt:62:13
+behind-requires : tie.Need-behind-requires Inv-loop μ-loop
+behind-requires c κs = search needs
+
+-- src/main.rt:64:13
+returns : tie.Need-returns Inv-loop μ-loop
+returns c = search needs
+
+-- src/main.rt:60:5
+loop-less : tie.Need-loop-less Inv-loop μ-loop
+loop-less c = search needs
+
+-- src/main.rt:60:5
+loop-again : tie.Need-loop-again Inv-loop μ-loop
+loop-again c = search needs
+
+-- src/main.rt:57:1
+returns-2 : tie.Need-returns-2 Inv-loop μ-loop
+returns-2 c = search needs
+
+pub replayed-spec : {M : Type 1} → statement M
+replayed-spec =
+    tie.close
+    (tie.spec
+    Inv-loop
+    μ-loop
+    loop-holds
+    tried-requires
+    behind-requires
+    returns
+    loop-less
+    loop-again
+    returns-2)
