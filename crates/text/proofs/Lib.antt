@@ -4,3 +4,6 @@ pub mod Tails
 pub mod Runs
 pub mod Walks
 pub mod Backward
+pub mod Texts
+pub mod Erasing
+pub mod Pushing

@@ -1,6 +1,7 @@
 // Layer 1, text: UTF-8, classes, widths, clusters and overstrike conversion.
 pub mod class;
 pub mod cluster;
+pub mod overstrike;
 pub mod utf8;
 pub mod width;
 

@@ -61,7 +61,7 @@ module _ (P : Profile) where
 -- ---- what the machine may still write
 
 -- a style order on one side of a styled cluster has at most 8 bytes
-unfoldable cost : Style → ℕ
+unfoldable pub cost : Style → ℕ
 cost normal = 0
 cost bold = 8
 cost underline = 8
@@ -93,12 +93,12 @@ order-size boldUnderline bold = omega arith
 order-size boldUnderline underline = omega arith
 order-size boldUnderline boldUnderline = omega arith
 
-unfoldable waiting : Pending → ℕ
+unfoldable pub waiting : Pending → ℕ
 waiting none = 0
 waiting (held g) = size g
 waiting (struck g) = size g + 8
 
-unfoldable weight : State → ℕ
+unfoldable pub weight : State → ℕ
 unfolding waiting
 weight t = size (t .out) + waiting (t .pending) + cost (t .before) + 2 * cost (t .style)
 
