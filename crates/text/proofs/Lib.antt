@@ -7,3 +7,4 @@ pub mod Backward
 pub mod Texts
 pub mod Erasing
 pub mod Pushing
+pub mod Steps

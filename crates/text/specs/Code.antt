@@ -1,6 +1,6 @@
 -- What the code's values say of the definitions' ones.
 use Prim.Native.Nat.{_*_, _+_, _-_, _<_, _≤_, suc, zero, ℕ}
-use mathlib.Core.Bool.{Bool, cond}
+use mathlib.Core.Bool.{Bool, cond, false}
 use mathlib.Core.List.{List, [], _++_, _∷_, reverse, reverseAux}
 use mathlib.Core.Logic.{_≢_}
 use mathlib.Core.Path.{_≡_}
@@ -141,6 +141,12 @@ pendingOf line n a e = cond (eqb n 0) none (cond (eqb n 1) (held (partOf line a 
 unfoldable pub stateOf : List ℕ → List ℕ → Conversion → State
 stateOf line l st = state (backward (take (st .len) l)) (pendingOf line (st .pending) (st .at) (st .end)) (styleOf (st .before)) (styleOf (st .style))
 
+abbrev pub conversion : ℕ → ℕ → ℕ → ℕ → Overstrike → Overstrike → Conversion
+conversion n p a e b s = record { len = n; pending = p; at = a; end = e; before = b; style = s }
+
+abbrev pub plain : Overstrike
+plain = record { bold = false; underline = false }
+
 pub record Sound (line l : List ℕ) (st : Conversion) : Type 0 where
   pub inside : st .len ≤ length l
   pub valid : whole (take (st .len) l)
@@ -169,9 +175,9 @@ pushedOn line l st = push (partOf line (st .at) (st .end)) (push (asciis (orderO
 abbrev pub BackspaceStep : Profile → List ℕ → List ℕ → Conversion → Conversion → Type 0
 BackspaceStep P l l′ st r = (line : List ℕ) → Part line (st .at) (st .end) → Stepped line l′ r (backspaceOn P (stateOf line l st))
 
--- for any buffer: the cluster from a to e over the struck one takes the state st to the state r
-abbrev pub StruckStep : Profile → List ℕ → Conversion → ℕ → ℕ → Conversion → Type 0
-StruckStep P line st a e r = (l : List ℕ) → Sound line l st → Stepped line l r (clusterOn P (stateOf line l st) (partOf line a e))
+-- for any profile and buffer: the cluster from a to e over the struck one takes the state st to the state r
+abbrev pub StruckStep : List ℕ → Conversion → ℕ → ℕ → Conversion → Type 0
+StruckStep line st a e r = (P : Profile) (l : List ℕ) → Sound line l st → Stepped line l r (clusterOn P (stateOf line l st) (partOf line a e))
 
 -- what a step on the cluster from a to e needs: the weight bounds what the machine may still write
 pub record StepReady (line l : List ℕ) (st : Conversion) (a e : ℕ) : Type 0 where
@@ -183,6 +189,15 @@ pub record StepReady (line l : List ℕ) (st : Conversion) (a e : ℕ) : Type 0 
 pub record FinishReady (line l : List ℕ) (st : Conversion) : Type 0 where
   pub sound : Sound line l st
   pub room : weight (stateOf line l st) ≤ length l
+
+-- for any profile: the run's end takes the state st with the buffer l to r bytes of the buffer l′
+abbrev pub Finished : List ℕ → List ℕ → List ℕ → Conversion → ℕ → Type 0
+Finished line l l′ st r = (P : Profile) → Front l′ r (finishOn P (stateOf line l st))
+
+-- what writing the pending cluster needs: the room that it takes
+pub record PendingReady (line l : List ℕ) (st : Conversion) : Type 0 where
+  pub sound : Sound line l st
+  pub room : st .len + (length (orderOf (st .before) (st .style)) + (st .end - st .at)) ≤ length l
 
 -- the two clusters of a strike
 pub record Strike (line : List ℕ) (st : Conversion) (a e : ℕ) : Type 0 where

@@ -12,7 +12,7 @@ ghost use mathlib.Core.List.{[], _∷_};
 ghost use lib.ListN.{length, take, drop};
 ghost use Rattle.text.specs.Utf8.{sameBytes, decode, runs, bytesOf};
 ghost use Rattle.text.specs.Overstrike.{bolded, underlined, ambiguous, backspace, step, convertRun, convertPieces, hasBackspace};
-ghost use Rattle.text.specs.Code.{profileOf, runOf, whole, backward, Kept, Front, Pushed, styleOf, orderOf, partOf, stateOf, Sound, Stepped, clusterOn, finishOn, pushedOn, BackspaceStep, StruckStep, StepReady, FinishReady, Strike, Wrote, PieceDone};
+ghost use Rattle.text.specs.Code.{profileOf, runOf, whole, backward, Kept, Front, Pushed, styleOf, orderOf, partOf, stateOf, Sound, Stepped, clusterOn, finishOn, pushedOn, BackspaceStep, StruckStep, StepReady, FinishReady, PendingReady, Finished, conversion, plain, Strike, Wrote, PieceDone};
 
 // An overstrike style.
 pub struct Overstrike {
@@ -101,6 +101,227 @@ fn add_control_sequence(out: &mut [u8], len: usize, prev: Overstrike, style: Ove
         return push(out, len, b"\x1b[4m");
     }
     len
+}
+
+// The order and the pending cluster behind the result.
+fn write_pending(out: &mut [u8], line: &[u8], st: Conversion) -> usize
+    requires { ⌜ PendingReady (now line) (now out) st ⌝ }
+    ensures { λ r. ⌜ Front (now (out .exit)) r (pushedOn (now (line .entry)) (now (out .entry)) st) ⌝ }
+{
+    let before = st.before;
+    let style = st.style;
+    let n = add_control_sequence(out, st.len, before, style);
+    let at = st.at;
+    let end = st.end;
+    push(out, n, &line[at..end])
+}
+
+// A cluster that is a backspace.
+fn on_backspace(profile: Profile, out: &mut [u8], st: Conversion) -> Conversion
+    requires { ⌜ (st .len < length (now out)) × whole (take (st .len) (now out)) ⌝ }
+    ensures { λ r. ⌜ BackspaceStep (profileOf profile) (now (out .entry)) (now (out .exit)) st r ⌝ }
+{
+    let before = st.before;
+    let style = st.style;
+    if st.pending == 1 {
+        return Conversion {
+            len: st.len,
+            pending: 2,
+            at: st.at,
+            end: st.end,
+            before: before,
+            style: style,
+        };
+    }
+    let n = backspace(profile, out, st.len);
+    Conversion {
+        len: n,
+        pending: 0,
+        at: 0,
+        end: 0,
+        before: before,
+        style: Overstrike {
+            bold: false,
+            underline: false,
+        },
+    }
+}
+
+// Overstrike::bold
+fn bold(s: Overstrike) -> Overstrike
+    ensures { λ r. ⌜ styleOf r ≡ bolded (styleOf s) ⌝ }
+{
+    Overstrike {
+        bold: true,
+        underline: s.underline,
+    }
+}
+
+// Overstrike::underline
+fn underline(s: Overstrike) -> Overstrike
+    ensures { λ r. ⌜ styleOf r ≡ underlined (styleOf s) ⌝ }
+{
+    Overstrike {
+        bold: s.bold,
+        underline: true,
+    }
+}
+
+// Overstriking `_` with itself: the existing overstrike goes on if there is any.
+fn strike_underscore(before: Overstrike, style: Overstrike) -> Overstrike
+    ensures { λ r. ⌜ styleOf r ≡ ambiguous (styleOf before) (styleOf style) ⌝ }
+{
+    if style.bold | style.underline {
+        return Overstrike {
+            bold: true,
+            underline: true,
+        };
+    }
+    if before.bold | before.underline {
+        return before;
+    }
+    Overstrike {
+        bold: true,
+        underline: false,
+    }
+}
+
+fn same_bytes(x: &[u8], y: &[u8]) -> bool
+    ensures { λ r. ⌜ r ≡ sameBytes (now (x .entry)) (now (y .entry)) ⌝ }
+{
+    if x.len() != y.len() {
+        return false;
+    }
+    let mut i = 0;
+    while i < x.len() {
+        if x[i] != y[i] {
+            return false;
+        }
+        i += 1;
+    }
+    true
+}
+
+// Are the bytes this one alone?
+fn is_byte(x: &[u8], b: u8) -> bool
+    ensures { λ r. ⌜ r ≡ sameBytes (now (x .entry)) (b ∷ []) ⌝ }
+{
+    if x.len() == 1 {
+        return x[0] == b;
+    }
+    false
+}
+
+// The cluster from `at` to `end` held in the pending one's place.
+fn replace(st: Conversion, at: usize, end: usize, style: Overstrike) -> Conversion
+    ensures { λ r. ⌜ r ≡ conversion (st .len) 1 at end (st .before) style ⌝ }
+{
+    let before = st.before;
+    Conversion {
+        len: st.len,
+        pending: 1,
+        at: at,
+        end: end,
+        before: before,
+        style: style,
+    }
+}
+
+// The cluster from `at` to `end` over the struck one.
+fn strike(line: &[u8], st: Conversion, at: usize, end: usize) -> Conversion
+    requires { ⌜ Strike (now line) st at end ⌝ }
+    ensures { λ r. ⌜ StruckStep (now (line .entry)) st at end r ⌝ }
+{
+    let a = st.at;
+    let e = st.end;
+    let before = st.before;
+    let style = st.style;
+    let same = same_bytes(&line[a..e], &line[at..end]);
+    let upper = is_byte(&line[at..end], 0x5F);
+    let under = is_byte(&line[a..e], 0x5F);
+    if same {
+        if upper {
+            return replace(st, a, e, strike_underscore(before, style));
+        }
+        return replace(st, a, e, bold(style));
+    }
+    if upper {
+        return replace(st, a, e, underline(style));
+    }
+    if under {
+        return replace(st, at, end, underline(style));
+    }
+    replace(
+        st,
+        at,
+        end,
+        Overstrike {
+            bold: false,
+            underline: false,
+        },
+    )
+}
+
+// The cluster from `at` to `end` held behind a result of `len` bytes.
+fn hold(st: Conversion, len: usize, at: usize, end: usize) -> Conversion
+    ensures { λ r. ⌜ r ≡ conversion len 1 at end (st .style) plain ⌝ }
+{
+    let style = st.style;
+    Conversion {
+        len: len,
+        pending: 1,
+        at: at,
+        end: end,
+        before: style,
+        style: Overstrike {
+            bold: false,
+            underline: false,
+        },
+    }
+}
+
+// A step of convert_unicode_span: the cluster from `at` to `end` of the line.
+fn step(
+    profile: Profile,
+    out: &mut [u8],
+    line: &[u8],
+    st: Conversion,
+    at: usize,
+    end: usize,
+) -> Conversion
+    requires { ⌜ StepReady (now line) (now out) st at end ⌝ }
+    ensures { λ r. ⌜ Stepped (now (line .entry)) (now (out .exit)) r (step (profileOf profile) (stateOf (now (line .entry)) (now (out .entry)) st) (partOf (now (line .entry)) at end)) ⌝ }
+{
+    let back = is_byte(&line[at..end], 0x08);
+    if back {
+        return on_backspace(profile, out, st);
+    }
+    if st.pending == 0 {
+        return hold(st, st.len, at, end);
+    }
+    if st.pending == 1 {
+        let n = write_pending(out, line, st);
+        return hold(st, n, at, end);
+    }
+    strike(line, st, at, end)
+}
+
+// The run's end.
+fn finish(out: &mut [u8], line: &[u8], st: Conversion) -> usize
+    requires { ⌜ FinishReady (now line) (now out) st ⌝ }
+    ensures { λ r. ⌜ Finished (now (line .entry)) (now (out .entry)) (now (out .exit)) st r ⌝ }
+{
+    let before = st.before;
+    let style = st.style;
+    let normal = Overstrike {
+        bold: false,
+        underline: false,
+    };
+    if st.pending == 1 {
+        let n = write_pending(out, line, st);
+        return add_control_sequence(out, n, style, normal);
+    }
+    add_control_sequence(out, st.len, before, normal)
 }
 
 // A piece of a line read up to a place, and its conversion written up to a place.
