@@ -8,3 +8,5 @@ pub mod Texts
 pub mod Erasing
 pub mod Pushing
 pub mod Steps
+pub mod Converting
+pub mod Calling

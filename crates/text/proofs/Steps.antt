@@ -3,7 +3,7 @@ use Prim.Native.Nat.{_+_, _-_, _<_, _≤_, suc, ℕ}
 use native.Mathlib.Numerals.{add-one}
 use native.Mathlib.Omega.{arith}
 use mathlib.Core.Bool.{Bool, _&&_, _||_, cond, false, true}
-use mathlib.Core.List.{List, [], _∷_, reverse}
+use mathlib.Core.List.{List, [], _∷_, reverse, reverse-reverse}
 use mathlib.Core.Logic.{_≢_}
 use mathlib.Core.Path.{_∙_, _≡_, ap, refl, sym}
 use lib.Dec.{eqb}
@@ -19,7 +19,7 @@ use Rattle.text.specs.Utf8.{Scalar, asciis, bytesOf, decode, decodeFrom,
 use Rattle.text.specs.declared.overstrike.Conversion.{Conversion}
 use Rattle.text.specs.declared.overstrike.Overstrike.{Overstrike}
 use Rattle.text.proofs.Pushing.{front-push}
-use Rattle.text.proofs.Runs.{size-bytes, size-reverse}
+use Rattle.text.proofs.Runs.{part-slice, size-bytes, size-reverse}
 
 -- ---- parts of the line and fronts of a buffer
 
@@ -40,6 +40,10 @@ front-size l r out f =
     ∙ size-bytes (runOf (decode (take r l)))
     ∙ ap length (f .valid)
     ∙ length-take-le r l (f .inside)
+
+pub front-text : (l : List ℕ) (r : ℕ) (out : List Scalar) → Front l r out → runOf (decode (take r l)) ≡ reverse out
+unfolding backward
+front-text l r out f = sym (reverse-reverse (runOf (decode (take r l)))) ∙ ap reverse (f .scalars)
 
 part-size : (line : List ℕ) (a e : ℕ) → Part line a e → length (bytesOf (partOf line a e)) ≡ e - a
 part-size line a e p = ap length (p .valid) ∙ length-slice a e line (p .within)
@@ -158,7 +162,9 @@ hold-pushed P line l l′ st n a e k f u = record {
 -- ---- a strike
 
 module _ (line : List ℕ) (st : Conversion) (a e : ℕ) (w : Strike line st a e) (x uh ug : Bool)
-    (ex : x ≡ sameBytes (slice (st .at) (st .end) line) (slice a e line)) (eh : uh ≡ sameBytes (slice a e line) (0x5F ∷ [])) (eg : ug ≡ sameBytes (slice (st .at) (st .end) line) (0x5F ∷ [])) where
+    (xs : x ≡ sameBytes (take (st .end - st .at) (drop (st .at) line)) (take (e - a) (drop a line)))
+    (hs : uh ≡ sameBytes (take (e - a) (drop a line)) (0x5F ∷ []))
+    (gs : ug ≡ sameBytes (take (st .end - st .at) (drop (st .at) line)) (0x5F ∷ [])) where
   abbrev under : List Scalar
   under = partOf line (st .at) (st .end)
 
@@ -172,7 +178,7 @@ module _ (line : List ℕ) (st : Conversion) (a e : ℕ) (w : Strike line st a e
       ≡ cond x (cond uh (result l under (ambiguous (styleOf (st .before)) (styleOf (st .style)))) (result l under (bolded (styleOf (st .style)))))
       (cond uh (result l under (underlined (styleOf (st .style)))) (cond ug (result l upper (underlined (styleOf (st .style)))) (result l upper normal)))
   unfolding clusterOn stateOf pendingOf onCluster strike reads
-  struck-all P l = rw (ne-eqb (st .pending) 0 (w .notNone), ne-eqb (st .pending) 1 (w .notHeld), w .under .valid, w .upper .valid, ← ex, ← eh, ← eg) refl
+  struck-all P l = rw (ne-eqb (st .pending) 0 (w .notNone), ne-eqb (st .pending) 1 (w .notHeld), w .under .valid, w .upper .valid, ← part-slice (st .at) (st .end) line, ← part-slice a e line, ← xs, ← hs, ← gs) refl
 
   keeps : (P : Profile) (l : List ℕ) (r : Conversion) (o : Overstrike) (s : Style) → r ≡ conversion (st .len) 1 (st .at) (st .end) (st .before) o → styleOf o ≡ s → Sound line l st
       → result l under s ≡ clusterOn P (stateOf line l st) upper → Stepped line l r (clusterOn P (stateOf line l st) upper)
@@ -203,10 +209,11 @@ module _ (line : List ℕ) (st : Conversion) (a e : ℕ) (w : Strike line st a e
 
 -- ---- the step
 
-module _ (P : Profile) (line l : List ℕ) (st : Conversion) (a e : ℕ) (w : StepReady line l st a e) (b : Bool) (eb : b ≡ sameBytes (slice a e line) (0x08 ∷ [])) where
+module _ (P : Profile) (line l : List ℕ) (st : Conversion) (a e : ℕ) (w : StepReady line l st a e) (b : Bool)
+    (bs : b ≡ sameBytes (take (e - a) (drop a line)) (0x08 ∷ [])) where
   step-is : step P (stateOf line l st) (partOf line a e) ≡ cond b (backspaceOn P (stateOf line l st)) (clusterOn P (stateOf line l st) (partOf line a e))
   unfolding step backspaceOn clusterOn reads
-  step-is = rw (w .upper .valid, ← eb) refl
+  step-is = rw (w .upper .valid, ← part-slice a e line, ← bs) refl
 
   pub step-back : (l′ : List ℕ) (r : Conversion) → b ≡ true → BackspaceStep P l l′ st r → Stepped line l′ r (step P (stateOf line l st) (partOf line a e))
   step-back l′ r t f = let g = f line (w .sound .part) in record { same = g .same ∙ sym (rw t at step-is); sound = g .sound }

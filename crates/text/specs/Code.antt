@@ -7,17 +7,19 @@ use mathlib.Core.Path.{_≡_}
 use lib.Dec.{eqb}
 use lib.ListN.{drop, getD, length, take}
 use lib.Seq.{slice}
-use Rattle.text.specs.Class.{Profile}
+use Rattle.text.specs.Calls.{Converted}
+use Rattle.text.specs.Class.{Profile, number}
 use Rattle.text.specs.Cluster.{Context, after, classOf, clusters, context, joined, joins}
-use Rattle.text.specs.Overstrike.{Pending, State, Style, backspace, bold, boldUnderline, convertPieces, finish, held, none, normal, onBackspace, onCluster, order, push, state, struck, underline}
+use Rattle.text.specs.Overstrike.{Pending, State, Style, backspace, bold, boldUnderline, convertPieces, convertRun, finish, held, none, normal, onBackspace, onCluster, order, push, state, struck, underline}
 use Rattle.text.specs.Overstrike.Length.{weight}
 use Rattle.text.specs.Utf8.{Decoded, Scalar, ascii, asciis, bytesOf, decode, illFormed, runs, tail, wellFormed, within}
 use Rattle.text.specs.Width.{profile01}
 unfoldable pub use Rattle.text.specs.Utf8.{runOf}
+use Rattle.text.specs.declared.Answer.{Answer}
 use Rattle.text.specs.declared.cluster.Seen.{Seen}
 use Rattle.text.specs.declared.overstrike.Conversion.{Conversion}
 use Rattle.text.specs.declared.overstrike.Overstrike.{Overstrike}
-use Rattle.text.specs.declared.overstrike.Piece.{Piece}
+use Rattle.text.specs.declared.overstrike.Progress.{Progress}
 use Rattle.text.specs.declared.utf8.Sequence.{Sequence}
 use Rattle.text.specs.declared.class.Profile as code
 
@@ -211,9 +213,28 @@ pub record Wrote (l : List ℕ) (r : ℕ) (xs : List ℕ) : Type 0 where
   pub inside : r ≤ length l
   pub bytes : take r l ≡ xs
 
--- a piece of the line read from `at` on, and its conversion written behind the first `len` bytes
-pub record PieceDone (P : Profile) (line before after : List ℕ) (at len : ℕ) (r : Piece) : Type 0 where
-  pub further : at < r .read
+-- a valid text, with room for its conversion
+pub record SpanReady (line l : List ℕ) : Type 0 where
+  pub valid : whole line
+  pub room : 8 * length line ≤ length l
+
+pub record SpanDone (P : Profile) (line l : List ℕ) (r : ℕ) : Type 0 where
+  pub wrote : Wrote l r (bytesOf (convertRun P (runOf (decode line))))
+  pub small : r ≤ 8 * length line
+
+-- pieces read up to a place and written up to a place, with room for the rest
+pub record PieceReady (line l : List ℕ) (d : Progress) : Type 0 where
+  pub here : d .read < length line
+  pub room : d .written + 8 * (length line - d .read) ≤ length l
+
+pub record PieceDone (P : Profile) (line before after : List ℕ) (d r : Progress) : Type 0 where
+  pub further : d .read < r .read
   pub within : r .read ≤ length line
-  pub work : take (r .written) after ++ convertPieces P (runs (decode (drop (r .read) line))) ≡ take len before ++ convertPieces P (runs (decode (drop at line)))
+  pub work : take (r .written) after ++ convertPieces P (runs (decode (drop (r .read) line))) ≡ take (d .written) before ++ convertPieces P (runs (decode (drop (d .read) line)))
   pub room : r .written + 8 * (length line - r .read) ≤ length after
+
+-- ---- the call `convert`
+
+-- what it returned and left
+abbrev pub converted : Answer → List ℕ → Converted
+converted r l = record { number = r .number; count = r .count; conv = l }

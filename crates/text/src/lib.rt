@@ -1,4 +1,10 @@
 // Layer 1, text: UTF-8, classes, widths, clusters and overstrike conversion.
+ghost use mathlib.Core.Path.{_≡_};
+ghost use lib.ListN.{length};
+ghost use Rattle.text.specs.Width.{profile01};
+ghost use Rattle.text.specs.Calls.{convertCall};
+ghost use Rattle.text.specs.Code.{converted};
+
 pub mod class;
 pub mod cluster;
 pub mod overstrike;
@@ -10,3 +16,36 @@ pub struct BytePlace(pub usize);
 
 // A column of the screen, counted in cells.
 pub struct Column(pub usize);
+
+// What a call returns: 0 and a count, or the number of the question that refuses it and 0.
+#[repr(C)]
+pub struct Answer {
+    pub number: usize,
+    pub count: usize,
+}
+
+// The call `convert`: the converted line in conv and zeros after it.
+pub fn convert(line: &[u8], conv: &mut [u8]) -> Answer
+    ensures { λ r. ⌜ converted r (now (conv .exit)) ≡ convertCall profile01 (length (now (conv .entry))) (now (line .entry)) ⌝ }
+{
+    if line.len() > 4096 {
+        buffer::clear_bytes(conv, 0);
+        return Answer {
+            number: 1,
+            count: 0,
+        };
+    }
+    if conv.len() < 8 * line.len() {
+        buffer::clear_bytes(conv, 0);
+        return Answer {
+            number: 2,
+            count: 0,
+        };
+    }
+    let n = overstrike::convert_overstrike(class::Profile { version: 0 }, line, conv);
+    buffer::clear_bytes(conv, n);
+    Answer {
+        number: 0,
+        count: n,
+    }
+}

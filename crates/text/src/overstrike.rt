@@ -11,8 +11,8 @@ ghost use Prim.Native.Nat.{_+_, _-_, _*_, _≤_, _<_};
 ghost use mathlib.Core.List.{[], _∷_};
 ghost use lib.ListN.{length, take, drop};
 ghost use Rattle.text.specs.Utf8.{sameBytes, decode, runs, bytesOf};
-ghost use Rattle.text.specs.Overstrike.{bolded, underlined, ambiguous, backspace, step, convertRun, convertPieces, hasBackspace};
-ghost use Rattle.text.specs.Code.{profileOf, runOf, whole, backward, Kept, Front, Pushed, styleOf, orderOf, partOf, stateOf, Sound, Stepped, clusterOn, finishOn, pushedOn, BackspaceStep, StruckStep, StepReady, FinishReady, PendingReady, Finished, conversion, plain, Strike, Wrote, PieceDone};
+ghost use Rattle.text.specs.Overstrike.{bolded, underlined, ambiguous, backspace, step, convertRun, convertPieces, hasBackspace, convert};
+ghost use Rattle.text.specs.Code.{profileOf, runOf, whole, backward, Kept, Front, Pushed, styleOf, orderOf, partOf, stateOf, Sound, Stepped, clusterOn, finishOn, pushedOn, BackspaceStep, StruckStep, StepReady, FinishReady, PendingReady, Finished, conversion, plain, Strike, Wrote, SpanReady, SpanDone, PieceReady, PieceDone};
 
 // An overstrike style.
 pub struct Overstrike {
@@ -325,7 +325,96 @@ fn finish(out: &mut [u8], line: &[u8], st: Conversion) -> usize
 }
 
 // A piece of a line read up to a place, and its conversion written up to a place.
-pub struct Piece {
+pub struct Progress {
     pub read: usize,
     pub written: usize,
+}
+
+// convert_unicode_span: a valid text converted into the buffer.
+fn convert_unicode_span(profile: Profile, line: &[u8], out: &mut [u8]) -> usize
+    requires { ⌜ SpanReady (now line) (now out) ⌝ }
+    ensures { λ r. ⌜ SpanDone (profileOf profile) (now (line .entry)) (now (out .exit)) r ⌝ }
+{
+    let mut st = Conversion {
+        len: 0,
+        pending: 0,
+        at: 0,
+        end: 0,
+        before: Overstrike {
+            bold: false,
+            underline: false,
+        },
+        style: Overstrike {
+            bold: false,
+            underline: false,
+        },
+    };
+    let mut p = 0;
+    while p < line.len() {
+        let e = first_end(profile, line, p);
+        st = step(profile, out, line, st, p, e);
+        p = e;
+    }
+    finish(out, line, st)
+}
+
+// The piece of the line where the last one ended: a damaged byte copied, or a run converted.
+fn convert_piece(profile: Profile, line: &[u8], out: &mut [u8], done: Progress) -> Progress
+    requires { ⌜ PieceReady (now line) (now out) done ⌝ }
+    ensures { λ r. ⌜ PieceDone (profileOf profile) (now (line .entry)) (now (out .entry)) (now (out .exit)) done r ⌝ }
+{
+    let at = done.read;
+    let len = done.written;
+    let end = run_end(line, at);
+    if end == at {
+        out[len] = line[at];
+        return Progress {
+            read: at + 1,
+            written: len + 1,
+        };
+    }
+    let n = convert_unicode_span(profile, &line[at..end], &mut out[len..]);
+    Progress {
+        read: end,
+        written: len + n,
+    }
+}
+
+// The line converted piece by piece.
+fn convert_pieces(profile: Profile, line: &[u8], out: &mut [u8]) -> usize
+    requires { ⌜ 8 * length (now line) ≤ length (now out) ⌝ }
+    ensures { λ r. ⌜ Wrote (now (out .exit)) r (convertPieces (profileOf profile) (runs (decode (now (line .entry))))) ⌝ }
+{
+    let mut done = Progress {
+        read: 0,
+        written: 0,
+    };
+    while done.read < line.len() {
+        done = convert_piece(profile, line, out, done);
+    }
+    done.written
+}
+
+// Has the line a byte 08?
+fn has_backspace(line: &[u8]) -> bool
+    ensures { λ r. ⌜ r ≡ hasBackspace (now (line .entry)) ⌝ }
+{
+    let mut found = false;
+    let mut i = 0;
+    while i < line.len() {
+        found = found | (line[i] == 0x08);
+        i += 1;
+    }
+    found
+}
+
+// convert_overstrike: the line converted at the front of the buffer.
+pub fn convert_overstrike(profile: Profile, line: &[u8], out: &mut [u8]) -> usize
+    requires { ⌜ 8 * length (now line) ≤ length (now out) ⌝ }
+    ensures { λ r. ⌜ Wrote (now (out .exit)) r (convert (profileOf profile) (now (line .entry))) ⌝ }
+{
+    if has_backspace(line) {
+        return convert_pieces(profile, line, out);
+    }
+    buffer::copy_bytes(out, 0, line)
 }

@@ -1,10 +1,7 @@
 use Rattle.text.proofs.Steps.{bold-style}
 use Rattle.text.proofs.overstrike.bold.Statement.{statement}
 use Rattle.text.proofs.overstrike.bold.Tie as tie
-use Rattle.text.proofs.overstrike.bold.Reads as reads
-use Rattle.text.proofs.overstrike.bold.Lts as lts
 
--- src/overstrike.rt:151:1
 returns : tie.Need-returns
 returns c = bold-style (c .args .s .bold) (c .args .s .underline)
 

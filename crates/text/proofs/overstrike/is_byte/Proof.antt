@@ -2,18 +2,13 @@ use borrow.Author.Needs.{needs}
 use Rattle.text.proofs.Steps.{one-byte, same-long}
 use Rattle.text.proofs.overstrike.is_byte.Statement.{statement}
 use Rattle.text.proofs.overstrike.is_byte.Tie as tie
-use Rattle.text.proofs.overstrike.is_byte.Reads as reads
-use Rattle.text.proofs.overstrike.is_byte.Lts as lts
 
--- src/overstrike.rt:210:16
 shared-slice-read-result : tie.Need-shared-slice-read-result
 shared-slice-read-result c = search needs
 
--- src/overstrike.rt:210:9
 returns : tie.Need-returns
 returns c = one-byte _ _ (c .before .if1 .taken)
 
--- src/overstrike.rt:206:1
 returns-2 : tie.Need-returns-2
 returns-2 c = same-long _ _ (c .if1 .left)
 

@@ -7,8 +7,6 @@ use Rattle.text.specs.Utf8.{sameBytes}
 use Rattle.text.proofs.Steps.{same-end, same-long, same-on, same-stop}
 use Rattle.text.proofs.overstrike.same_bytes.Statement.{statement}
 use Rattle.text.proofs.overstrike.same_bytes.Tie as tie
-use Rattle.text.proofs.overstrike.same_bytes.Reads as reads
-use Rattle.text.proofs.overstrike.same_bytes.Lts as lts
 
 abbrev Inv-loop : tie.InvT-loop
 Inv-loop x y i₀ i = (i ≤ length x) × (length x ≡ length y) × (sameBytes x y ≡ sameBytes (drop i x) (drop i y))
@@ -16,39 +14,30 @@ Inv-loop x y i₀ i = (i ≤ length x) × (length x ≡ length y) × (sameBytes 
 abbrev μ-loop : tie.MeasureT-loop
 μ-loop x y i₀ i = length x - i
 
--- src/overstrike.rt:193:9
 returns : tie.Need-returns Inv-loop μ-loop
 returns c = same-long _ _ (c .if1 .taken)
 
--- src/overstrike.rt:196:5
 loop-holds : tie.Need-loop-holds Inv-loop μ-loop
 loop-holds c = (omega arith, c .if1 .left, refl)
 
--- src/overstrike.rt:197:12
 shared-slice-read-if2 : tie.Need-shared-slice-read-if2 Inv-loop μ-loop
 shared-slice-read-if2 c = search needs
 
--- src/overstrike.rt:197:20
 shared-slice-read-if2-2 : tie.Need-shared-slice-read-if2-2 Inv-loop μ-loop
 shared-slice-read-if2-2 c = omega (arith, c .before .before .before .loop .inv .1)
 
--- src/overstrike.rt:198:13
 returns-2 : tie.Need-returns-2 Inv-loop μ-loop
 returns-2 c = same-stop (c .before .before .before .before .before .before .args .x .now) (c .before .before .before .before .before .before .args .y .now) (c .before .before .before .before .loop .i) (c .before .before .before .before .loop .inv .1) (c .before .before .before .loop-test .taken) (c .before .before .before .before .loop .inv .2) (c .if2 .taken)
 
--- src/overstrike.rt:200:9
 add-i : tie.Need-add-i Inv-loop μ-loop
 add-i c = search needs
 
--- src/overstrike.rt:196:5
 loop-less : tie.Need-loop-less Inv-loop μ-loop
 loop-less c = search needs
 
--- src/overstrike.rt:196:5
 loop-again : tie.Need-loop-again Inv-loop μ-loop
 loop-again c = (omega arith, c .before .before .before .before .loop .inv .1, same-on (c .before .before .before .before .before .before .args .x .now) (c .before .before .before .before .before .before .args .y .now) (c .before .before .before .before .loop .i) (c .before .before .before .before .loop .inv .1) (c .before .before .before .loop-test .taken) (c .before .before .before .before .loop .inv .2) (c .if2 .left))
 
--- src/overstrike.rt:189:1
 returns-3 : tie.Need-returns-3 Inv-loop μ-loop
 returns-3 c = same-end (c .before .before .before .args .x .now) (c .before .before .before .args .y .now) (c .before .loop .i) (c .before .loop .inv .1) (c .loop-test .left) (c .before .loop .inv .2)
 

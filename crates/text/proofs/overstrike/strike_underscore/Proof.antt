@@ -2,20 +2,15 @@ use Rattle.text.specs.Code.{styleOf}
 use Rattle.text.proofs.Steps.{ambiguous-by}
 use Rattle.text.proofs.overstrike.strike_underscore.Statement.{statement}
 use Rattle.text.proofs.overstrike.strike_underscore.Tie as tie
-use Rattle.text.proofs.overstrike.strike_underscore.Reads as reads
-use Rattle.text.proofs.overstrike.strike_underscore.Lts as lts
 
--- src/overstrike.rt:175:9
 returns : tie.Need-returns
 unfolding styleOf
 returns c = rw (c .if1 .taken) at (ambiguous-by (c .before .before .args .before) (c .before .before .args .style))
 
--- src/overstrike.rt:181:9
 returns-2 : tie.Need-returns-2
 unfolding styleOf
 returns-2 c = rw (c .before .before .if1 .left, c .if2 .taken) at (ambiguous-by (c .before .before .before .before .args .before) (c .before .before .before .before .args .style))
 
--- src/overstrike.rt:171:1
 returns-3 : tie.Need-returns-3
 unfolding styleOf
 returns-3 c = rw (c .before .before .if1 .left, c .if2 .left) at (ambiguous-by (c .before .before .before .before .args .before) (c .before .before .before .before .args .style))

@@ -1,10 +1,7 @@
 use Rattle.text.proofs.Steps.{underline-style}
 use Rattle.text.proofs.overstrike.underline.Statement.{statement}
 use Rattle.text.proofs.overstrike.underline.Tie as tie
-use Rattle.text.proofs.overstrike.underline.Reads as reads
-use Rattle.text.proofs.overstrike.underline.Lts as lts
 
--- src/overstrike.rt:161:1
 returns : tie.Need-returns
 returns c = underline-style (c .args .s .bold) (c .args .s .underline)
 
