@@ -11,9 +11,9 @@ use lib.ListN.{drop, drop-of-length-le, getD, length, replicate, take}
 use lib.Seq.{drop-cons, length-take-le, take-at}
 use borrow.Author.Tests.{le-leb, lt-leb}
 use Rattle.buffer.specs.Sink.{Copied}
-use Rattle.text.specs.Calls.{convertCall, counted, decide, lent}
+use Rattle.text.specs.Calls.{Converted, convertCall, counted, decide, lent}
 use Rattle.text.specs.Class.{Profile, number}
-use Rattle.text.specs.Code.{Wrote, converted}
+use Rattle.text.specs.Code.{Wrote, converted, refusal}
 use Rattle.text.specs.Overstrike.{convert, convertPieces, hasBackspace}
 use Rattle.text.specs.Utf8.{decode, runs}
 
@@ -46,14 +46,17 @@ plain-line P line l l′ b r e t h k c =
 
 -- ---- the answers
 
-module _ (P : Profile) (line l : List ℕ) where
-  pub refused-long : (l′ : List ℕ) → 4096 < length line → l′ ≡ take 0 l ++ replicate (length l - 0) 0 → converted (record { number = 1; count = 0 }) l′ ≡ convertCall P (length l) line
-  unfolding convertCall decide lent counted
-  refused-long l′ h e = rw (e, lt-leb (length line) 4096 h, sub-zero) refl
+pub refused : (l l′ : List ℕ) (r : ℕ) → l′ ≡ take 0 l ++ replicate (length l - 0) 0 → converted (record { number = r; count = 0 }) l′ ≡ refusal r (length l)
+refused l l′ r e = rw (e, sub-zero) refl
 
-  pub refused-small : (l′ : List ℕ) → length line ≤ 4096 → length l < 8 * length line → l′ ≡ take 0 l ++ replicate (length l - 0) 0 → converted (record { number = 2; count = 0 }) l′ ≡ convertCall P (length l) line
+module _ (P : Profile) (line l : List ℕ) where
+  pub refused-long : (c : Converted) → 4096 < length line → c ≡ refusal 1 (length l) → c ≡ convertCall P (length l) line
   unfolding convertCall decide lent counted
-  refused-small l′ h k e = rw (e, le-leb (length line) 4096 h, lt-leb (8 * length line) (length l) k, sub-zero) refl
+  refused-long c h e = e ∙ sym (rw (lt-leb (length line) 4096 h) refl)
+
+  pub refused-small : (c : Converted) → length line ≤ 4096 → length l < 8 * length line → c ≡ refusal 2 (length l) → c ≡ convertCall P (length l) line
+  unfolding convertCall decide lent counted
+  refused-small c h k e = e ∙ sym (rw (le-leb (length line) 4096 h, lt-leb (8 * length line) (length l) k) refl)
 
   pub accepted : (l₁ l₂ : List ℕ) (n : ℕ) → length line ≤ 4096 → 8 * length line ≤ length l → length l₁ ≡ length l → Wrote l₁ n (convert P line) → l₂ ≡ take n l₁ ++ replicate (length l₁ - n) 0
       → converted (record { number = 0; count = n }) l₂ ≡ convertCall P (length l) line

@@ -5,7 +5,7 @@ use mathlib.Core.List.{List, [], _++_, _∷_, reverse, reverseAux}
 use mathlib.Core.Logic.{_≢_}
 use mathlib.Core.Path.{_≡_}
 use lib.Dec.{eqb}
-use lib.ListN.{drop, getD, length, take}
+use lib.ListN.{drop, getD, length, replicate, take}
 use lib.Seq.{slice}
 use Rattle.text.specs.Calls.{Converted}
 use Rattle.text.specs.Class.{Profile, number}
@@ -238,3 +238,6 @@ pub record PieceDone (P : Profile) (line before after : List ℕ) (d r : Progres
 -- what it returned and left
 abbrev pub converted : Answer → List ℕ → Converted
 converted r l = record { number = r .number; count = r .count; conv = l }
+
+abbrev pub refusal : ℕ → ℕ → Converted
+refusal r n = record { number = r; count = 0; conv = replicate n 0 }

@@ -3,7 +3,7 @@ ghost use mathlib.Core.Path.{_≡_};
 ghost use lib.ListN.{length};
 ghost use Rattle.text.specs.Width.{profile01};
 ghost use Rattle.text.specs.Calls.{convertCall};
-ghost use Rattle.text.specs.Code.{converted};
+ghost use Rattle.text.specs.Code.{converted, refusal};
 
 pub mod class;
 pub mod cluster;
@@ -24,23 +24,26 @@ pub struct Answer {
     pub count: usize,
 }
 
+// A refusal: zeros throughout.
+fn refuse(conv: &mut [u8], number: usize) -> Answer
+    ensures { λ r. ⌜ converted r (now (conv .exit)) ≡ refusal number (length (now (conv .entry))) ⌝ }
+{
+    buffer::clear_bytes(conv, 0);
+    Answer {
+        number: number,
+        count: 0,
+    }
+}
+
 // The call `convert`: the converted line in conv and zeros after it.
 pub fn convert(line: &[u8], conv: &mut [u8]) -> Answer
     ensures { λ r. ⌜ converted r (now (conv .exit)) ≡ convertCall profile01 (length (now (conv .entry))) (now (line .entry)) ⌝ }
 {
     if line.len() > 4096 {
-        buffer::clear_bytes(conv, 0);
-        return Answer {
-            number: 1,
-            count: 0,
-        };
+        return refuse(conv, 1);
     }
     if conv.len() < 8 * line.len() {
-        buffer::clear_bytes(conv, 0);
-        return Answer {
-            number: 2,
-            count: 0,
-        };
+        return refuse(conv, 2);
     }
     let n = overstrike::convert_overstrike(class::Profile { version: 0 }, line, conv);
     buffer::clear_bytes(conv, n);

@@ -4,8 +4,8 @@ use Rattle.text.proofs.Calling.{accepted, refused-long, refused-small}
 use Rattle.text.proofs.convert.Statement.{statement}
 use Rattle.text.proofs.convert.Tie as tie
 
-clear-bytes-requires : tie.Need-clear-bytes-requires
-clear-bytes-requires c κs = search needs
+refuse-requires : tie.Need-refuse-requires
+refuse-requires c κs = search needs
 
 same-length : tie.Need-same-length
 same-length c = search needs
@@ -16,8 +16,8 @@ returns c = search refused-long
 mul-if2 : tie.Need-mul-if2
 mul-if2 c = search needs
 
-clear-bytes-requires-2 : tie.Need-clear-bytes-requires-2
-clear-bytes-requires-2 c κs = search needs
+refuse-requires-2 : tie.Need-refuse-requires-2
+refuse-requires-2 c κs = search needs
 
 same-length-2 : tie.Need-same-length-2
 same-length-2 c = search needs
@@ -28,8 +28,8 @@ returns-2 c = search refused-small
 convert-overstrike-requires : tie.Need-convert-overstrike-requires
 convert-overstrike-requires c κs = search needs
 
-clear-bytes-requires-3 : tie.Need-clear-bytes-requires-3
-clear-bytes-requires-3 c κs = search needs
+clear-bytes-requires : tie.Need-clear-bytes-requires
+clear-bytes-requires c κs = search needs
 
 same-length-3 : tie.Need-same-length-3
 same-length-3 c = search needs
@@ -42,14 +42,14 @@ pub convert-spec : {M : Type 1} → statement M
 convert-spec =
     tie.close
     (tie.spec
-    clear-bytes-requires
+    refuse-requires
     same-length
     returns
     mul-if2
-    clear-bytes-requires-2
+    refuse-requires-2
     same-length-2
     returns-2
     convert-overstrike-requires
-    clear-bytes-requires-3
+    clear-bytes-requires
     same-length-3
     returns-3)
