@@ -4,3 +4,9 @@ pub mod Tails
 pub mod Runs
 pub mod Walks
 pub mod Backward
+pub mod Texts
+pub mod Erasing
+pub mod Pushing
+pub mod Steps
+pub mod Converting
+pub mod Calling

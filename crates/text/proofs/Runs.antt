@@ -114,3 +114,7 @@ part-slice zero n l = ap (λ (m : ℕ). take m l) (sub-zero n)
 part-slice (suc f) n [] = take-nil (n - suc f) ∙ sym (ap (drop (suc f)) (take-nil n))
 part-slice (suc f) zero (x ∷ l) = ap (λ (m : ℕ). take m (drop f l)) (let z : 0 - suc f ≡ 0 = omega arith in z)
 part-slice (suc f) (suc n) (x ∷ l) = ap (λ (m : ℕ). take m (drop f l)) (let z : suc n - suc f ≡ n - f = omega arith in z) ∙ part-slice f n l
+
+pub size-cons : (c : Scalar) (s : List Scalar) → size (c ∷ s) ≡ length (c .bytes) + size s
+unfolding size
+size-cons c s = refl

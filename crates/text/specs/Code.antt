@@ -1,15 +1,25 @@
 -- What the code's values say of the definitions' ones.
-use Prim.Native.Nat.{_+_, suc, zero, ℕ}
-use mathlib.Core.Bool.{Bool, cond}
-use mathlib.Core.List.{List, [], _∷_, reverseAux}
+use Prim.Native.Nat.{_*_, _+_, _-_, _<_, _≤_, suc, zero, ℕ}
+use mathlib.Core.Bool.{Bool, cond, false}
+use mathlib.Core.List.{List, [], _++_, _∷_, reverse, reverseAux}
+use mathlib.Core.Logic.{_≢_}
 use mathlib.Core.Path.{_≡_}
-use lib.ListN.{getD, length}
-use Rattle.text.specs.Class.{Profile}
+use lib.Dec.{eqb}
+use lib.ListN.{drop, getD, length, replicate, take}
+use lib.Seq.{slice}
+use Rattle.text.specs.Calls.{Converted}
+use Rattle.text.specs.Class.{Profile, number}
 use Rattle.text.specs.Cluster.{Context, after, classOf, clusters, context, joined, joins}
-use Rattle.text.specs.Utf8.{Decoded, Scalar, bytesOf, decode, illFormed, tail, wellFormed, within}
+use Rattle.text.specs.Overstrike.{Pending, State, Style, backspace, bold, boldUnderline, convertPieces, convertRun, finish, held, none, normal, onBackspace, onCluster, order, push, state, struck, underline}
+use Rattle.text.specs.Overstrike.Length.{weight}
+use Rattle.text.specs.Utf8.{Decoded, Scalar, ascii, asciis, bytesOf, decode, illFormed, runs, tail, wellFormed, within}
 use Rattle.text.specs.Width.{profile01}
 unfoldable pub use Rattle.text.specs.Utf8.{runOf}
+use Rattle.text.specs.declared.Answer.{Answer}
 use Rattle.text.specs.declared.cluster.Seen.{Seen}
+use Rattle.text.specs.declared.overstrike.Conversion.{Conversion}
+use Rattle.text.specs.declared.overstrike.Overstrike.{Overstrike}
+use Rattle.text.specs.declared.overstrike.Progress.{Progress}
 use Rattle.text.specs.declared.utf8.Sequence.{Sequence}
 use Rattle.text.specs.declared.class.Profile as code
 
@@ -83,3 +93,151 @@ module _ (P : Profile) where
 
   abbrev pub JoinsAt : List ℕ → ℕ → Bool → Type 0
   JoinsAt t q r = (c : Scalar) (rest es : List Scalar) → runOf (decode t) ≡ reverseAux rest (c ∷ es) → size rest ≡ q → r ≡ joins P rest c
+
+-- ---- overstrike: the result so far is a valid text at the front of a buffer
+
+-- a text's scalars, the last first
+unfoldable pub backward : List ℕ → List Scalar
+backward t = reverse (runOf (decode t))
+
+-- the place r that a backspace goes back to in t; the end of t where a backspace is added instead
+pub record Kept (P : Profile) (t : List ℕ) (r : ℕ) : Type 0 where
+  pub inside : r ≤ length t
+  pub erased : r < length t → (backward (take r t) ≡ backspace P (backward t)) × whole (take r t)
+  pub added : length t ≤ r → ascii 0x08 ∷ backward t ≡ backspace P (backward t)
+
+-- the first r bytes of the buffer l are a valid text with these scalars, the last first
+pub record Front (l : List ℕ) (r : ℕ) (out : List Scalar) : Type 0 where
+  pub inside : r ≤ length l
+  pub scalars : backward (take r l) ≡ out
+  pub valid : whole (take r l)
+
+-- xs written behind the first `len` bytes of a buffer
+pub record Pushed (before after : List ℕ) (len : ℕ) (xs : List ℕ) (r : ℕ) : Type 0 where
+  pub bytes : take r after ≡ take len before ++ xs
+  pub end : r ≡ len + length xs
+  pub inside : r ≤ length after
+
+unfoldable pub styleOf : Overstrike → Style
+styleOf o = cond (o .bold) (cond (o .underline) boldUnderline bold) (cond (o .underline) underline normal)
+
+-- the order from one overstrike to another
+abbrev pub orderOf : Overstrike → Overstrike → List ℕ
+orderOf b s = order (styleOf b) (styleOf s)
+
+-- the part of a line from a to e is valid text
+pub record Part (line : List ℕ) (a e : ℕ) : Type 0 where
+  pub ordered : a ≤ e
+  pub within : e ≤ length line
+  pub valid : whole (slice a e line)
+
+-- its scalars
+abbrev pub partOf : List ℕ → ℕ → ℕ → List Scalar
+partOf line a e = runOf (decode (slice a e line))
+
+-- the pending cluster, a part of the line: 0 none, 1 held, else struck
+unfoldable pub pendingOf : List ℕ → ℕ → ℕ → ℕ → Pending
+pendingOf line n a e = cond (eqb n 0) none (cond (eqb n 1) (held (partOf line a e)) (struck (partOf line a e)))
+
+-- the definition's state, of the line, the buffer and the code's state
+unfoldable pub stateOf : List ℕ → List ℕ → Conversion → State
+stateOf line l st = state (backward (take (st .len) l)) (pendingOf line (st .pending) (st .at) (st .end)) (styleOf (st .before)) (styleOf (st .style))
+
+abbrev pub conversion : ℕ → ℕ → ℕ → ℕ → Overstrike → Overstrike → Conversion
+conversion n p a e b s = record { len = n; pending = p; at = a; end = e; before = b; style = s }
+
+abbrev pub plain : Overstrike
+plain = record { bold = false; underline = false }
+
+pub record Sound (line l : List ℕ) (st : Conversion) : Type 0 where
+  pub inside : st .len ≤ length l
+  pub valid : whole (take (st .len) l)
+  pub part : Part line (st .at) (st .end)
+
+-- the code's state stands for the state t
+pub record Stepped (line l : List ℕ) (st : Conversion) (t : State) : Type 0 where
+  pub same : stateOf line l st ≡ t
+  pub sound : Sound line l st
+
+-- the steps on a state
+unfoldable pub backspaceOn : Profile → State → State
+backspaceOn P t = onBackspace P (t .out) (t .pending) (t .before) (t .style)
+
+unfoldable pub clusterOn : Profile → State → List Scalar → State
+clusterOn P t g = onCluster P (t .out) (t .pending) (t .before) (t .style) g
+
+unfoldable pub finishOn : Profile → State → List Scalar
+finishOn P t = finish P (t .out) (t .pending) (t .before) (t .style)
+
+-- the order and the pending cluster behind the result so far
+unfoldable pub pushedOn : List ℕ → List ℕ → Conversion → List Scalar
+pushedOn line l st = push (partOf line (st .at) (st .end)) (push (asciis (orderOf (st .before) (st .style))) (backward (take (st .len) l)))
+
+-- for any line: a backspace takes the state st with the buffer l to the state r with the buffer l′
+abbrev pub BackspaceStep : Profile → List ℕ → List ℕ → Conversion → Conversion → Type 0
+BackspaceStep P l l′ st r = (line : List ℕ) → Part line (st .at) (st .end) → Stepped line l′ r (backspaceOn P (stateOf line l st))
+
+-- for any profile and buffer: the cluster from a to e over the struck one takes the state st to the state r
+abbrev pub StruckStep : List ℕ → Conversion → ℕ → ℕ → Conversion → Type 0
+StruckStep line st a e r = (P : Profile) (l : List ℕ) → Sound line l st → Stepped line l r (clusterOn P (stateOf line l st) (partOf line a e))
+
+-- what a step on the cluster from a to e needs: the weight bounds what the machine may still write
+pub record StepReady (line l : List ℕ) (st : Conversion) (a e : ℕ) : Type 0 where
+  pub sound : Sound line l st
+  pub upper : Part line a e
+  pub room : weight (stateOf line l st) < length l
+
+-- what the run's end needs
+pub record FinishReady (line l : List ℕ) (st : Conversion) : Type 0 where
+  pub sound : Sound line l st
+  pub room : weight (stateOf line l st) ≤ length l
+
+-- for any profile: the run's end takes the state st with the buffer l to r bytes of the buffer l′
+abbrev pub Finished : List ℕ → List ℕ → List ℕ → Conversion → ℕ → Type 0
+Finished line l l′ st r = (P : Profile) → Front l′ r (finishOn P (stateOf line l st))
+
+-- what writing the pending cluster needs: the room that it takes
+pub record PendingReady (line l : List ℕ) (st : Conversion) : Type 0 where
+  pub sound : Sound line l st
+  pub room : st .len + (length (orderOf (st .before) (st .style)) + (st .end - st .at)) ≤ length l
+
+-- the two clusters of a strike
+pub record Strike (line : List ℕ) (st : Conversion) (a e : ℕ) : Type 0 where
+  pub notNone : st .pending ≢ 0
+  pub notHeld : st .pending ≢ 1
+  pub under : Part line (st .at) (st .end)
+  pub upper : Part line a e
+
+-- the front of a buffer is this text
+pub record Wrote (l : List ℕ) (r : ℕ) (xs : List ℕ) : Type 0 where
+  pub inside : r ≤ length l
+  pub bytes : take r l ≡ xs
+
+-- a valid text, with room for its conversion
+pub record SpanReady (line l : List ℕ) : Type 0 where
+  pub valid : whole line
+  pub room : 8 * length line ≤ length l
+
+pub record SpanDone (P : Profile) (line l : List ℕ) (r : ℕ) : Type 0 where
+  pub wrote : Wrote l r (bytesOf (convertRun P (runOf (decode line))))
+  pub small : r ≤ 8 * length line
+
+-- pieces read up to a place and written up to a place, with room for the rest
+pub record PieceReady (line l : List ℕ) (d : Progress) : Type 0 where
+  pub here : d .read < length line
+  pub room : d .written + 8 * (length line - d .read) ≤ length l
+
+pub record PieceDone (P : Profile) (line before after : List ℕ) (d r : Progress) : Type 0 where
+  pub further : d .read < r .read
+  pub within : r .read ≤ length line
+  pub work : take (r .written) after ++ convertPieces P (runs (decode (drop (r .read) line))) ≡ take (d .written) before ++ convertPieces P (runs (decode (drop (d .read) line)))
+  pub room : r .written + 8 * (length line - r .read) ≤ length after
+
+-- ---- the call `convert`
+
+-- what it returned and left
+abbrev pub converted : Answer → List ℕ → Converted
+converted r l = record { number = r .number; count = r .count; conv = l }
+
+abbrev pub refusal : ℕ → ℕ → Converted
+refusal r n = record { number = r; count = 0; conv = replicate n 0 }

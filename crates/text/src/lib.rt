@@ -1,6 +1,13 @@
 // Layer 1, text: UTF-8, classes, widths, clusters and overstrike conversion.
+ghost use mathlib.Core.Path.{_≡_};
+ghost use lib.ListN.{length};
+ghost use Rattle.text.specs.Width.{profile01};
+ghost use Rattle.text.specs.Calls.{convertCall};
+ghost use Rattle.text.specs.Code.{converted, refusal};
+
 pub mod class;
 pub mod cluster;
+pub mod overstrike;
 pub mod utf8;
 pub mod width;
 
@@ -9,3 +16,39 @@ pub struct BytePlace(pub usize);
 
 // A column of the screen, counted in cells.
 pub struct Column(pub usize);
+
+// What a call returns: 0 and a count, or the number of the question that refuses it and 0.
+#[repr(C)]
+pub struct Answer {
+    pub number: usize,
+    pub count: usize,
+}
+
+// A refusal: zeros throughout.
+fn refuse(conv: &mut [u8], number: usize) -> Answer
+    ensures { λ r. ⌜ converted r (now (conv .exit)) ≡ refusal number (length (now (conv .entry))) ⌝ }
+{
+    buffer::clear_bytes(conv, 0);
+    Answer {
+        number: number,
+        count: 0,
+    }
+}
+
+// The call `convert`: the converted line in conv and zeros after it.
+pub fn convert(line: &[u8], conv: &mut [u8]) -> Answer
+    ensures { λ r. ⌜ converted r (now (conv .exit)) ≡ convertCall profile01 (length (now (conv .entry))) (now (line .entry)) ⌝ }
+{
+    if line.len() > 4096 {
+        return refuse(conv, 1);
+    }
+    if conv.len() < 8 * line.len() {
+        return refuse(conv, 2);
+    }
+    let n = overstrike::convert_overstrike(class::Profile { version: 0 }, line, conv);
+    buffer::clear_bytes(conv, n);
+    Answer {
+        number: 0,
+        count: n,
+    }
+}

@@ -27,10 +27,10 @@ size-cons : (c : Scalar) (s : List Scalar) → size (c ∷ s) ≡ length (c .byt
 unfolding bytesOf
 size-cons c s = length-append (c .bytes) (bytesOf s)
 
-size-append : (s t : List Scalar) → size (s ++ t) ≡ size s + size t
+pub size-append : (s t : List Scalar) → size (s ++ t) ≡ size s + size t
 size-append s t = ap length (bytesOf-append s t) ∙ length-append (bytesOf s) (bytesOf t)
 
-size-push : (s t : List Scalar) → size (reverseAux s t) ≡ size s + size t
+pub size-push : (s t : List Scalar) → size (reverseAux s t) ≡ size s + size t
 unfolding bytesOf
 size-push [] t = omega arith
 size-push (c ∷ s) t =
@@ -61,7 +61,7 @@ module _ (P : Profile) where
 -- ---- what the machine may still write
 
 -- a style order on one side of a styled cluster has at most 8 bytes
-unfoldable cost : Style → ℕ
+unfoldable pub cost : Style → ℕ
 cost normal = 0
 cost bold = 8
 cost underline = 8
@@ -74,7 +74,7 @@ cost-le bold = le-refl 8
 cost-le underline = le-refl 8
 cost-le boldUnderline = le-refl 8
 
-order-size : (a b : Style) → size (asciis (order a b)) ≤ cost a + cost b
+pub order-size : (a b : Style) → size (asciis (order a b)) ≤ cost a + cost b
 unfolding cost order asciis bytesOf
 order-size normal normal = omega arith
 order-size normal bold = omega arith
@@ -93,12 +93,12 @@ order-size boldUnderline bold = omega arith
 order-size boldUnderline underline = omega arith
 order-size boldUnderline boldUnderline = omega arith
 
-unfoldable waiting : Pending → ℕ
+unfoldable pub waiting : Pending → ℕ
 waiting none = 0
 waiting (held g) = size g
 waiting (struck g) = size g + 8
 
-unfoldable weight : State → ℕ
+unfoldable pub weight : State → ℕ
 unfolding waiting
 weight t = size (t .out) + waiting (t .pending) + cost (t .before) + 2 * cost (t .style)
 
@@ -109,11 +109,11 @@ same-size [] (b ∷ t) h = absurd h
 same-size (a ∷ s) [] h = absurd h
 same-size (a ∷ s) (b ∷ t) h = ap suc (same-size s t (and-T (eqb a b) (sameBytes s t) h .1))
 
-cost-normal : cost normal ≡ 0
+pub cost-normal : cost normal ≡ 0
 unfolding cost
 cost-normal = refl
 
-start-weight : weight (state [] none normal normal) ≡ 0
+pub start-weight : weight (state [] none normal normal) ≡ 0
 unfolding weight bytesOf cost
 start-weight = refl
 
@@ -174,7 +174,7 @@ module _ (P : Profile) where
       omega arith
   onCluster-weight out (struck g) b s h f = strike-weight out b s g h f
 
-  step-weight : (t : State) (g : List Scalar) → Full g → weight (step P t g) ≤ weight t + 8 * size g
+  pub step-weight : (t : State) (g : List Scalar) → Full g → weight (step P t g) ≤ weight t + 8 * size g
   unfolding step
   step-weight t g f =
       pick-weight (reads g (0x08 ∷ [])) _ _ _
@@ -190,7 +190,7 @@ module _ (P : Profile) where
       let c = size-append g (joinAll gs) in
       omega arith
 
-  finish-size : (out : List Scalar) (p : Pending) (b s : Style) → size (finish P out p b s) ≤ weight (state out p b s)
+  pub finish-size : (out : List Scalar) (p : Pending) (b s : Style) → size (finish P out p b s) ≤ weight (state out p b s)
   unfolding finish weight
   finish-size out none b s = let k = size-push (asciis (order b normal)) out in let o = order-size b normal in let z = cost-normal in omega arith
   finish-size out (held g) b s =

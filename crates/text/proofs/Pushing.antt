@@ -1,0 +1,89 @@
+-- Bytes written behind a text in a buffer.
+use Prim.Native.Nat.{_+_, _≤_, ℕ}
+use native.Mathlib.Omega.{arith}
+use mathlib.Core.Bool.{Bool, _&&_, cond, false, not, true}
+use mathlib.Core.List.{List, [], _++_, _∷_, append-nil, reverse, reverseAux-append}
+use mathlib.Core.Path.{_∙_, _≡_, ap, refl}
+use lib.ListN.{drop, length, length-append, take}
+use lib.Seq.{length-take-le, take-at}
+use Rattle.buffer.specs.Sink.{Copied}
+use Rattle.text.specs.Code.{Front, Pushed, backward, orderOf, runOf, styleOf, whole}
+use Rattle.text.specs.Overstrike.{bold, order, push, underline}
+use Rattle.text.specs.Utf8.{Scalar, decode}
+use Rattle.text.specs.declared.overstrike.Overstrike.{Overstrike}
+use Rattle.text.proofs.Texts.{run-append, whole-append}
+
+-- a copy with room
+pub push-copied : (l l′ xs : List ℕ) (len r : ℕ) → len + length xs ≤ length l → length l′ ≡ length l → Copied l l′ len xs r → Pushed l l′ len xs r
+push-copied l l′ xs len r h k c =
+    let n : length (take len l ++ xs) ≡ len + length xs = length-append (take len l) xs ∙ ap (λ (m : ℕ). m + length xs) (length-take-le len l (omega arith)) in
+    record {
+      bytes = rw (c .bytes, c .end) (take-at (take len l ++ xs) (drop (len + length xs) l) (len + length xs) n);
+      end = c .end;
+      inside = omega (arith, c .end);
+    }
+
+pub push-none : (l : List ℕ) (len : ℕ) → len ≤ length l → Pushed l l len [] len
+push-none l len h = record { bytes = rw append-nil refl; end = omega arith; inside = h }
+
+-- a valid text behind a valid text
+pub front-push : (l l′ : List ℕ) (len r : ℕ) (xs : List ℕ) (out : List Scalar) → Front l len out → whole xs → Pushed l l′ len xs r → Front l′ r (push (runOf (decode xs)) out)
+unfolding backward
+front-push l l′ len r xs out t v w = record {
+  inside = w .inside;
+  scalars =
+      ap (λ (x : List ℕ). reverse (runOf (decode x))) (w .bytes)
+      ∙ ap reverse (run-append (runOf (decode (take len l))) (take len l) xs refl (t .valid))
+      ∙ reverseAux-append (runOf (decode (take len l))) (runOf (decode xs)) []
+      ∙ ap (λ (x : List Scalar). push (runOf (decode xs)) x) (t .scalars);
+  valid = rw (w .bytes) (whole-append (take len l) xs (t .valid) v);
+}
+
+-- ---- style orders
+
+-- the orders by what changes: bold off, bold on, underline off, underline on
+unfoldable pub changes : Bool → Bool → Bool → Bool → List ℕ
+changes boldOff boldOn underlineOff underlineOn =
+    cond boldOff
+    (cond underlineOff (0x1B ∷ 0x5B ∷ 0x32 ∷ 0x32 ∷ 0x3B ∷ 0x32 ∷ 0x34 ∷ 0x6D ∷ [])
+    (cond underlineOn (0x1B ∷ 0x5B ∷ 0x32 ∷ 0x32 ∷ 0x3B ∷ 0x34 ∷ 0x6D ∷ [])
+    (0x1B ∷ 0x5B ∷ 0x32 ∷ 0x32 ∷ 0x6D ∷ [])))
+    (cond boldOn
+    (cond underlineOff (0x1B ∷ 0x5B ∷ 0x32 ∷ 0x34 ∷ 0x3B ∷ 0x31 ∷ 0x6D ∷ [])
+    (cond underlineOn (0x1B ∷ 0x5B ∷ 0x31 ∷ 0x3B ∷ 0x34 ∷ 0x6D ∷ [])
+    (0x1B ∷ 0x5B ∷ 0x31 ∷ 0x6D ∷ [])))
+    (cond underlineOff (0x1B ∷ 0x5B ∷ 0x32 ∷ 0x34 ∷ 0x6D ∷ [])
+    (cond underlineOn (0x1B ∷ 0x5B ∷ 0x34 ∷ 0x6D ∷ []) [])))
+
+unfoldable pub changed : Overstrike → Overstrike → List ℕ
+unfolding changes
+changed b s = changes (b .bold && not (s .bold)) (not (b .bold) && s .bold) (b .underline && not (s .underline)) (not (b .underline) && s .underline)
+
+-- the sixteen transitions
+changed-bits : (a b c d : Bool) → changed (record { bold = a; underline = b }) (record { bold = c; underline = d }) ≡ orderOf (record { bold = a; underline = b }) (record { bold = c; underline = d })
+unfolding changed order styleOf
+changed-bits true true true true = refl
+changed-bits true true true false = refl
+changed-bits true true false true = refl
+changed-bits true true false false = refl
+changed-bits true false true true = refl
+changed-bits true false true false = refl
+changed-bits true false false true = refl
+changed-bits true false false false = refl
+changed-bits false true true true = refl
+changed-bits false true true false = refl
+changed-bits false true false true = refl
+changed-bits false true false false = refl
+changed-bits false false true true = refl
+changed-bits false false true false = refl
+changed-bits false false false true = refl
+changed-bits false false false false = refl
+
+pub changed-order : (b s : Overstrike) → changed b s ≡ orderOf b s
+changed-order b s = changed-bits (b .bold) (b .underline) (s .bold) (s .underline)
+
+pub order-room : (b s : Overstrike) (k len n : ℕ) → length (changed b s) ≡ k → len + length (orderOf b s) ≤ n → len + k ≤ n
+order-room b s k len n e h = rw (← e, changed-order b s) h
+
+pub order-pushed : (b s : Overstrike) (xs l l′ : List ℕ) (len r : ℕ) → xs ≡ changed b s → Pushed l l′ len xs r → Pushed l l′ len (orderOf b s) r
+order-pushed b s xs l l′ len r e p = rw (e ∙ changed-order b s) at p

@@ -1,0 +1,50 @@
+use Prim.Native.Nat.{_≤_}
+use native.Mathlib.Omega.{arith}
+use mathlib.Core.Path.{sym}
+use lib.ListN.{length}
+use lib.Seq.{length-take-le}
+use borrow.Author.Needs.{needs}
+use Rattle.text.proofs.Erasing.{erase-add, erase-back}
+use Rattle.text.proofs.overstrike.backspace.Statement.{statement}
+use Rattle.text.proofs.overstrike.backspace.Tie as tie
+
+slice-reshare-prefix-kept : tie.Need-slice-reshare-prefix-kept
+slice-reshare-prefix-kept c = search needs
+
+slice-aggregate-kept : tie.Need-slice-aggregate-kept
+slice-aggregate-kept c = let h : c .before .before .args .len ≤ length (c .before .before .args .out .now) = omega (arith, c .before .before .pre .0) in sym (length-take-le _ _ h)
+
+kept-requires : tie.Need-kept-requires
+kept-requires c κs = search needs
+
+same-length : tie.Need-same-length
+same-length c = search needs
+
+returns : tie.Need-returns
+returns c = erase-back _ (c .before .before .before .before .args .out .now) (c .before .before .before .before .args .len) _ (c .before .before .before .before .pre .0) (c .before .kept .ensures) (c .if1 .taken)
+
+slice-write-out : tie.Need-slice-write-out
+slice-write-out c = search needs
+
+add-result : tie.Need-add-result
+add-result c = search needs
+
+same-length-2 : tie.Need-same-length-2
+same-length-2 c = search needs
+
+returns-2 : tie.Need-returns-2
+returns-2 c = erase-add _ (c .before .before .before .before .args .out .now) (c .before .before .before .before .args .len) _ (c .before .before .before .before .pre .0) (c .before .before .before .before .pre .1) (c .before .kept .ensures) (c .if1 .left)
+
+pub backspace-spec : {M : Type 1} → statement M
+backspace-spec =
+    tie.close
+    (tie.spec
+    slice-reshare-prefix-kept
+    slice-aggregate-kept
+    kept-requires
+    same-length
+    returns
+    slice-write-out
+    add-result
+    same-length-2
+    returns-2)

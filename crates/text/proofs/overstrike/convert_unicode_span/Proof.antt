@@ -1,0 +1,53 @@
+use Prim.Native.Nat.{_-_}
+use mathlib.Core.Path.{_≡_}
+use lib.ListN.{length}
+use borrow.Author.Needs.{needs}
+use Rattle.text.specs.Code.{profileOf}
+use Rattle.text.proofs.Converting.{Running, running-begin, running-end, running-finish, running-less, running-ready, running-turn}
+use Rattle.text.proofs.overstrike.convert_unicode_span.Statement.{statement}
+use Rattle.text.proofs.overstrike.convert_unicode_span.Tie as tie
+
+abbrev Inv-loop : tie.InvT-loop
+Inv-loop profile line out₀ st₀ p₀ out st p = Running (profileOf profile) line out p st × (length out ≡ length out₀)
+
+abbrev μ-loop : tie.MeasureT-loop
+μ-loop profile line out₀ st₀ p₀ out st p = length line - p
+
+loop-holds : tie.Need-loop-holds Inv-loop μ-loop
+loop-holds c = (search running-begin, search needs)
+
+first-end-requires : tie.Need-first-end-requires Inv-loop μ-loop
+first-end-requires c κs = search needs
+
+step-requires : tie.Need-step-requires Inv-loop μ-loop
+step-requires c κs = search running-ready
+
+loop-less : tie.Need-loop-less Inv-loop μ-loop
+loop-less c = search running-less
+
+loop-again : tie.Need-loop-again Inv-loop μ-loop
+loop-again c = (search running-turn, search needs)
+
+finish-requires : tie.Need-finish-requires Inv-loop μ-loop
+finish-requires c κs = search running-finish
+
+same-length : tie.Need-same-length Inv-loop μ-loop
+same-length c = search needs
+
+returns : tie.Need-returns Inv-loop μ-loop
+returns c = search running-end
+
+pub convert-unicode-span-spec : {M : Type 1} → statement M
+convert-unicode-span-spec =
+    tie.close
+    (tie.spec
+    Inv-loop
+    μ-loop
+    loop-holds
+    first-end-requires
+    step-requires
+    loop-less
+    loop-again
+    finish-requires
+    same-length
+    returns)

@@ -1,0 +1,420 @@
+// Overstrike conversion: src/overstrike.rs. The result so far stands at the front of the buffer.
+use super::class::Profile;
+use super::class::is_control;
+use super::cluster::first_end;
+use super::cluster::last_start;
+use super::utf8::decode;
+use super::utf8::run_end;
+ghost use mathlib.Core.Path.{_≡_};
+ghost use mathlib.Core.Logic.{_≢_};
+ghost use Prim.Native.Nat.{_+_, _-_, _*_, _≤_, _<_};
+ghost use mathlib.Core.List.{[], _∷_};
+ghost use lib.ListN.{length, take, drop};
+ghost use Rattle.text.specs.Utf8.{sameBytes, decode, runs, bytesOf};
+ghost use Rattle.text.specs.Overstrike.{bolded, underlined, ambiguous, backspace, step, convertRun, convertPieces, hasBackspace, convert};
+ghost use Rattle.text.specs.Code.{profileOf, runOf, whole, backward, Kept, Front, Pushed, styleOf, orderOf, partOf, stateOf, Sound, Stepped, clusterOn, finishOn, pushedOn, BackspaceStep, StruckStep, StepReady, FinishReady, PendingReady, Finished, conversion, plain, Strike, Wrote, SpanReady, SpanDone, PieceReady, PieceDone};
+
+// An overstrike style.
+pub struct Overstrike {
+    pub bold: bool,
+    pub underline: bool,
+}
+
+// convert_unicode_span's variables: the length of the result, prev_grapheme as a part of the line (pending: 0 none, 1 held, 2 struck), prev_overstrike and overstrike.
+pub struct Conversion {
+    pub len: usize,
+    pub pending: u8,
+    pub at: usize,
+    pub end: usize,
+    pub before: Overstrike,
+    pub style: Overstrike,
+}
+
+// Where a backspace goes back to in a valid text: the start of its last cluster, or its end where a backspace is added instead.
+fn kept(profile: Profile, t: &[u8]) -> usize
+    requires { ⌜ whole (now t) ⌝ }
+    ensures { λ r. ⌜ Kept (profileOf profile) (now (t .entry)) r ⌝ }
+{
+    if t.len() == 0 {
+        return 0;
+    }
+    let q = last_start(profile, t);
+    let u = decode(t, q);
+    if is_control(u.code) {
+        return t.len();
+    }
+    q
+}
+
+// Erases the last cluster of the result, or adds a backspace.
+fn backspace(profile: Profile, out: &mut [u8], len: usize) -> usize
+    requires { ⌜ (len < length (now out)) × whole (take len (now out)) ⌝ }
+    ensures { λ r. ⌜ Front (now (out .exit)) r (backspace (profileOf profile) (backward (take len (now (out .entry))))) ⌝ }
+{
+    let k = kept(profile, &out[..len]);
+    if k < len {
+        return k;
+    }
+    out[len] = 0x08;
+    len + 1
+}
+
+// Bytes behind the result.
+fn push(out: &mut [u8], len: usize, src: &[u8]) -> usize
+    requires { ⌜ len + length (now src) ≤ length (now out) ⌝ }
+    ensures { λ r. ⌜ Pushed (now (out .entry)) (now (out .exit)) len (now (src .entry)) r ⌝ }
+{
+    buffer::copy_bytes(out, len, src)
+}
+
+// The style order from prev to style.
+fn add_control_sequence(out: &mut [u8], len: usize, prev: Overstrike, style: Overstrike) -> usize
+    requires { ⌜ len + length (orderOf prev style) ≤ length (now out) ⌝ }
+    ensures { λ r. ⌜ Pushed (now (out .entry)) (now (out .exit)) len (orderOf prev style) r ⌝ }
+{
+    let bold_off = prev.bold & !style.bold;
+    let bold_on = !prev.bold & style.bold;
+    let underline_off = prev.underline & !style.underline;
+    let underline_on = !prev.underline & style.underline;
+    if bold_off {
+        if underline_off {
+            return push(out, len, b"\x1b[22;24m");
+        }
+        if underline_on {
+            return push(out, len, b"\x1b[22;4m");
+        }
+        return push(out, len, b"\x1b[22m");
+    }
+    if bold_on {
+        if underline_off {
+            return push(out, len, b"\x1b[24;1m");
+        }
+        if underline_on {
+            return push(out, len, b"\x1b[1;4m");
+        }
+        return push(out, len, b"\x1b[1m");
+    }
+    if underline_off {
+        return push(out, len, b"\x1b[24m");
+    }
+    if underline_on {
+        return push(out, len, b"\x1b[4m");
+    }
+    len
+}
+
+// The order and the pending cluster behind the result.
+fn write_pending(out: &mut [u8], line: &[u8], st: Conversion) -> usize
+    requires { ⌜ PendingReady (now line) (now out) st ⌝ }
+    ensures { λ r. ⌜ Front (now (out .exit)) r (pushedOn (now (line .entry)) (now (out .entry)) st) ⌝ }
+{
+    let before = st.before;
+    let style = st.style;
+    let n = add_control_sequence(out, st.len, before, style);
+    let at = st.at;
+    let end = st.end;
+    push(out, n, &line[at..end])
+}
+
+// A cluster that is a backspace.
+fn on_backspace(profile: Profile, out: &mut [u8], st: Conversion) -> Conversion
+    requires { ⌜ (st .len < length (now out)) × whole (take (st .len) (now out)) ⌝ }
+    ensures { λ r. ⌜ BackspaceStep (profileOf profile) (now (out .entry)) (now (out .exit)) st r ⌝ }
+{
+    let before = st.before;
+    let style = st.style;
+    if st.pending == 1 {
+        return Conversion {
+            len: st.len,
+            pending: 2,
+            at: st.at,
+            end: st.end,
+            before: before,
+            style: style,
+        };
+    }
+    let n = backspace(profile, out, st.len);
+    Conversion {
+        len: n,
+        pending: 0,
+        at: 0,
+        end: 0,
+        before: before,
+        style: Overstrike {
+            bold: false,
+            underline: false,
+        },
+    }
+}
+
+// Overstrike::bold
+fn bold(s: Overstrike) -> Overstrike
+    ensures { λ r. ⌜ styleOf r ≡ bolded (styleOf s) ⌝ }
+{
+    Overstrike {
+        bold: true,
+        underline: s.underline,
+    }
+}
+
+// Overstrike::underline
+fn underline(s: Overstrike) -> Overstrike
+    ensures { λ r. ⌜ styleOf r ≡ underlined (styleOf s) ⌝ }
+{
+    Overstrike {
+        bold: s.bold,
+        underline: true,
+    }
+}
+
+// Overstriking `_` with itself: the existing overstrike goes on if there is any.
+fn strike_underscore(before: Overstrike, style: Overstrike) -> Overstrike
+    ensures { λ r. ⌜ styleOf r ≡ ambiguous (styleOf before) (styleOf style) ⌝ }
+{
+    if style.bold | style.underline {
+        return Overstrike {
+            bold: true,
+            underline: true,
+        };
+    }
+    if before.bold | before.underline {
+        return before;
+    }
+    Overstrike {
+        bold: true,
+        underline: false,
+    }
+}
+
+fn same_bytes(x: &[u8], y: &[u8]) -> bool
+    ensures { λ r. ⌜ r ≡ sameBytes (now (x .entry)) (now (y .entry)) ⌝ }
+{
+    if x.len() != y.len() {
+        return false;
+    }
+    let mut i = 0;
+    while i < x.len() {
+        if x[i] != y[i] {
+            return false;
+        }
+        i += 1;
+    }
+    true
+}
+
+// Are the bytes this one alone?
+fn is_byte(x: &[u8], b: u8) -> bool
+    ensures { λ r. ⌜ r ≡ sameBytes (now (x .entry)) (b ∷ []) ⌝ }
+{
+    if x.len() == 1 {
+        return x[0] == b;
+    }
+    false
+}
+
+// The cluster from `at` to `end` held in the pending one's place.
+fn replace(st: Conversion, at: usize, end: usize, style: Overstrike) -> Conversion
+    ensures { λ r. ⌜ r ≡ conversion (st .len) 1 at end (st .before) style ⌝ }
+{
+    let before = st.before;
+    Conversion {
+        len: st.len,
+        pending: 1,
+        at: at,
+        end: end,
+        before: before,
+        style: style,
+    }
+}
+
+// The cluster from `at` to `end` over the struck one.
+fn strike(line: &[u8], st: Conversion, at: usize, end: usize) -> Conversion
+    requires { ⌜ Strike (now line) st at end ⌝ }
+    ensures { λ r. ⌜ StruckStep (now (line .entry)) st at end r ⌝ }
+{
+    let a = st.at;
+    let e = st.end;
+    let before = st.before;
+    let style = st.style;
+    let same = same_bytes(&line[a..e], &line[at..end]);
+    let upper = is_byte(&line[at..end], 0x5F);
+    let under = is_byte(&line[a..e], 0x5F);
+    if same {
+        if upper {
+            return replace(st, a, e, strike_underscore(before, style));
+        }
+        return replace(st, a, e, bold(style));
+    }
+    if upper {
+        return replace(st, a, e, underline(style));
+    }
+    if under {
+        return replace(st, at, end, underline(style));
+    }
+    replace(
+        st,
+        at,
+        end,
+        Overstrike {
+            bold: false,
+            underline: false,
+        },
+    )
+}
+
+// The cluster from `at` to `end` held behind a result of `len` bytes.
+fn hold(st: Conversion, len: usize, at: usize, end: usize) -> Conversion
+    ensures { λ r. ⌜ r ≡ conversion len 1 at end (st .style) plain ⌝ }
+{
+    let style = st.style;
+    Conversion {
+        len: len,
+        pending: 1,
+        at: at,
+        end: end,
+        before: style,
+        style: Overstrike {
+            bold: false,
+            underline: false,
+        },
+    }
+}
+
+// A step of convert_unicode_span: the cluster from `at` to `end` of the line.
+fn step(
+    profile: Profile,
+    out: &mut [u8],
+    line: &[u8],
+    st: Conversion,
+    at: usize,
+    end: usize,
+) -> Conversion
+    requires { ⌜ StepReady (now line) (now out) st at end ⌝ }
+    ensures { λ r. ⌜ Stepped (now (line .entry)) (now (out .exit)) r (step (profileOf profile) (stateOf (now (line .entry)) (now (out .entry)) st) (partOf (now (line .entry)) at end)) ⌝ }
+{
+    let back = is_byte(&line[at..end], 0x08);
+    if back {
+        return on_backspace(profile, out, st);
+    }
+    if st.pending == 0 {
+        return hold(st, st.len, at, end);
+    }
+    if st.pending == 1 {
+        let n = write_pending(out, line, st);
+        return hold(st, n, at, end);
+    }
+    strike(line, st, at, end)
+}
+
+// The run's end.
+fn finish(out: &mut [u8], line: &[u8], st: Conversion) -> usize
+    requires { ⌜ FinishReady (now line) (now out) st ⌝ }
+    ensures { λ r. ⌜ Finished (now (line .entry)) (now (out .entry)) (now (out .exit)) st r ⌝ }
+{
+    let before = st.before;
+    let style = st.style;
+    let normal = Overstrike {
+        bold: false,
+        underline: false,
+    };
+    if st.pending == 1 {
+        let n = write_pending(out, line, st);
+        return add_control_sequence(out, n, style, normal);
+    }
+    add_control_sequence(out, st.len, before, normal)
+}
+
+// A piece of a line read up to a place, and its conversion written up to a place.
+pub struct Progress {
+    pub read: usize,
+    pub written: usize,
+}
+
+// convert_unicode_span: a valid text converted into the buffer.
+fn convert_unicode_span(profile: Profile, line: &[u8], out: &mut [u8]) -> usize
+    requires { ⌜ SpanReady (now line) (now out) ⌝ }
+    ensures { λ r. ⌜ SpanDone (profileOf profile) (now (line .entry)) (now (out .exit)) r ⌝ }
+{
+    let mut st = Conversion {
+        len: 0,
+        pending: 0,
+        at: 0,
+        end: 0,
+        before: Overstrike {
+            bold: false,
+            underline: false,
+        },
+        style: Overstrike {
+            bold: false,
+            underline: false,
+        },
+    };
+    let mut p = 0;
+    while p < line.len() {
+        let e = first_end(profile, line, p);
+        st = step(profile, out, line, st, p, e);
+        p = e;
+    }
+    finish(out, line, st)
+}
+
+// The piece of the line where the last one ended: a damaged byte copied, or a run converted.
+fn convert_piece(profile: Profile, line: &[u8], out: &mut [u8], done: Progress) -> Progress
+    requires { ⌜ PieceReady (now line) (now out) done ⌝ }
+    ensures { λ r. ⌜ PieceDone (profileOf profile) (now (line .entry)) (now (out .entry)) (now (out .exit)) done r ⌝ }
+{
+    let at = done.read;
+    let len = done.written;
+    let end = run_end(line, at);
+    if end == at {
+        out[len] = line[at];
+        return Progress {
+            read: at + 1,
+            written: len + 1,
+        };
+    }
+    let n = convert_unicode_span(profile, &line[at..end], &mut out[len..]);
+    Progress {
+        read: end,
+        written: len + n,
+    }
+}
+
+// The line converted piece by piece.
+fn convert_pieces(profile: Profile, line: &[u8], out: &mut [u8]) -> usize
+    requires { ⌜ 8 * length (now line) ≤ length (now out) ⌝ }
+    ensures { λ r. ⌜ Wrote (now (out .exit)) r (convertPieces (profileOf profile) (runs (decode (now (line .entry))))) ⌝ }
+{
+    let mut done = Progress {
+        read: 0,
+        written: 0,
+    };
+    while done.read < line.len() {
+        done = convert_piece(profile, line, out, done);
+    }
+    done.written
+}
+
+// Has the line a byte 08?
+fn has_backspace(line: &[u8]) -> bool
+    ensures { λ r. ⌜ r ≡ hasBackspace (now (line .entry)) ⌝ }
+{
+    let mut found = false;
+    let mut i = 0;
+    while i < line.len() {
+        found = found | (line[i] == 0x08);
+        i += 1;
+    }
+    found
+}
+
+// convert_overstrike: the line converted at the front of the buffer.
+pub fn convert_overstrike(profile: Profile, line: &[u8], out: &mut [u8]) -> usize
+    requires { ⌜ 8 * length (now line) ≤ length (now out) ⌝ }
+    ensures { λ r. ⌜ Wrote (now (out .exit)) r (convert (profileOf profile) (now (line .entry))) ⌝ }
+{
+    if has_backspace(line) {
+        return convert_pieces(profile, line, out);
+    }
+    buffer::copy_bytes(out, 0, line)
+}
