@@ -97,6 +97,7 @@ fn more(buf: &mut [u8], state: Input) -> Input {
 // All cases of the input. A proved loop has to end, so it counts its turns down, from a number that no run uses up.
 pub fn all(buf: &mut [u8]) -> Counts {
     let none = Counts {
+        convert: 0,
         scalars: 0,
         clusters: 0,
         different: 0,

@@ -2,6 +2,7 @@
 mod fields;
 mod input;
 mod published;
+mod recorded;
 
 ghost use Prim.Native.Nat.{_≤_};
 ghost use lib.ListN.{length};
@@ -9,6 +10,7 @@ use libc::STDOUT_FILENO;
 
 // How many cases of each kind were replayed, and how many were not answered as recorded.
 pub struct Counts {
+    pub convert: u64,
     pub scalars: u64,
     pub clusters: u64,
     pub different: u64,
@@ -41,6 +43,14 @@ fn tried(counts: Counts, s: &[u8], at: usize) -> Counts
     requires { ⌜ at ≤ length (now s) ⌝ }
 {
     let mut next = counts;
+    if fields::is_word(s, at, b"convert ") {
+        next.convert = std::num::wrapping_add_u64(counts.convert, 1);
+        next.different = std::num::wrapping_add_u64(
+            counts.different,
+            same(recorded::convert(s, fields::behind(s, at, b' '))),
+        );
+        return next;
+    }
     if fields::is_word(s, at, b"scalars ") {
         next.scalars = std::num::wrapping_add_u64(counts.scalars, 1);
         next.different = std::num::wrapping_add_u64(counts.different, same(is_met(s, at, false)));
@@ -78,6 +88,7 @@ fn print(name: &[u8], n: u64) {
 fn main() {
     let mut buf = io::large_buffer();
     let counts = input::all(&mut buf);
+    print(b"convert ", counts.convert);
     print(b"scalars ", counts.scalars);
     print(b"clusters ", counts.clusters);
     print(b"different ", counts.different);
