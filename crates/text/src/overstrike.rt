@@ -64,7 +64,24 @@ fn push(out: &mut [u8], len: usize, src: &[u8]) -> usize
     requires { ⌜ len + length (now src) ≤ length (now out) ⌝ }
     ensures { λ r. ⌜ Pushed (now (out .entry)) (now (out .exit)) len (now (src .entry)) r ⌝ }
 {
+    if src.len() == 1 {
+        out[len] = src[0];
+        return len + 1;
+    }
     buffer::copy_bytes(out, len, src)
+}
+
+// The style order from prev to style, where they differ.
+fn change_style(out: &mut [u8], len: usize, prev: Overstrike, style: Overstrike) -> usize
+    requires { ⌜ len + length (orderOf prev style) ≤ length (now out) ⌝ }
+    ensures { λ r. ⌜ Pushed (now (out .entry)) (now (out .exit)) len (orderOf prev style) r ⌝ }
+{
+    let bold = (prev.bold & !style.bold) | (!prev.bold & style.bold);
+    let underline = (prev.underline & !style.underline) | (!prev.underline & style.underline);
+    if bold | underline {
+        return add_control_sequence(out, len, prev, style);
+    }
+    len
 }
 
 // The style order from prev to style.
@@ -110,7 +127,7 @@ fn write_pending(out: &mut [u8], line: &[u8], st: Conversion) -> usize
 {
     let before = st.before;
     let style = st.style;
-    let n = add_control_sequence(out, st.len, before, style);
+    let n = change_style(out, st.len, before, style);
     let at = st.at;
     let end = st.end;
     push(out, n, &line[at..end])
@@ -319,9 +336,9 @@ fn finish(out: &mut [u8], line: &[u8], st: Conversion) -> usize
     };
     if st.pending == 1 {
         let n = write_pending(out, line, st);
-        return add_control_sequence(out, n, style, normal);
+        return change_style(out, n, style, normal);
     }
-    add_control_sequence(out, st.len, before, normal)
+    change_style(out, st.len, before, normal)
 }
 
 // A piece of a line read up to a place, and its conversion written up to a place.

@@ -5,8 +5,8 @@ use Rattle.text.proofs.Steps.{part-pushed, part-room}
 use Rattle.text.proofs.overstrike.write_pending.Statement.{statement}
 use Rattle.text.proofs.overstrike.write_pending.Tie as tie
 
-add-control-sequence-requires : tie.Need-add-control-sequence-requires
-add-control-sequence-requires c κs = omega (arith, c .before .before .before .before .before .pre .room)
+change-style-requires : tie.Need-change-style-requires
+change-style-requires c κs = omega (arith, c .before .before .before .before .before .pre .room)
 
 sub-push : tie.Need-sub-push
 sub-push c = omega (arith, c .before .before .before .before .before .before .before .before .before .pre .sound .part .ordered)
@@ -18,19 +18,19 @@ part-push-end : tie.Need-part-push-end
 part-push-end c = omega (arith, c .before .before .before .before .before .before .before .before .before .pre .sound .part .ordered, c .before .before .before .before .before .before .before .before .before .pre .sound .part .within)
 
 push-requires : tie.Need-push-requires
-push-requires c κs = rw (part-slice (c .before .before .before .before .before .before .before .before .before .before .args .st .at) (c .before .before .before .before .before .before .before .before .before .before .args .st .end) (c .before .before .before .before .before .before .before .before .before .before .args .line .now)) (part-room (c .before .before .before .before .before .before .before .before .before .before .args .line .now) (c .before .before .before .before .before .before .before .before .before .before .args .out .now) (c .before .before .before .before .before .before .before .before .before .before .args .st) (c .before .before .before .before .before .before .before .before .before .before .pre) (c .before .before .before .before .add-control-sequence .last .0) _ (c .before .before .before .before .add-control-sequence .ensures) (c .before .before .before .before .add-control-sequence .kept .0))
+push-requires c κs = rw (part-slice (c .before .before .before .before .before .before .before .before .before .before .args .st .at) (c .before .before .before .before .before .before .before .before .before .before .args .st .end) (c .before .before .before .before .before .before .before .before .before .before .args .line .now)) (part-room (c .before .before .before .before .before .before .before .before .before .before .args .line .now) (c .before .before .before .before .before .before .before .before .before .before .args .out .now) (c .before .before .before .before .before .before .before .before .before .before .args .st) (c .before .before .before .before .before .before .before .before .before .before .pre) (c .before .before .before .before .change-style .last .0) _ (c .before .before .before .before .change-style .ensures) (c .before .before .before .before .change-style .kept .0))
 
 same-length : tie.Need-same-length
 same-length c = search needs
 
 returns : tie.Need-returns
-returns c = part-pushed (c .before .before .before .before .before .before .before .before .before .before .before .before .before .args .line .now) (c .before .before .before .before .before .before .before .before .before .before .before .before .before .args .out .now) (c .before .before .before .before .before .before .before .before .before .before .before .before .before .args .st) (c .before .before .before .before .before .before .before .before .before .before .before .before .before .pre) (c .before .before .before .before .before .before .before .add-control-sequence .last .0) _ (c .before .before .before .before .before .before .before .add-control-sequence .ensures) (c .before .before .before .before .before .before .before .add-control-sequence .kept .0) _ _ (rw (part-slice (c .before .before .before .before .before .before .before .before .before .before .before .before .before .args .st .at) (c .before .before .before .before .before .before .before .before .before .before .before .before .before .args .st .end) (c .before .before .before .before .before .before .before .before .before .before .before .before .before .args .line .now)) at (c .before .before .push .ensures))
+returns c = part-pushed (c .before .before .before .before .before .before .before .before .before .before .before .before .before .args .line .now) (c .before .before .before .before .before .before .before .before .before .before .before .before .before .args .out .now) (c .before .before .before .before .before .before .before .before .before .before .before .before .before .args .st) (c .before .before .before .before .before .before .before .before .before .before .before .before .before .pre) (c .before .before .before .before .before .before .before .change-style .last .0) _ (c .before .before .before .before .before .before .before .change-style .ensures) (c .before .before .before .before .before .before .before .change-style .kept .0) _ _ (rw (part-slice (c .before .before .before .before .before .before .before .before .before .before .before .before .before .args .st .at) (c .before .before .before .before .before .before .before .before .before .before .before .before .before .args .st .end) (c .before .before .before .before .before .before .before .before .before .before .before .before .before .args .line .now)) at (c .before .before .push .ensures))
 
 pub write-pending-spec : {M : Type 1} → statement M
 write-pending-spec =
     tie.close
     (tie.spec
-    add-control-sequence-requires
+    change-style-requires
     sub-push
     part-push-start
     part-push-end
