@@ -247,6 +247,15 @@ pub quiet-class : (p : code.Profile) (x : ℕ) (b : Bool) → b ≡ inAny quiets
 unfolding profileOf quiet-ranges quiet-test clear quiets controls extends
 quiet-class p x b e t = sym (quiet-any quiets x tt (sym e ∙ t))
 
+-- the first range of Extend
+pub mark-class : (p : code.Profile) (x : ℕ) → (leb 0x300 x && leb x 0x36F) ≡ true → 3 ≡ number (profileOf p .class x)
+unfolding profileOf class01 number inAny extends clear controls
+mark-class p x e =
+    let q = and-T (leb 0x300 x) (leb x 0x36F) (true-T e) in
+    let lo : 0x300 ≤ x = leb→le _ _ (q .0) in
+    let hi : x ≤ 0x36F = leb→le _ _ (q .1) in
+    sym (rw (not-one 0x0D 0x300 0x36F x tt lo hi, not-one 0x0A 0x300 0x36F x tt lo hi, clear-any controls 0x300 0x36F x tt lo hi, e) refl)
+
 -- ---- widths of common scalars
 
 module _ (p : code.Profile) (x : ℕ) where

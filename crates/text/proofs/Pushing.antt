@@ -8,7 +8,7 @@ use mathlib.Core.Path.{_∙_, _≡_, ap, refl, sym}
 use lib.ListN.{drop, getD, length, length-append, length-set, set, take}
 use lib.Seq.{length-take-le, take-at, take-suc-set}
 use Rattle.buffer.specs.Sink.{Copied}
-use Rattle.text.specs.Code.{Front, Pushed, backward, orderOf, styleOf, whole}
+use Rattle.text.specs.Code.{Front, Pushed, backward, changedStyle, orderOf, styleOf, whole}
 use Rattle.text.specs.Overstrike.{bold, order, push, underline}
 use Rattle.text.specs.Tests.{or-false}
 use Rattle.text.specs.Utf8.{Scalar, decode, runOf}
@@ -97,8 +97,7 @@ pub order-pushed : (b s : Overstrike) (xs l l′ : List ℕ) (len r : ℕ) → x
 order-pushed b s xs l l′ len r e p = rw (e ∙ changed-order b s) at p
 
 -- nothing changes
-pub order-none : (b s : Overstrike) (l : List ℕ) (len : ℕ) → (((b .bold && not (s .bold)) || (not (b .bold) && s .bold)) || ((b .underline && not (s .underline)) || (not (b .underline) && s .underline))) ≡ false
-    → len + length (orderOf b s) ≤ length l → Pushed l l len (orderOf b s) len
+pub order-none : (b s : Overstrike) (l : List ℕ) (len : ℕ) → changedStyle b s ≡ false → len + length (orderOf b s) ≤ length l → Pushed l l len (orderOf b s) len
 unfolding changed changes
 order-none b s l len e h =
     let p = or-false ((b .bold && not (s .bold)) || (not (b .bold) && s .bold)) ((b .underline && not (s .underline)) || (not (b .underline) && s .underline)) e in

@@ -1,6 +1,6 @@
 -- What the code's values say of the definitions' ones.
 use Prim.Native.Nat.{_*_, _+_, _-_, _<_, _≤_, suc, zero, ℕ}
-use mathlib.Core.Bool.{Bool, _&&_, cond, false, not, true}
+use mathlib.Core.Bool.{Bool, _&&_, _||_, cond, false, not, true}
 use mathlib.Core.List.{List, [], _++_, _∷_, reverse, reverseAux}
 use mathlib.Core.Logic.{_≢_}
 use mathlib.Core.Path.{_≡_}
@@ -155,6 +155,10 @@ styleOf o = cond (o .bold) (cond (o .underline) boldUnderline bold) (cond (o .un
 abbrev pub orderOf : Overstrike → Overstrike → List ℕ
 orderOf b s = order (styleOf b) (styleOf s)
 
+-- they differ
+abbrev pub changedStyle : Overstrike → Overstrike → Bool
+changedStyle b s = ((b .bold && not (s .bold)) || (not (b .bold) && s .bold)) || ((b .underline && not (s .underline)) || (not (b .underline) && s .underline))
+
 -- the part of a line from a to e is valid text
 pub record Part (line : List ℕ) (a e : ℕ) : Type 0 where
   pub ordered : a ≤ e
@@ -243,14 +247,11 @@ pub record Wrote (l : List ℕ) (r : ℕ) (xs : List ℕ) : Type 0 where
   pub inside : r ≤ length l
   pub bytes : take r l ≡ xs
 
--- a valid text, with room for its conversion
-pub record SpanReady (line l : List ℕ) : Type 0 where
-  pub valid : whole line
-  pub room : 8 * length line ≤ length l
-
-pub record SpanDone (P : Profile) (line l : List ℕ) (r : ℕ) : Type 0 where
-  pub wrote : Wrote l r (bytesOf (convertRun P (runOf (decode line))))
-  pub small : r ≤ 8 * length line
+-- the run that a line begins with, converted
+pub record SpanDone (P : Profile) (line l : List ℕ) (r : Progress) : Type 0 where
+  pub wrote : Wrote l (r .written) (bytesOf (convertRun P (runOf (decode line))))
+  pub run : r .read ≡ size (runOf (decode line))
+  pub small : r .written ≤ 8 * r .read
 
 -- pieces read up to a place and written up to a place, with room for the rest
 pub record PieceReady (line l : List ℕ) (d : Progress) : Type 0 where

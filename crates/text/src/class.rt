@@ -88,6 +88,9 @@ pub fn class(profile: Profile, x: u32) -> u8
     if is_quiet(x) {
         return 11;
     }
+    if (0x300 <= x) & (x <= 0x36F) {
+        return 3;
+    }
     class_in_ranges(profile, x)
 }
 

@@ -1,5 +1,5 @@
 use borrow.Author.Needs.{needs}
-use Rattle.text.proofs.Ascii.{quiet-class}
+use Rattle.text.proofs.Ascii.{mark-class, quiet-class}
 use Rattle.text.proofs.class.class.Statement.{statement}
 use Rattle.text.proofs.class.class.Tie as tie
 
@@ -9,11 +9,15 @@ is-quiet-requires c κs = search needs
 returns : tie.Need-returns
 returns c = search quiet-class
 
+returns-2 : tie.Need-returns-2
+returns-2 c = mark-class _ _ (c .if2 .taken)
+
 class-in-ranges-requires : tie.Need-class-in-ranges-requires
 class-in-ranges-requires c κs = search needs
 
-returns-2 : tie.Need-returns-2
-returns-2 c = search needs
+returns-3 : tie.Need-returns-3
+returns-3 c = search needs
 
 pub class-spec : {M : Type 1} → statement M
-class-spec = tie.close (tie.spec is-quiet-requires returns class-in-ranges-requires returns-2)
+class-spec =
+    tie.close (tie.spec is-quiet-requires returns returns-2 class-in-ranges-requires returns-3)
