@@ -1,22 +1,22 @@
 -- A text read backward: the regional indicators that end at a place, a boundary there, and where the last cluster begins.
-use Prim.Native.Nat.{_<_, _≤_, ℕ}
+use Prim.Native.Nat.{_+_, _-_, _<_, _≤_, ℕ}
 use native.Mathlib.Omega.{arith}
 use mathlib.Core.Bool.{Bool, false, not, true}
 use mathlib.Core.List.{List, [], _∷_, reverse, reverse-reverse, reverseAux}
 use mathlib.Core.Logic.{_≢_}
-use mathlib.Core.Path.{_∙_, _≡_, ap, refl, sym}
-use lib.ListN.{drop, length}
+use mathlib.Core.Path.{_∙_, _≡_, ap, ap₂, refl, sym}
+use lib.ListN.{drop, getD, length}
 use borrow.Author.Tests.{ne-eqb}
 use Rattle.text.specs.Class.{Profile, among, number}
 use Rattle.text.specs.Cluster.{after, context, joined, joins}
-use Rattle.text.specs.Code.{JoinsAt, OddTo, back, contextOf, firstSequence, runOf, size, whole, withoutLast}
+use Rattle.text.specs.Code.{JoinsAt, Left, OddTo, asciiPair, back, contextOf, firstSequence, flip, regionalAt, size, whole, withoutLast}
 use Rattle.text.specs.Tests.{cases}
-use Rattle.text.specs.Utf8.{Scalar, decode, decodeFrom}
+use Rattle.text.specs.Utf8.{Scalar, decode, decodeFrom, runOf}
+use Rattle.text.specs.declared.utf8.Sequence.{Sequence}
+use Rattle.text.proofs.Ascii.{Apart, ascii-sequence, low-tail, pair-bytes, regional-back}
 use Rattle.text.proofs.Runs.{back-scalar, run-drop, run-head, run-inside, size-bytes, size-pos, size-reverse}
-
-pub flip : Bool → Bool → Bool
-flip true b = not b
-flip false b = b
+use Rattle.text.proofs.Tails.{back-here}
+use Rattle.text.specs.declared.class.Profile as code
 
 flip-not : (a b : Bool) → flip a (not b) ≡ flip (not a) b
 unfolding flip
@@ -28,14 +28,6 @@ flip-false : (a : Bool) → flip a false ≡ a
 unfolding flip
 flip-false true = refl
 flip-false false = refl
-
--- at the place i of t: the parity so far, and in total
-pub record Left (P : Profile) (t : List ℕ) (i : ℕ) (odd total : Bool) : Type 0 where
-  pub rest : List Scalar
-  pub es : List Scalar
-  pub parts : runOf (decode t) ≡ reverseAux rest es
-  pub place : size rest ≡ i
-  pub parity : total ≡ flip odd (context P rest .odd)
 
 -- at the place q of t, where a scalar of its last cluster begins
 pub record At (P : Profile) (t : List ℕ) (q total : ℕ) : Type 0 where
@@ -97,6 +89,11 @@ module _ (P : Profile) where
   end-by t odd total [] es p q w = sym (w ∙ ap (flip odd) odd-none ∙ flip-false odd)
   end-by t odd total (d ∷ rest) es p q w = let h = size-pos d rest es t p in absurd (omega arith)
 
+  -- by the bytes of a regional indicator
+  pub odd-bytes : (t : List ℕ) (i : ℕ) (odd total : Bool) (j : ℕ) → 4 ≤ i → i ≤ length t → j ≡ i - 4 → regionalAt t j ≡ true → number (P .class (firstSequence (decode (drop j t)) .code)) ≡ 10
+      → Left P t i odd total → Left P t j (not odd) total
+  odd-bytes t i odd total j h g e r f l = odd-on t i odd total j 10 (omega arith) (sym (regional-back t i j h e r)) (sym f) refl l
+
   pub odd-end : (t : List ℕ) (i : ℕ) (odd total : Bool) → i ≤ 0 → Left P t i odd total → odd ≡ total
   odd-end t i odd total h l = end-by t odd total (l .rest) (l .es) (l .parts) (rw (l .place) h) (l .parity)
 
@@ -124,6 +121,21 @@ module _ (P : Profile) where
 
     pub joins-other : odd ≡ false → (p ≢ 10) → JoinsAt P t q r
     joins-other n m = joins-by (λ d rest es h s x. n ∙ sym (odd-other d rest (λ w. m (x ∙ w))))
+
+  -- a pair of bytes below 80
+  pub joins-ascii : (t : List ℕ) (q i : ℕ) → (q ≢ 0) → q < length t → i ≡ q - 1 → Apart P → asciiPair t i ≡ true → JoinsAt P t q false
+  unfolding joins size
+  joins-ascii t q i z h j g f c [] es p s = refl
+  joins-ascii t q i z h j g f c (d ∷ rest) es p s =
+      let n : i + 1 ≡ q = omega arith in
+      let w = pair-bytes t i f in
+      let u : back t q ≡ i = sym (back-here t q i (getD t i 0) (omega arith) j refl (low-tail (getD t i 0) (w .first))) in
+      let v : i ≡ size rest = sym u ∙ ap (back t) (sym s) ∙ back-scalar d rest (c ∷ es) t p in
+      let x : number (P .class (getD t i 0)) ≡ number (P .class (d .code)) =
+      class-of t i (number (P .class (getD t i 0))) d rest (c ∷ es) p v (ap (λ (y : Sequence). number (P .class (y .code))) (ascii-sequence t i (getD t i 0) (omega arith) refl (w .first))) in
+      let y : number (P .class (getD t q 0)) ≡ number (P .class (c .code)) =
+      class-of t q (number (P .class (getD t q 0))) c (d ∷ rest) es p (sym s) (ap (λ (m : Sequence). number (P .class (m .code))) (ascii-sequence t q (getD t q 0) h refl (rw n at (w .second)))) in
+      sym (ap₂ (λ (m n : ℕ). joined m (context P (d ∷ rest)) n) (sym x) (sym y) ∙ g (getD t i 0) (getD t q 0) (context P (d ∷ rest)) (w .first) (rw n at (w .second)) (w .plain))
 
   -- ---- the last cluster
 

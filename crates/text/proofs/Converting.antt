@@ -5,36 +5,40 @@ use native.Mathlib.Numerals.{add-one}
 use native.Mathlib.Omega.{arith}
 use mathlib.Core.List.{List, [], _++_, _∷_, append-assoc, append-nil, reverse, reverse-reverse, reverseAux, reverseAux-eq}
 use mathlib.Core.Logic.{_≢_}
-use mathlib.Core.Path.{_∙_, _≡_, ap, refl, sym}
+use mathlib.Core.Path.{_∙_, _≡_, ap, ap₂, refl, sym}
 use lib.ListN.{drop, drop-of-length-le, getD, length, length-append, length-drop, length-set, length-take, set, take, take-append-drop}
-use lib.Seq.{drop-append-seam, drop-cons, drop-drop, length-take-le, slice, take-append-add, take-append-le, take-suc-set}
+use lib.Seq.{drop-cons, drop-drop, length-take-le, slice, take-all, take-append-add, take-append-le, take-at, take-suc-set}
 use Rattle.buffer.specs.Sink.{written}
 use Rattle.text.specs.Class.{Profile}
 use Rattle.text.specs.Cluster.{clusters, clustersAfter}
 use Rattle.text.specs.Cluster.Laws.{clusters-first, further}
-use Rattle.text.specs.Code.{FinishReady, Finished, Part, PieceDone, PieceReady, Sound, SpanDone, SpanReady, StepReady, Stepped, Wrote, backward, conversion, finishOn, firstOf, firstSize, partOf, pendingOf, plain, runOf, size, stateOf, styleOf, whole}
+use Rattle.text.specs.Code.{FinishReady, Finished, Part, PieceDone, PieceReady, Sound, SpanDone, StepReady, Stepped, Wrote, backward, conversion, finishOn, firstOf, firstSize, partOf, pendingOf, plain, size, stateOf, styleOf, whole}
 use Rattle.text.specs.Overstrike.{State, convertPieces, convertRun, none, normal, state, step, steps}
 use Rattle.text.specs.Overstrike.Length.{finish-size, start-weight, step-weight, weight}
-use Rattle.text.specs.Utf8.{Decoded, Piece, Scalar, addToRun, bytesOf, decode, decodeFrom, illFormed, run, runs, sequence, value, wellFormed, within}
+use Rattle.text.specs.Utf8.{Decoded, Piece, Scalar, addToRun, bytesOf, decode, decodeFrom, illFormed, run, runOf, runs, sequence, value, wellFormed, within}
 use Rattle.text.specs.Utf8.Laws.{bytesOf-append, decode-bad, decode-good, sequence-le}
+use Rattle.text.specs.Utf8.Valid.{valid}
 use Rattle.text.specs.declared.overstrike.Conversion.{Conversion}
 use Rattle.text.specs.declared.overstrike.Progress.{Progress}
 use Rattle.text.proofs.Runs.{Head, no-head, part-slice, run-drop, run-head, size-bytes, size-cons, size-reverse}
 use Rattle.text.proofs.Steps.{front-size, front-text, part-none}
 use Rattle.text.proofs.Texts.{run-prefix}
 use Rattle.text.proofs.Units.{run-end, run-more}
+use Rattle.text.proofs.Walks.{first-none, first-size}
 
 -- ---- the run of a text and what stands behind it
+
+size-none : size [] ≡ 0
+unfolding size
+size-none = refl
 
 run-behind : (g rest : List Scalar) (t : List ℕ) → runOf (decode t) ≡ g ++ rest → runOf (decode (drop (size g) t)) ≡ rest
 run-behind g rest t e =
     let q : runOf (decode t) ≡ reverseAux (reverse g) rest = e ∙ sym (reverseAux-eq (reverse g) rest ∙ ap (λ (x : List Scalar). x ++ rest) (reverse-reverse g)) in
     rw (size-reverse g) at (run-drop (reverse g) rest t q)
 
-whole-behind : (g rest : List Scalar) (t : List ℕ) → runOf (decode t) ≡ g ++ rest → whole t → whole (drop (size g) t)
-whole-behind g rest t e w =
-    let b : bytesOf g ++ bytesOf rest ≡ t = sym (bytesOf-append g rest) ∙ ap bytesOf (sym e) ∙ w in
-    ap bytesOf (run-behind g rest t e) ∙ sym (rw (← b, size-bytes g) (drop-append-seam (bytesOf g) (bytesOf rest)))
+size-both : (a b : List Scalar) → size (a ++ b) ≡ size a + size b
+size-both a b = size-bytes (a ++ b) ∙ ap length (bytesOf-append a b) ∙ length-append (bytesOf a) (bytesOf b) ∙ ap₂ (λ (m n : ℕ). m + n) (sym (size-bytes a)) (sym (size-bytes b))
 
 -- ---- the cluster at a place
 
@@ -45,12 +49,12 @@ record ClusterAt (P : Profile) (line : List ℕ) (p e : ℕ) : Type 0 where
   full : 1 ≤ length (bytesOf g)
   part : Part line p e
   same-part : partOf line p e ≡ g
-  next : whole (drop e line)
+  sizes : size (runOf (decode (drop p line))) ≡ length (bytesOf g) + size (runOf (decode (drop e line)))
 
-cluster-by : (P : Profile) (line : List ℕ) (p e : ℕ) (c : Scalar) (s : List Scalar) → runOf (decode (drop p line)) ≡ c ∷ s → p ≤ length line → whole (drop p line)
+cluster-by : (P : Profile) (line : List ℕ) (p e : ℕ) (c : Scalar) (s : List Scalar) → runOf (decode (drop p line)) ≡ c ∷ s → p ≤ length line
     → e ≡ p + firstSize P (runOf (decode (drop p line))) → ClusterAt P line p e
 unfolding firstSize firstOf
-cluster-by P line p e c s q h w i =
+cluster-by P line p e c s q h i =
     let n : ℕ = further P (c ∷ []) s in
     let g : List Scalar = c ∷ take n s in
     let rest : List Scalar = drop n s in
@@ -72,16 +76,26 @@ cluster-by P line p e c s q h w i =
       full = omega arith;
       part = record { ordered = omega arith; within = omega (arith, rw (length-drop p line) at le); valid = rw cut (ap bytesOf (pre .0) ∙ pre .1) };
       same-part = rw cut (pre .0);
-      next = rw d at (whole-behind g rest (drop p line) all w);
+      sizes = ap size all ∙ size-both g rest ∙ ap₂ (λ (m n : ℕ). m + n) z (ap size (sym (ap (λ (x : List ℕ). runOf (decode x)) (sym d) ∙ run-behind g rest (drop p line) all)));
     }
 
-cluster-at : (P : Profile) (line : List ℕ) (p e : ℕ) → p < length line → whole (drop p line) → e ≡ p + firstSize P (runOf (decode (drop p line))) → ClusterAt P line p e
-unfolding bytesOf
-cluster-at P line p e h w i = go (runOf (decode (drop p line))) refl
+cluster-at : (P : Profile) (line : List ℕ) (p e : ℕ) → p < length line → e ≡ p + firstSize P (runOf (decode (drop p line))) → (e ≢ p) → ClusterAt P line p e
+cluster-at P line p e h i n = go (runOf (decode (drop p line))) refl
   where
     go : (cs : List Scalar) → runOf (decode (drop p line)) ≡ cs → ClusterAt P line p e
-    go [] q = let z : 0 ≡ length (drop p line) = ap (λ (x : List Scalar). length (bytesOf x)) (sym q) ∙ ap length w in absurd (omega (arith, rw (length-drop p line) at z))
-    go (c ∷ s) q = cluster-by P line p e c s q (omega arith) w i
+    go [] q = absurd (n (i ∙ ap (λ (x : List Scalar). p + firstSize P x) q ∙ rw (first-none P, add-zero) refl))
+    go (c ∷ s) q = cluster-by P line p e c s q (omega arith) i
+
+-- no cluster begins at a damaged byte
+no-cluster : (P : Profile) (line : List ℕ) (p e : ℕ) → e ≡ p + firstSize P (runOf (decode (drop p line))) → e ≡ p → runOf (decode (drop p line)) ≡ []
+no-cluster P line p e i n = go (runOf (decode (drop p line))) refl
+  where
+    go : (cs : List Scalar) → runOf (decode (drop p line)) ≡ cs → runOf (decode (drop p line)) ≡ []
+    go [] q = q
+    go (c ∷ s) q =
+        let f = first-size P c s in
+        let z : firstSize P (runOf (decode (drop p line))) ≡ firstSize P (c ∷ s) = ap (firstSize P) q in
+        absurd (omega (arith, run-head (drop p line) c s q .some))
 
 -- ---- the loop over a run's clusters
 
@@ -89,7 +103,7 @@ cluster-at P line p e h w i = go (runOf (decode (drop p line))) refl
 pub record Running (P : Profile) (line l : List ℕ) (p : ℕ) (st : Conversion) : Type 0 where
   pub sound : Sound line l st
   pub here : p ≤ length line
-  pub rest : whole (drop p line)
+  pub run : p + size (runOf (decode (drop p line))) ≡ size (runOf (decode line))
   pub work : steps P (stateOf line l st) (clusters P (runOf (decode (drop p line)))) ≡ steps P (state [] none normal normal) (clusters P (runOf (decode line)))
   pub small : weight (stateOf line l st) ≤ 8 * p
   pub room : 8 * length line ≤ length l
@@ -98,20 +112,20 @@ start-state : (line l : List ℕ) → stateOf line l (conversion 0 0 0 0 plain p
 unfolding stateOf pendingOf styleOf backward runOf decode decodeFrom
 start-state line l = refl
 
-pub running-begin : (P : Profile) (line l : List ℕ) → SpanReady line l → Running P line l 0 (conversion 0 0 0 0 plain plain)
+pub running-begin : (P : Profile) (line l : List ℕ) → 8 * length line ≤ length l → Running P line l 0 (conversion 0 0 0 0 plain plain)
 unfolding runOf decode decodeFrom bytesOf
-running-begin P line l w = record {
+running-begin P line l h = record {
   sound = record { inside = omega arith; valid = refl; part = part-none line };
   here = omega arith;
-  rest = w .valid;
+  run = omega arith;
   work = ap (λ (t : State). steps P t (clusters P (runOf (decode line)))) (start-state line l);
   small = rw (start-state line l, start-weight) (omega arith);
-  room = w .room;
+  room = h;
 }
 
-module _ (P : Profile) (line l : List ℕ) (p e : ℕ) (st : Conversion) (w : Running P line l p st) (h : p < length line) (i : e ≡ p + firstSize P (runOf (decode (drop p line)))) where
+module _ (P : Profile) (line l : List ℕ) (p e : ℕ) (st : Conversion) (w : Running P line l p st) (h : p < length line) (i : e ≡ p + firstSize P (runOf (decode (drop p line)))) (n : e ≢ p) where
   cluster : ClusterAt P line p e
-  cluster = cluster-at P line p e h (w .rest) i
+  cluster = cluster-at P line p e h i n
 
   pub running-ready : StepReady line l st p e
   running-ready = record { sound = w .sound; upper = cluster .part; room = omega (arith, w .small, w .room) }
@@ -129,42 +143,47 @@ module _ (P : Profile) (line l : List ℕ) (p e : ℕ) (st : Conversion) (w : Ru
         record {
           sound = s .sound;
           here = k .part .within;
-          rest = k .next;
+          run = omega (arith, w .run, k .sizes, k .ends);
           work = ap (λ (x : State). steps P x (clusters P (runOf (decode (drop e line))))) t ∙ (rw (k .first) at (w .work));
           small = rw t (omega (arith, w .small, k .ends));
           room = omega (arith, w .room);
         }
 
-module _ (P : Profile) (line l : List ℕ) (p : ℕ) (st : Conversion) (w : Running P line l p st) (h : length line ≤ p) where
+-- the run's end: of the line, or at a damaged byte
+module _ (P : Profile) (line l : List ℕ) (p : ℕ) (st : Conversion) (w : Running P line l p st) where
   pub running-finish : FinishReady line l st
   running-finish = record { sound = w .sound; room = omega (arith, w .small, w .here, w .room) }
 
-  last-state : stateOf line l st ≡ steps P (state [] none normal normal) (clusters P (runOf (decode line)))
-  unfolding steps clusters clustersAfter
-  last-state = rw (run-end line p h) at (w .work)
+  module _ (past : runOf (decode (drop p line)) ≡ []) where
+    last-state : stateOf line l st ≡ steps P (state [] none normal normal) (clusters P (runOf (decode line)))
+    unfolding steps clusters clustersAfter
+    last-state = rw past at (w .work)
 
-  pub running-end : (l′ : List ℕ) (r : ℕ) → Finished line l l′ st r → SpanDone P line l′ r
-  unfolding convertRun finishOn
-  running-end l′ r f =
-      let t = f P in
-      let a = finish-size P (stateOf line l st .out) (stateOf line l st .pending) (stateOf line l st .before) (stateOf line l st .style) in
-      record {
-        wrote = record {
-          inside = t .inside;
-          bytes = sym (t .valid) ∙ ap bytesOf (front-text l′ r _ t) ∙ ap (λ (x : State). bytesOf (reverse (finishOn P x))) last-state;
-        };
-        small = omega (arith, front-size l′ r _ t, w .small, w .here);
-      }
+    ended : (l′ : List ℕ) (r : ℕ) → Finished line l l′ st r → SpanDone P line l′ (record { read = p; written = r })
+    unfolding convertRun finishOn
+    ended l′ r f =
+        let t = f P in
+        let a = finish-size P (stateOf line l st .out) (stateOf line l st .pending) (stateOf line l st .before) (stateOf line l st .style) in
+        record {
+          wrote = record {
+            inside = t .inside;
+            bytes = sym (t .valid) ∙ ap bytesOf (front-text l′ r _ t) ∙ ap (λ (x : State). bytesOf (reverse (finishOn P x))) last-state;
+          };
+          run = omega (arith, w .run, ap size past, size-none);
+          small = omega (arith, front-size l′ r _ t, w .small);
+        }
+
+  pub running-end : (l′ : List ℕ) (r : ℕ) → length line ≤ p → Finished line l l′ st r → SpanDone P line l′ (record { read = p; written = r })
+  running-end l′ r h f = ended (run-end line p h) l′ r f
+
+  pub running-damaged : (e : ℕ) (l′ : List ℕ) (r : ℕ) → e ≡ p + firstSize P (runOf (decode (drop p line))) → e ≡ p → Finished line l l′ st r → SpanDone P line l′ (record { read = p; written = r })
+  running-damaged e l′ r i n f = ended (no-cluster P line p e i n) l′ r f
 
 -- ---- the pieces of a line
 
 decode-none : decode [] ≡ []
 unfolding decode decodeFrom
 decode-none = refl
-
-size-none : size [] ≡ 0
-unfolding size
-size-none = refl
 
 -- a byte with which no run begins is damaged
 damaged-decode : (b : ℕ) (t : List ℕ) → size (runOf (decode (b ∷ t))) ≡ 0 → decode (b ∷ t) ≡ illFormed b ∷ decode t
@@ -232,64 +251,70 @@ runs-behind t c s e = runs-first (decode t) c s e ∙ ap (λ (ds : List Decoded)
 
 -- ---- the loop over a line's pieces
 
-module _ (line l : List ℕ) (d : Progress) (e : ℕ) (w : PieceReady line l d) (i : e ≡ d .read + size (runOf (decode (drop (d .read) line)))) where
-  pub piece-end : e ≤ length line
-  piece-end = omega (arith, w .here, rw (length-drop (d .read) line) at (run-le (drop (d .read) line)))
+rest-all : (t : List ℕ) (p : ℕ) → take (length t - p) (drop p t) ≡ drop p t
+rest-all t p = take-all (length t - p) (drop p t) (rw (length-drop p t) (omega arith))
 
-  count : e - d .read ≡ size (runOf (decode (drop (d .read) line)))
-  count = omega arith
+module _ (line l : List ℕ) (d : Progress) (w : PieceReady line l d) where
+  pub piece-room : 8 * length (take (length line - d .read) (drop (d .read) line)) ≤ length (take (length l - d .written) (drop (d .written) l))
+  piece-room = rw (rest-all line (d .read), rest-all l (d .written), length-drop, length-drop) (omega (arith, w .room, w .here))
 
-  pub piece-span : SpanReady (take (e - d .read) (drop (d .read) line)) (take (length l - d .written) (drop (d .written) l))
-  piece-span =
-      let a : length (take (length l - d .written) (drop (d .written) l)) ≡ length l - d .written = length-take-le (length l - d .written) (drop (d .written) l) (omega (arith, length-drop (d .written) l)) in
-      let b : length (take (e - d .read) (drop (d .read) line)) ≡ e - d .read = length-take-le (e - d .read) (drop (d .read) line) (rw (length-drop (d .read) line) (omega (arith, piece-end))) in
-      record { valid = rw count (run-valid (drop (d .read) line)); room = rw (a, b) (omega (arith, w .room, piece-end, w .here)) }
+  -- the line's run converted into m, in the place of what stood behind
+  module _ (P : Profile) (m z : List ℕ) (r : Progress) (long : length m ≡ length (take (length l - d .written) (drop (d .written) l))) (s : SpanDone P (take (length line - d .read) (drop (d .read) line)) m r) where
+    span : SpanDone P (drop (d .read) line) m r
+    span = rw (rest-all line (d .read)) at s
 
-  -- a run converted
-  pub piece-run : (P : Profile) (m z : List ℕ) (n : ℕ) → (e ≢ d .read) → length m ≡ length (take (length l - d .written) (drop (d .written) l)) → SpanDone P (take (e - d .read) (drop (d .read) line)) m n
-      → PieceDone P line l (take (d .written) l ++ (m ++ z)) d (record { read = e; written = d .written + n })
-  unfolding convertPieces
-  piece-run P m z n ne long s = go (runOf (decode (drop (d .read) line))) refl
-    where
-      go : (cs : List Scalar) → runOf (decode (drop (d .read) line)) ≡ cs → PieceDone P line l (take (d .written) l ++ (m ++ z)) d (record { read = e; written = d .written + n })
-      go [] q = absurd (ne (i ∙ ap (λ (x : List Scalar). d .read + size x) q ∙ rw (size-none, add-zero) refl))
-      go (c ∷ cs) q =
-          let f : length (take (d .written) l) ≡ d .written = length-take-le (d .written) l (omega (arith, w .room)) in
-          let a : length m ≡ length l - d .written = long ∙ length-take-le (length l - d .written) (drop (d .written) l) (omega (arith, length-drop (d .written) l)) in
-          let b : length (take (e - d .read) (drop (d .read) line)) ≡ e - d .read = length-take-le (e - d .read) (drop (d .read) line) (rw (length-drop (d .read) line) (omega (arith, piece-end))) in
-          let k : n ≤ 8 * (e - d .read) = rw b at (s .small) in
-          let x : take (d .written + n) (take (d .written) l ++ (m ++ z)) ≡ take (d .written) l ++ bytesOf (convertRun P (runOf (decode (drop (d .read) line)))) =
-          ap (λ (j : ℕ). take (j + n) (take (d .written) l ++ (m ++ z))) (sym f)
-          ∙ take-append-add (take (d .written) l) (m ++ z) n
-          ∙ ap (λ (y : List ℕ). take (d .written) l ++ y) (take-append-le n m z (s .wrote .inside) ∙ s .wrote .bytes
-          ∙ ap (λ (j : ℕ). bytesOf (convertRun P (runOf (decode (take j (drop (d .read) line)))))) count
-          ∙ ap (λ (y : List Scalar). bytesOf (convertRun P y)) (run-whole (drop (d .read) line) .0)) in
-          let y : drop (size (runOf (decode (drop (d .read) line)))) (drop (d .read) line) ≡ drop e line = drop-drop (size (runOf (decode (drop (d .read) line)))) (d .read) line ∙ ap (λ (j : ℕ). drop j line) (sym i) in
-          record {
-            further = omega (arith, i);
-            within = piece-end;
-            work =
-                ap (λ (v : List ℕ). v ++ convertPieces P (runs (decode (drop e line)))) x
-                ∙ append-assoc (take (d .written) l) (bytesOf (convertRun P (runOf (decode (drop (d .read) line))))) (convertPieces P (runs (decode (drop e line))))
-                ∙ sym (ap (λ (ps : List Piece). take (d .written) l ++ convertPieces P ps) (runs-behind (drop (d .read) line) c cs q ∙ ap (λ (v : List ℕ). run (runOf (decode (drop (d .read) line))) ∷ runs (decode v)) y));
-            room = rw (length-append (take (d .written) l) (m ++ z), length-append m z, f) (omega (arith, w .room, piece-end));
-          }
+    front : length (take (d .written) l) ≡ d .written
+    front = length-take-le (d .written) l (omega (arith, w .room))
 
--- a damaged byte copied
-pub piece-damaged : (P : Profile) (line l : List ℕ) (d : Progress) (e : ℕ) → PieceReady line l d → e ≡ d .read + size (runOf (decode (drop (d .read) line))) → e ≡ d .read
-    → PieceDone P line l (set l (d .written) (getD line (d .read) 0)) d (record { read = d .read + 1; written = d .written + 1 })
-unfolding convertPieces runs
-piece-damaged P line l d e w i z =
-    let s : size (runOf (decode (drop (d .read) line))) ≡ 0 = omega arith in
-    let q : drop (d .read) line ≡ getD line (d .read) 0 ∷ drop (suc (d .read)) line = drop-cons line (d .read) 0 (w .here) in
-    let b : decode (drop (d .read) line) ≡ illFormed (getD line (d .read) 0) ∷ decode (drop (suc (d .read)) line) = ap decode q ∙ damaged-decode (getD line (d .read) 0) (drop (suc (d .read)) line) (rw q at s) in
-    let t : take (suc (d .written)) (set l (d .written) (getD line (d .read) 0)) ≡ take (d .written) l ++ (getD line (d .read) 0 ∷ []) = take-suc-set l (d .written) (getD line (d .read) 0) (omega (arith, w .room, w .here)) in
-    record {
-      further = omega arith;
-      within = omega (arith, w .here);
-      work = rw (add-one, add-one, t, b) (append-assoc (take (d .written) l) (getD line (d .read) 0 ∷ []) (convertPieces P (runs (decode (drop (suc (d .read)) line)))));
-      room = rw length-set (omega (arith, w .room, w .here));
-    }
+    behind : length m ≡ length l - d .written
+    behind = long ∙ ap length (rest-all l (d .written)) ∙ length-drop (d .written) l
+
+    pub piece-end : d .read + r .read ≤ length line
+    piece-end = omega (arith, w .here, span .run, rw (length-drop (d .read) line) at (run-le (drop (d .read) line)))
+
+    pub piece-fits : d .written + r .written ≤ length l
+    piece-fits = omega (arith, w .room, behind, span .wrote .inside)
+
+    pub piece-run : (r .read ≢ 0) → PieceDone P line l (take (d .written) l ++ (m ++ z)) d (record { read = d .read + r .read; written = d .written + r .written })
+    unfolding convertPieces
+    piece-run ne = go (runOf (decode (drop (d .read) line))) refl
+      where
+        go : (cs : List Scalar) → runOf (decode (drop (d .read) line)) ≡ cs → PieceDone P line l (take (d .written) l ++ (m ++ z)) d (record { read = d .read + r .read; written = d .written + r .written })
+        go [] q = absurd (ne (span .run ∙ ap size q ∙ size-none))
+        go (c ∷ cs) q =
+            let x : take (d .written + r .written) (take (d .written) l ++ (m ++ z)) ≡ take (d .written) l ++ bytesOf (convertRun P (runOf (decode (drop (d .read) line)))) =
+            ap (λ (j : ℕ). take (j + r .written) (take (d .written) l ++ (m ++ z))) (sym front)
+            ∙ take-append-add (take (d .written) l) (m ++ z) (r .written)
+            ∙ ap (λ (y : List ℕ). take (d .written) l ++ y) (take-append-le (r .written) m z (span .wrote .inside) ∙ span .wrote .bytes) in
+            let y : drop (size (runOf (decode (drop (d .read) line)))) (drop (d .read) line) ≡ drop (d .read + r .read) line = drop-drop (size (runOf (decode (drop (d .read) line)))) (d .read) line ∙ ap (λ (j : ℕ). drop (d .read + j) line) (sym (span .run)) in
+            record {
+              further = omega arith;
+              within = piece-end;
+              work =
+                  ap (λ (v : List ℕ). v ++ convertPieces P (runs (decode (drop (d .read + r .read) line)))) x
+                  ∙ append-assoc (take (d .written) l) (bytesOf (convertRun P (runOf (decode (drop (d .read) line))))) (convertPieces P (runs (decode (drop (d .read + r .read) line))))
+                  ∙ sym (ap (λ (ps : List Piece). take (d .written) l ++ convertPieces P ps) (runs-behind (drop (d .read) line) c cs q ∙ ap (λ (v : List ℕ). run (runOf (decode (drop (d .read) line))) ∷ runs (decode v)) y));
+              room = rw (length-append (take (d .written) l) (m ++ z), length-append m z, front) (omega (arith, w .room, piece-end, span .small, behind));
+            }
+
+    -- no run there: a damaged byte copied
+    pub piece-damaged : r .read ≡ 0 → PieceDone P line l (set (take (d .written) l ++ (m ++ z)) (d .written) (getD line (d .read) 0)) d (record { read = d .read + 1; written = d .written + 1 })
+    unfolding convertPieces runs
+    piece-damaged e =
+        let s : size (runOf (decode (drop (d .read) line))) ≡ 0 = sym (span .run) ∙ e in
+        let b : ℕ = getD line (d .read) 0 in
+        let q : drop (d .read) line ≡ b ∷ drop (suc (d .read)) line = drop-cons line (d .read) 0 (w .here) in
+        let c : decode (drop (d .read) line) ≡ illFormed b ∷ decode (drop (suc (d .read)) line) = ap decode q ∙ damaged-decode b (drop (suc (d .read)) line) (rw q at s) in
+        let k : length (take (d .written) l ++ (m ++ z)) ≡ d .written + (length m + length z) = length-append (take (d .written) l) (m ++ z) ∙ ap₂ (λ (i j : ℕ). i + j) front (length-append m z) in
+        let t : take (suc (d .written)) (set (take (d .written) l ++ (m ++ z)) (d .written) b) ≡ take (d .written) l ++ (b ∷ []) =
+        take-suc-set (take (d .written) l ++ (m ++ z)) (d .written) b (omega (arith, w .room, w .here, behind))
+        ∙ ap (λ (v : List ℕ). v ++ (b ∷ [])) (take-at (take (d .written) l) (m ++ z) (d .written) front) in
+        record {
+          further = omega arith;
+          within = omega (arith, w .here);
+          work = rw (add-one, add-one, t, c) (append-assoc (take (d .written) l) (b ∷ []) (convertPieces P (runs (decode (drop (suc (d .read)) line)))));
+          room = rw (length-set, k) (omega (arith, w .room, w .here, behind));
+        }
 
 pub record Pieces (P : Profile) (line l : List ℕ) (d : Progress) : Type 0 where
   pub within : d .read ≤ length line

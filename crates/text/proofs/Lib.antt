@@ -2,6 +2,7 @@ pub mod Branch
 pub mod Units
 pub mod Tails
 pub mod Runs
+pub mod Ascii
 pub mod Walks
 pub mod Backward
 pub mod Texts

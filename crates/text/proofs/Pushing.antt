@@ -1,15 +1,18 @@
 -- Bytes written behind a text in a buffer.
 use Prim.Native.Nat.{_+_, _≤_, ℕ}
+use native.Mathlib.Numerals.{add-one}
 use native.Mathlib.Omega.{arith}
-use mathlib.Core.Bool.{Bool, _&&_, cond, false, not, true}
+use mathlib.Core.Bool.{Bool, _&&_, _||_, cond, false, not, true}
 use mathlib.Core.List.{List, [], _++_, _∷_, append-nil, reverse, reverseAux-append}
-use mathlib.Core.Path.{_∙_, _≡_, ap, refl}
-use lib.ListN.{drop, length, length-append, take}
-use lib.Seq.{length-take-le, take-at}
+use mathlib.Core.Path.{_∙_, _≡_, ap, refl, sym}
+use lib.ListN.{drop, getD, length, length-append, length-set, set, take}
+use lib.Seq.{length-take-le, take-at, take-suc-set}
 use Rattle.buffer.specs.Sink.{Copied}
-use Rattle.text.specs.Code.{Front, Pushed, backward, orderOf, runOf, styleOf, whole}
+use Rattle.text.specs.Code.{Front, Pushed, backward, changedStyle, orderOf, styleOf, whole}
 use Rattle.text.specs.Overstrike.{bold, order, push, underline}
-use Rattle.text.specs.Utf8.{Scalar, decode}
+use Rattle.text.specs.Tests.{or-false}
+use Rattle.text.specs.Utf8.{Scalar, decode, runOf}
+use Rattle.text.specs.Utf8.Valid.{valid}
 use Rattle.text.specs.declared.overstrike.Overstrike.{Overstrike}
 use Rattle.text.proofs.Texts.{run-append, whole-append}
 
@@ -22,6 +25,11 @@ push-copied l l′ xs len r h k c =
       end = c .end;
       inside = omega (arith, c .end);
     }
+
+pub push-one : (l xs : List ℕ) (len : ℕ) → length xs ≡ 1 → len + length xs ≤ length l → Pushed l (set l len (getD xs 0 0)) len xs (len + 1)
+push-one l [] len e h = absurd (omega arith)
+push-one l (x ∷ []) len e h = record { bytes = rw add-one (take-suc-set l len x (omega arith)); end = refl; inside = rw length-set h }
+push-one l (x ∷ y ∷ xs) len e h = absurd (omega arith)
 
 pub push-none : (l : List ℕ) (len : ℕ) → len ≤ length l → Pushed l l len [] len
 push-none l len h = record { bytes = rw append-nil refl; end = omega arith; inside = h }
@@ -87,3 +95,13 @@ order-room b s k len n e h = rw (← e, changed-order b s) h
 
 pub order-pushed : (b s : Overstrike) (xs l l′ : List ℕ) (len r : ℕ) → xs ≡ changed b s → Pushed l l′ len xs r → Pushed l l′ len (orderOf b s) r
 order-pushed b s xs l l′ len r e p = rw (e ∙ changed-order b s) at p
+
+-- nothing changes
+pub order-none : (b s : Overstrike) (l : List ℕ) (len : ℕ) → changedStyle b s ≡ false → len + length (orderOf b s) ≤ length l → Pushed l l len (orderOf b s) len
+unfolding changed changes
+order-none b s l len e h =
+    let p = or-false ((b .bold && not (s .bold)) || (not (b .bold) && s .bold)) ((b .underline && not (s .underline)) || (not (b .underline) && s .underline)) e in
+    let q = or-false (b .bold && not (s .bold)) (not (b .bold) && s .bold) (p .0) in
+    let r = or-false (b .underline && not (s .underline)) (not (b .underline) && s .underline) (p .1) in
+    let x : changed b s ≡ [] = rw (q .0, q .1, r .0, r .1) refl in
+    order-pushed b s [] l l len len (sym x) (push-none l len (omega arith))

@@ -11,14 +11,15 @@ use lib.ListN.{drop, drop-of-length-le, getD, length, take}
 use lib.Seq.{drop-cons, length-slice, length-take-le, slice}
 use borrow.Author.Tests.{eq-eqb, ne-eqb}
 use Rattle.text.specs.Class.{Profile}
-use Rattle.text.specs.Code.{BackspaceStep, FinishReady, Finished, Front, Part, PendingReady, Pushed, Sound, StepReady, Stepped, Strike, StruckStep, backspaceOn, backward, clusterOn, conversion, finishOn, orderOf, partOf, pendingOf, plain, pushedOn, runOf, stateOf, styleOf, whole}
+use Rattle.text.specs.Code.{BackspaceStep, FinishReady, Finished, Front, Part, PendingReady, Pushed, Sound, StepReady, Stepped, Strike, StruckStep, backspaceOn, backward, changedStyle, clusterOn, conversion, finishOn, orderOf, partOf, pendingOf, plain, pushedOn, stateOf, styleOf, whole}
 use Rattle.text.specs.Overstrike.{State, Style, ambiguous, backspace, bold, boldUnderline, bolded, finish, held, none, normal, onBackspace, onCluster, order, push, state, step, strike, struck, underline, underlined}
 use Rattle.text.specs.Overstrike.Length.{cost, cost-normal, order-size, size-push, waiting, weight}
 use Rattle.text.specs.Tests.{cases}
-use Rattle.text.specs.Utf8.{Scalar, asciis, bytesOf, decode, decodeFrom, reads, sameBytes, within}
+use Rattle.text.specs.Utf8.{Scalar, asciis, bytesOf, decode, decodeFrom, reads, runOf, sameBytes, within}
+use Rattle.text.specs.Utf8.Valid.{valid}
 use Rattle.text.specs.declared.overstrike.Conversion.{Conversion}
 use Rattle.text.specs.declared.overstrike.Overstrike.{Overstrike}
-use Rattle.text.proofs.Pushing.{front-push}
+use Rattle.text.proofs.Pushing.{front-push, order-none}
 use Rattle.text.proofs.Runs.{part-slice, size-bytes, size-reverse}
 
 -- ---- parts of the line and fronts of a buffer
@@ -87,6 +88,17 @@ module _ (line l : List ℕ) (st : Conversion) (w : PendingReady line l st) wher
     part-pushed l₂ r q =
         front-push l₁ l₂ n r (slice (st .at) (st .end) line) _
         (front-order l l₁ (st .len) n (st .before) (st .style) _ (front-of line l st (w .sound)) p) (w .sound .part .valid) q
+
+  -- where the style stays
+  module _ (b : Bool) (e : b ≡ changedStyle (st .before) (st .style)) (f : b ≡ false) where
+    stays : Pushed l l (st .len) (orderOf (st .before) (st .style)) (st .len)
+    stays = order-none (st .before) (st .style) l (st .len) (sym e ∙ f) (omega (arith, w .room))
+
+    pub plain-room : st .len + length (slice (st .at) (st .end) line) ≤ length l
+    plain-room = part-room l (st .len) stays refl
+
+    pub plain-pushed : (l₂ : List ℕ) (r : ℕ) → Pushed l l₂ (st .len) (slice (st .at) (st .end) line) r → Front l₂ r (pushedOn line l st)
+    plain-pushed l₂ r q = part-pushed l (st .len) stays refl l₂ r q
 
 -- ---- the weight bounds what is still written
 

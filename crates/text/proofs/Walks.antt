@@ -1,4 +1,5 @@
 -- The first cluster of a text, as the code walks it.
+use Rattle.text.specs.declared.class.Profile as code
 use Prim.Native.Nat.{_+_, _<_, _≤_, ℕ}
 use native.Mathlib.Nat.{add-assoc, add-zero}
 use native.Mathlib.Omega.{arith}
@@ -6,15 +7,18 @@ use mathlib.Core.Bool.{Bool, false, true}
 use mathlib.Core.List.{List, [], _∷_}
 use mathlib.Core.Logic.{_≢_}
 use mathlib.Core.Path.{_∙_, _≡_, ap, refl, sym}
-use lib.ListN.{drop, length, take}
+use lib.Dec.{ltb}
+use lib.ListN.{drop, getD, length, take}
+use borrow.Author.Tests.{ltb-false, ltb-true}
 use Rattle.text.specs.Class.{Profile, among, class01, classT, classV, control, cr, extend, inAny, lf, number, zwj}
-use Rattle.text.specs.Cluster.{after, classOf, clusters, context, joined, joins, start}
+use Rattle.text.specs.Cluster.{Context, after, classOf, clusters, context, joined, joins, start}
 use Rattle.text.specs.Cluster.Laws.{clusters-first, further}
-use Rattle.text.specs.Code.{contextOf, firstOf, firstSequence, firstSize, moreFrom, runOf, size}
+use Rattle.text.specs.Code.{asciiPair, contextOf, firstOf, firstSequence, firstSize, moreFrom, sequenceOf, size}
 use Rattle.text.specs.Tests.{cases}
-use Rattle.text.specs.Utf8.{Scalar, decode}
+use Rattle.text.specs.Utf8.{Scalar, decode, runOf}
 use Rattle.text.specs.Width.{wides, width01, widthOf}
 use Rattle.text.specs.declared.utf8.Sequence.{Sequence}
+use Rattle.text.proofs.Ascii.{Apart, ascii-sequence, pair-bytes}
 use Rattle.text.proofs.Units.{run-bad, run-end, run-good, run-size, scalarAt}
 
 module _ (P : Profile) where
@@ -33,6 +37,30 @@ module _ (P : Profile) where
   pub first-none : firstSize P [] ≡ 0
   unfolding firstSize firstOf size clusters
   first-none = refl
+
+-- a byte below 80 that joins nothing before it ends a cluster there
+more-ascii : (P : Profile) (s : List ℕ) (p prev : ℕ) (k : Context) → ((k : Context) → joined prev k (number (P .class (getD s p 0))) ≡ false) → getD s p 0 < 128 → moreFrom P prev k (runOf (decode (drop p s))) ≡ 0
+unfolding moreFrom
+more-ascii P s p prev k g l =
+    cases (ltb p (length s))
+    (λ e.
+    let h : p < length s = ltb-true p (length s) e in
+    let r = run-good s p (sequenceOf (getD s p 0) 1) h (ascii-sequence s p (getD s p 0) h refl l) (λ z. absurd (omega arith)) in
+    rw (r, g k) refl)
+    (λ e. rw (run-end s p (ltb-false p (length s) e)) refl)
+
+module _ (P : Profile) (s : List ℕ) (p : ℕ) (here : p < length s) where
+  -- a pair of bytes below 80
+  pub first-ascii : Apart P → asciiPair s p ≡ true → p + 1 ≡ p + firstSize P (runOf (decode (drop p s)))
+  first-ascii g f =
+      let w = pair-bytes s p f in
+      let a : ℕ = getD s p 0 in
+      let one : sequenceOf a 1 ≡ firstSequence (decode (drop p s)) = ascii-sequence s p a here refl (w .first) in
+      let r : runOf (decode (drop p s)) ≡ scalarAt p a 1 s ∷ runOf (decode (drop (p + 1) s)) = run-good s p (sequenceOf a 1) here one (λ z. absurd (omega arith)) in
+      let n : length (take 1 (drop p s)) ≡ 1 = run-size s p (sequenceOf a 1) here one (λ z. absurd (omega arith)) in
+      let m : moreFrom P (number (P .class a)) (after start (number (P .class a))) (runOf (decode (drop (p + 1) s))) ≡ 0 =
+      more-ascii P s (p + 1) (number (P .class a)) (after start (number (P .class a))) (λ k. g a (getD s (p + 1) 0) k (w .first) (w .second) (w .plain)) (w .second) in
+      sym (rw (r, first-size P (scalarAt p a 1 s) (runOf (decode (drop (p + 1) s))), n, m) refl)
 
 module _ (P : Profile) (s : List ℕ) (p : ℕ) (u : Sequence) (here : p < length s) (read : u ≡ firstSequence (decode (drop p s))) where
   pub first-bad : u .len ≡ 0 → p ≡ p + firstSize P (runOf (decode (drop p s)))

@@ -1,10 +1,10 @@
 -- What the code's values say of the definitions' ones.
 use Prim.Native.Nat.{_*_, _+_, _-_, _<_, _≤_, suc, zero, ℕ}
-use mathlib.Core.Bool.{Bool, cond, false}
+use mathlib.Core.Bool.{Bool, _&&_, _||_, cond, false, not, true}
 use mathlib.Core.List.{List, [], _++_, _∷_, reverse, reverseAux}
 use mathlib.Core.Logic.{_≢_}
 use mathlib.Core.Path.{_≡_}
-use lib.Dec.{eqb}
+use lib.Dec.{eqb, ltb}
 use lib.ListN.{drop, getD, length, replicate, take}
 use lib.Seq.{slice}
 use Rattle.text.specs.Calls.{Converted}
@@ -12,10 +12,11 @@ use Rattle.text.specs.Class.{Profile, number}
 use Rattle.text.specs.Cluster.{Context, after, classOf, clusters, context, joined, joins}
 use Rattle.text.specs.Overstrike.{Pending, State, Style, backspace, bold, boldUnderline, convertPieces, convertRun, finish, held, none, normal, onBackspace, onCluster, order, push, state, struck, underline}
 use Rattle.text.specs.Overstrike.Length.{weight}
-use Rattle.text.specs.Utf8.{Decoded, Scalar, ascii, asciis, bytesOf, decode, illFormed, runs, tail, wellFormed, within}
+use Rattle.text.specs.Utf8.{Decoded, Range, Scalar, ascii, asciis, bytesOf, decode, illFormed, runs, tail, to, wellFormed, within}
 use Rattle.text.specs.Width.{profile01}
 unfoldable pub use Rattle.text.specs.Utf8.{runOf}
 use Rattle.text.specs.declared.Answer.{Answer}
+use Rattle.text.specs.declared.cluster.Indicators.{Indicators}
 use Rattle.text.specs.declared.cluster.Seen.{Seen}
 use Rattle.text.specs.declared.overstrike.Conversion.{Conversion}
 use Rattle.text.specs.declared.overstrike.Overstrike.{Overstrike}
@@ -47,6 +48,18 @@ size (c ∷ s) = length (c .bytes) + size s
 -- the text is valid from its start to its end
 abbrev pub whole : List ℕ → Type 0
 whole t = bytesOf (runOf (decode t)) ≡ t
+
+-- a byte below 80, CR apart, and behind it another, CR included, or nothing
+abbrev pub asciiPair : List ℕ → ℕ → Bool
+asciiPair s i = ltb (getD s i 0) 0x80 && (not (eqb (getD s i 0) 0x0D) && ltb (getD s (i + 1) 0) 0x80)
+
+-- the bytes of U+1F1E6 to U+1F1FF
+abbrev pub regionalAt : List ℕ → ℕ → Bool
+regionalAt s i = eqb (getD s i 0) 0xF0 && (eqb (getD s (i + 1) 0) 0x9F && (eqb (getD s (i + 2) 0) 0x87 && within (to 0xA6 0xBF) (getD s (i + 3) 0)))
+
+-- ranges of common scalars of class other
+unfoldable pub quiets : List Range
+quiets = to 0x20 0x7E ∷ to 0xA0 0x2FF ∷ to 0x370 0x482 ∷ to 0x2100 0xA95F ∷ []
 
 -- ---- the walk through a cluster
 
@@ -94,6 +107,23 @@ module _ (P : Profile) where
   abbrev pub JoinsAt : List ℕ → ℕ → Bool → Type 0
   JoinsAt t q r = (c : Scalar) (rest es : List Scalar) → runOf (decode t) ≡ reverseAux rest (c ∷ es) → size rest ≡ q → r ≡ joins P rest c
 
+unfoldable pub flip : Bool → Bool → Bool
+flip true b = not b
+flip false b = b
+
+-- at the place i of t: whether an odd number of regional indicators was passed, and whether an odd number ends where the passing began
+pub record Left (P : Profile) (t : List ℕ) (i : ℕ) (odd total : Bool) : Type 0 where
+  pub rest : List Scalar
+  pub es : List Scalar
+  pub parts : runOf (decode t) ≡ reverseAux rest es
+  pub place : size rest ≡ i
+  pub parity : total ≡ flip odd (context P rest .odd)
+
+-- passed from q, the end of a scalar of t, in every version of the profile
+pub record IndicatorsTo (t : List ℕ) (q : ℕ) (r : Indicators) : Type 0 where
+  pub inside : r .at ≤ q
+  pub left : (p : code.Profile) (rest es : List Scalar) → runOf (decode t) ≡ reverseAux rest es → size rest ≡ q → Left (profileOf p) t (r .at) (r .odd) (context (profileOf p) rest .odd)
+
 -- ---- overstrike: the result so far is a valid text at the front of a buffer
 
 -- a text's scalars, the last first
@@ -124,6 +154,10 @@ styleOf o = cond (o .bold) (cond (o .underline) boldUnderline bold) (cond (o .un
 -- the order from one overstrike to another
 abbrev pub orderOf : Overstrike → Overstrike → List ℕ
 orderOf b s = order (styleOf b) (styleOf s)
+
+-- they differ
+abbrev pub changedStyle : Overstrike → Overstrike → Bool
+changedStyle b s = ((b .bold && not (s .bold)) || (not (b .bold) && s .bold)) || ((b .underline && not (s .underline)) || (not (b .underline) && s .underline))
 
 -- the part of a line from a to e is valid text
 pub record Part (line : List ℕ) (a e : ℕ) : Type 0 where
@@ -213,14 +247,11 @@ pub record Wrote (l : List ℕ) (r : ℕ) (xs : List ℕ) : Type 0 where
   pub inside : r ≤ length l
   pub bytes : take r l ≡ xs
 
--- a valid text, with room for its conversion
-pub record SpanReady (line l : List ℕ) : Type 0 where
-  pub valid : whole line
-  pub room : 8 * length line ≤ length l
-
-pub record SpanDone (P : Profile) (line l : List ℕ) (r : ℕ) : Type 0 where
-  pub wrote : Wrote l r (bytesOf (convertRun P (runOf (decode line))))
-  pub small : r ≤ 8 * length line
+-- the run that a line begins with, converted
+pub record SpanDone (P : Profile) (line l : List ℕ) (r : Progress) : Type 0 where
+  pub wrote : Wrote l (r .written) (bytesOf (convertRun P (runOf (decode line))))
+  pub run : r .read ≡ size (runOf (decode line))
+  pub small : r .written ≤ 8 * r .read
 
 -- pieces read up to a place and written up to a place, with room for the rest
 pub record PieceReady (line l : List ℕ) (d : Progress) : Type 0 where

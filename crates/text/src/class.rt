@@ -1,7 +1,7 @@
 // Classes of scalars: UAX #29's Grapheme_Cluster_Break, whitespace.
 ghost use mathlib.Core.Path.{_≡_};
 ghost use Rattle.text.specs.Class.{number, inAny, controls, extends, whitespace, isControl};
-ghost use Rattle.text.specs.Code.{profileOf};
+ghost use Rattle.text.specs.Code.{profileOf, quiets};
 
 // The version of the text profile that classes and widths are taken from: 0 is document 01's.
 pub struct Profile {
@@ -32,8 +32,8 @@ fn in_extends(x: u32) -> bool
                                 | ((0xE0100 <= x) & (x <= 0xE01EF))))))))
 }
 
-// The number of a scalar's class.
-pub fn class(profile: Profile, x: u32) -> u8
+// The number of a scalar's class, by the ranges of the profile.
+fn class_in_ranges(profile: Profile, x: u32) -> u8
     ensures { λ r. ⌜ r ≡ number (profileOf profile .class x) ⌝ }
 {
     if x == 0x0D {
@@ -70,6 +70,28 @@ pub fn class(profile: Profile, x: u32) -> u8
         return 10;
     }
     11
+}
+
+// Is the scalar one of the common ones of class other?
+fn is_quiet(x: u32) -> bool
+    ensures { λ r. ⌜ r ≡ inAny quiets x ⌝ }
+{
+    ((0x20 <= x) & (x <= 0x7E))
+        | (((0xA0 <= x) & (x <= 0x2FF))
+            | (((0x370 <= x) & (x <= 0x482)) | ((0x2100 <= x) & (x <= 0xA95F))))
+}
+
+// The number of a scalar's class.
+pub fn class(profile: Profile, x: u32) -> u8
+    ensures { λ r. ⌜ r ≡ number (profileOf profile .class x) ⌝ }
+{
+    if is_quiet(x) {
+        return 11;
+    }
+    if (0x300 <= x) & (x <= 0x36F) {
+        return 3;
+    }
+    class_in_ranges(profile, x)
 }
 
 // char::is_whitespace

@@ -3,6 +3,7 @@ use super::class::Profile;
 use super::class::class;
 use super::utf8::byte_at;
 use super::utf8::decode;
+use super::utf8::is_ascii_pair;
 ghost use mathlib.Core.Path.{_≡_};
 ghost use Prim.Native.Nat.{_+_, _≤_, _<_};
 ghost use mathlib.Core.List.{reverse};
@@ -11,7 +12,7 @@ ghost use lib.Seq.{slice};
 ghost use Rattle.text.specs.Utf8.{decode};
 ghost use Rattle.text.specs.Class.{number};
 ghost use Rattle.text.specs.Cluster.{start, after, joined};
-ghost use Rattle.text.specs.Code.{profileOf, firstSequence, runOf, size, contextOf, seen, moreFrom, firstSize, back, whole, withoutLast, OddTo, JoinsAt};
+ghost use Rattle.text.specs.Code.{profileOf, firstSequence, runOf, size, contextOf, seen, moreFrom, firstSize, back, whole, withoutLast, OddTo, JoinsAt, regionalAt, IndicatorsTo};
 
 // What the rules ask of the scalars before a place: the last one's class, and whether an odd number of regional indicators ends there.
 pub struct Seen {
@@ -98,6 +99,9 @@ pub fn first_end(profile: Profile, s: &[u8], at: usize) -> usize
     requires { ⌜ at < length (now s) ⌝ }
     ensures { λ r. ⌜ r ≡ at + firstSize (profileOf profile) (runOf (decode (drop at (now (s .entry))))) ⌝ }
 {
+    if is_ascii_pair(s, at) {
+        return at + 1;
+    }
     let u = decode(s, at);
     if u.len == 0 {
         return at;
@@ -139,13 +143,51 @@ fn class_at(profile: Profile, s: &[u8], at: usize) -> u8
     class(profile, u.code)
 }
 
+// Do the bytes at a place stand for a regional indicator?
+fn is_regional(s: &[u8], at: usize) -> bool
+    requires { ⌜ at + 4 ≤ length (now s) ⌝ }
+    ensures { λ r. ⌜ r ≡ regionalAt (now (s .entry)) at ⌝ }
+{
+    let a = byte_at(s, at);
+    let b = byte_at(s, at + 1);
+    let c = byte_at(s, at + 2);
+    let d = byte_at(s, at + 3);
+    (a == 0xF0) & ((b == 0x9F) & ((c == 0x87) & ((0xA6 <= d) & (d <= 0xBF))))
+}
+
+// The regional indicators that end at a place: where they begin, and whether their number is odd.
+struct Indicators {
+    at: usize,
+    odd: bool,
+}
+
+// Those that end at q, the end of a scalar of the text, by their bytes.
+fn indicators_to(t: &[u8], q: usize) -> Indicators
+    requires { ⌜ q ≤ length (now t) ⌝ }
+    ensures { λ r. ⌜ IndicatorsTo (now (t .entry)) q r ⌝ }
+{
+    let mut odd = false;
+    let mut i = q;
+    while 4 <= i {
+        let j = i - 4;
+        if is_regional(t, j) {
+            odd = !odd;
+            i = j;
+        } else {
+            return Indicators { at: i, odd: odd };
+        }
+    }
+    Indicators { at: i, odd: odd }
+}
+
 // Does an odd number of regional indicators end at q, the end of a scalar of the text?
 fn odd_to(profile: Profile, t: &[u8], q: usize) -> bool
     requires { ⌜ q ≤ length (now t) ⌝ }
     ensures { λ r. ⌜ OddTo (profileOf profile) (now (t .entry)) q r ⌝ }
 {
-    let mut odd = false;
-    let mut i = q;
+    let run = indicators_to(t, q);
+    let mut odd = run.odd;
+    let mut i = run.at;
     while 0 < i {
         let j = scalar_start(t, i);
         if class_at(profile, t, j) == 10 {
@@ -164,6 +206,9 @@ fn joins_at(profile: Profile, t: &[u8], q: usize) -> bool
     ensures { λ r. ⌜ JoinsAt (profileOf profile) (now (t .entry)) q r ⌝ }
 {
     if q == 0 {
+        return false;
+    }
+    if is_ascii_pair(t, q - 1) {
         return false;
     }
     let p = class_at(profile, t, scalar_start(t, q));

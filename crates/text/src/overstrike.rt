@@ -4,7 +4,6 @@ use super::class::is_control;
 use super::cluster::first_end;
 use super::cluster::last_start;
 use super::utf8::decode;
-use super::utf8::run_end;
 ghost use mathlib.Core.Path.{_≡_};
 ghost use mathlib.Core.Logic.{_≢_};
 ghost use Prim.Native.Nat.{_+_, _-_, _*_, _≤_, _<_};
@@ -12,7 +11,7 @@ ghost use mathlib.Core.List.{[], _∷_};
 ghost use lib.ListN.{length, take, drop};
 ghost use Rattle.text.specs.Utf8.{sameBytes, decode, runs, bytesOf};
 ghost use Rattle.text.specs.Overstrike.{bolded, underlined, ambiguous, backspace, step, convertRun, convertPieces, hasBackspace, convert};
-ghost use Rattle.text.specs.Code.{profileOf, runOf, whole, backward, Kept, Front, Pushed, styleOf, orderOf, partOf, stateOf, Sound, Stepped, clusterOn, finishOn, pushedOn, BackspaceStep, StruckStep, StepReady, FinishReady, PendingReady, Finished, conversion, plain, Strike, Wrote, SpanReady, SpanDone, PieceReady, PieceDone};
+ghost use Rattle.text.specs.Code.{profileOf, runOf, whole, backward, Kept, Front, Pushed, styleOf, orderOf, partOf, stateOf, Sound, Stepped, clusterOn, finishOn, pushedOn, BackspaceStep, StruckStep, StepReady, FinishReady, PendingReady, Finished, conversion, plain, Strike, Wrote, changedStyle, SpanDone, PieceReady, PieceDone};
 
 // An overstrike style.
 pub struct Overstrike {
@@ -64,7 +63,19 @@ fn push(out: &mut [u8], len: usize, src: &[u8]) -> usize
     requires { ⌜ len + length (now src) ≤ length (now out) ⌝ }
     ensures { λ r. ⌜ Pushed (now (out .entry)) (now (out .exit)) len (now (src .entry)) r ⌝ }
 {
+    if src.len() == 1 {
+        out[len] = src[0];
+        return len + 1;
+    }
     buffer::copy_bytes(out, len, src)
+}
+
+// Do two styles differ?
+fn is_changed(prev: Overstrike, style: Overstrike) -> bool
+    ensures { λ r. ⌜ r ≡ changedStyle prev style ⌝ }
+{
+    ((prev.bold & !style.bold) | (!prev.bold & style.bold))
+        | ((prev.underline & !style.underline) | (!prev.underline & style.underline))
 }
 
 // The style order from prev to style.
@@ -110,10 +121,13 @@ fn write_pending(out: &mut [u8], line: &[u8], st: Conversion) -> usize
 {
     let before = st.before;
     let style = st.style;
-    let n = add_control_sequence(out, st.len, before, style);
     let at = st.at;
     let end = st.end;
-    push(out, n, &line[at..end])
+    if is_changed(before, style) {
+        let n = add_control_sequence(out, st.len, before, style);
+        return push(out, n, &line[at..end]);
+    }
+    push(out, st.len, &line[at..end])
 }
 
 // A cluster that is a backspace.
@@ -330,9 +344,9 @@ pub struct Progress {
     pub written: usize,
 }
 
-// convert_unicode_span: a valid text converted into the buffer.
-fn convert_unicode_span(profile: Profile, line: &[u8], out: &mut [u8]) -> usize
-    requires { ⌜ SpanReady (now line) (now out) ⌝ }
+// convert_unicode_span: the run that the line begins with converted into the buffer.
+fn convert_unicode_span(profile: Profile, line: &[u8], out: &mut [u8]) -> Progress
+    requires { ⌜ 8 * length (now line) ≤ length (now out) ⌝ }
     ensures { λ r. ⌜ SpanDone (profileOf profile) (now (line .entry)) (now (out .exit)) r ⌝ }
 {
     let mut st = Conversion {
@@ -352,31 +366,41 @@ fn convert_unicode_span(profile: Profile, line: &[u8], out: &mut [u8]) -> usize
     let mut p = 0;
     while p < line.len() {
         let e = first_end(profile, line, p);
+        if e == p {
+            let n = finish(out, line, st);
+            return Progress {
+                read: p,
+                written: n,
+            };
+        }
         st = step(profile, out, line, st, p, e);
         p = e;
     }
-    finish(out, line, st)
+    let n = finish(out, line, st);
+    Progress {
+        read: p,
+        written: n,
+    }
 }
 
-// The piece of the line where the last one ended: a damaged byte copied, or a run converted.
+// The piece of the line where the last one ended: a run converted, or a damaged byte copied.
 fn convert_piece(profile: Profile, line: &[u8], out: &mut [u8], done: Progress) -> Progress
     requires { ⌜ PieceReady (now line) (now out) done ⌝ }
     ensures { λ r. ⌜ PieceDone (profileOf profile) (now (line .entry)) (now (out .entry)) (now (out .exit)) done r ⌝ }
 {
     let at = done.read;
     let len = done.written;
-    let end = run_end(line, at);
-    if end == at {
+    let run = convert_unicode_span(profile, &line[at..], &mut out[len..]);
+    if run.read == 0 {
         out[len] = line[at];
         return Progress {
             read: at + 1,
             written: len + 1,
         };
     }
-    let n = convert_unicode_span(profile, &line[at..end], &mut out[len..]);
     Progress {
-        read: end,
-        written: len + n,
+        read: at + run.read,
+        written: len + run.written,
     }
 }
 

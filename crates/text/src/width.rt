@@ -42,6 +42,12 @@ fn has_no_width(profile: Profile, x: u32) -> bool
 pub fn width(profile: Profile, x: u32) -> usize
     ensures { λ r. ⌜ r ≡ profileOf profile .width x ⌝ }
 {
+    if (0x20 <= x) & (x <= 0x7E) {
+        return 1;
+    }
+    if (0x3041 <= x) & (x <= 0xA4CF) {
+        return 2;
+    }
     if has_no_width(profile, x) {
         return 0;
     }

@@ -1,84 +1,23 @@
 use borrow.Author.Needs.{needs}
-use Rattle.text.specs.Class.{class01, inAny, number}
-use Rattle.text.specs.Code.{profileOf}
-use Rattle.text.specs.Utf8.{fits}
-use Rattle.text.proofs.Branch.{low-of, numbered}
+use Rattle.text.proofs.Ascii.{mark-class, quiet-class}
 use Rattle.text.proofs.class.class.Statement.{statement}
 use Rattle.text.proofs.class.class.Tie as tie
 
+is-quiet-requires : tie.Need-is-quiet-requires
+is-quiet-requires c κs = search needs
+
 returns : tie.Need-returns
-unfolding number profileOf class01 inAny
-returns c = search numbered depth 13 fits 20000
+returns c = search quiet-class
 
 returns-2 : tie.Need-returns-2
-unfolding number profileOf class01 inAny
-returns-2 c = search numbered depth 13 fits 20000
+returns-2 c = mark-class _ _ (c .if2 .taken)
 
-in-controls-requires : tie.Need-in-controls-requires
-in-controls-requires c κs = search needs
+class-in-ranges-requires : tie.Need-class-in-ranges-requires
+class-in-ranges-requires c κs = search needs
 
 returns-3 : tie.Need-returns-3
-unfolding number profileOf class01 inAny
-returns-3 c = search numbered depth 13 fits 20000
-
-in-extends-requires : tie.Need-in-extends-requires
-in-extends-requires c κs = search needs
-
-returns-4 : tie.Need-returns-4
-unfolding number profileOf class01 inAny
-returns-4 c = search numbered depth 13 fits 20000
-
-returns-5 : tie.Need-returns-5
-unfolding number profileOf class01 inAny
-returns-5 c = search numbered depth 13 fits 20000
-
-returns-6 : tie.Need-returns-6
-unfolding number profileOf class01 inAny
-returns-6 c = search numbered depth 13 fits 20000
-
-returns-7 : tie.Need-returns-7
-unfolding number profileOf class01 inAny
-returns-7 c = search numbered depth 13 fits 20000
-
-returns-8 : tie.Need-returns-8
-unfolding number profileOf class01 inAny
-returns-8 c = search numbered depth 13 fits 20000
-
-sub-if10 : tie.Need-sub-if10
-sub-if10 c = low-of _ _ _ (c .if9 .taken)
-
-returns-9 : tie.Need-returns-9
-unfolding number profileOf class01 inAny
-returns-9 c = search numbered depth 13 fits 20000
-
-returns-10 : tie.Need-returns-10
-unfolding number profileOf class01 inAny
-returns-10 c = search numbered depth 13 fits 20000
-
-returns-11 : tie.Need-returns-11
-unfolding number profileOf class01 inAny
-returns-11 c = search numbered depth 13 fits 20000
-
-returns-12 : tie.Need-returns-12
-unfolding number profileOf class01 inAny
-returns-12 c = search numbered depth 13 fits 20000
+returns-3 c = search needs
 
 pub class-spec : {M : Type 1} → statement M
 class-spec =
-    tie.close
-    (tie.spec
-    returns
-    returns-2
-    in-controls-requires
-    returns-3
-    in-extends-requires
-    returns-4
-    returns-5
-    returns-6
-    returns-7
-    returns-8
-    sub-if10
-    returns-9
-    returns-10
-    returns-11
-    returns-12)
+    tie.close (tie.spec is-quiet-requires returns returns-2 class-in-ranges-requires returns-3)

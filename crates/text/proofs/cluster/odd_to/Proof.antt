@@ -5,9 +5,9 @@ use mathlib.Core.Path.{_≡_}
 use lib.ListN.{length}
 use borrow.Author.Needs.{needs}
 use Rattle.text.specs.Cluster.{context}
-use Rattle.text.specs.Code.{profileOf, runOf, size}
-use Rattle.text.specs.Utf8.{Scalar, decode}
-use Rattle.text.proofs.Backward.{Left, odd-begin, odd-end, odd-on, odd-stop}
+use Rattle.text.specs.Code.{Left, profileOf, size}
+use Rattle.text.specs.Utf8.{Scalar, decode, runOf}
+use Rattle.text.proofs.Backward.{odd-end, odd-on, odd-stop}
 use Rattle.text.proofs.Tails.{back-lt}
 use Rattle.text.proofs.cluster.odd_to.Statement.{statement}
 use Rattle.text.proofs.cluster.odd_to.Tie as tie
@@ -18,26 +18,29 @@ Inv-loop profile t q odd₀ i₀ odd i = (i ≤ length t) × ((rest es : List Sc
 abbrev μ-loop : tie.MeasureT-loop
 μ-loop profile t q odd₀ i₀ odd i = i
 
+indicators-to-requires : tie.Need-indicators-to-requires Inv-loop μ-loop
+indicators-to-requires c κs = search needs
+
 loop-holds : tie.Need-loop-holds Inv-loop μ-loop
-loop-holds c = (search needs, λ rest es p s. odd-begin _ (c .before .args .t .now) (c .before .args .q) rest es p s)
+loop-holds c = (omega (arith, c .indicators-to .ensures .inside), c .indicators-to .ensures .left (c .before .before .args .profile))
 
 scalar-start-requires : tie.Need-scalar-start-requires Inv-loop μ-loop
 scalar-start-requires c κs = search needs
 
 class-at-requires : tie.Need-class-at-requires Inv-loop μ-loop
-class-at-requires c κs = omega (arith, back-lt (c .before .before .before .before .args .t .now) (c .before .before .loop .i) (c .before .loop-test .taken), c .scalar-start .ensures)
+class-at-requires c κs = omega (arith, back-lt (c .before .before .before .before .before .args .t .now) (c .before .before .loop .i) (c .before .loop-test .taken), c .scalar-start .ensures)
 
 loop-less : tie.Need-loop-less Inv-loop μ-loop
-loop-less c = omega (arith, back-lt (c .before .before .before .before .before .before .args .t .now) (c .before .before .before .before .loop .i) (c .before .before .before .loop-test .taken), c .before .before .scalar-start .ensures)
+loop-less c = omega (arith, back-lt (c .before .before .before .before .before .before .before .args .t .now) (c .before .before .before .before .loop .i) (c .before .before .before .loop-test .taken), c .before .before .scalar-start .ensures)
 
 loop-again : tie.Need-loop-again Inv-loop μ-loop
-loop-again c = (omega (arith, back-lt (c .before .before .before .before .before .before .args .t .now) (c .before .before .before .before .loop .i) (c .before .before .before .loop-test .taken), c .before .before .scalar-start .ensures), λ rest es p s. odd-on _ (c .before .before .before .before .before .before .args .t .now) (c .before .before .before .before .loop .i) (c .before .before .before .before .loop .odd) _ _ _ (c .before .before .before .loop-test .taken) (c .before .before .scalar-start .ensures) (c .before .class-at .ensures) (c .if1 .taken) (c .before .before .before .before .loop .inv .1 rest es p s))
+loop-again c = (omega (arith, back-lt (c .before .before .before .before .before .before .before .args .t .now) (c .before .before .before .before .loop .i) (c .before .before .before .loop-test .taken), c .before .before .scalar-start .ensures), λ rest es p s. odd-on _ (c .before .before .before .before .before .before .before .args .t .now) (c .before .before .before .before .loop .i) (c .before .before .before .before .loop .odd) _ _ _ (c .before .before .before .loop-test .taken) (c .before .before .scalar-start .ensures) (c .before .class-at .ensures) (c .if1 .taken) (c .before .before .before .before .loop .inv .1 rest es p s))
 
 returns : tie.Need-returns Inv-loop μ-loop
-returns c = λ rest es p s. odd-stop _ (c .before .before .before .before .before .before .args .t .now) (c .before .before .before .before .loop .i) (c .before .before .before .before .loop .odd) _ _ _ (c .before .before .before .loop-test .taken) (c .before .before .scalar-start .ensures) (c .before .class-at .ensures) (c .if1 .left) (c .before .before .before .before .loop .inv .1 rest es p s)
+returns c = λ rest es p s. odd-stop _ (c .before .before .before .before .before .before .before .args .t .now) (c .before .before .before .before .loop .i) (c .before .before .before .before .loop .odd) _ _ _ (c .before .before .before .loop-test .taken) (c .before .before .scalar-start .ensures) (c .before .class-at .ensures) (c .if1 .left) (c .before .before .before .before .loop .inv .1 rest es p s)
 
 returns-2 : tie.Need-returns-2 Inv-loop μ-loop
-returns-2 c = λ rest es p s. odd-end _ (c .before .before .before .args .t .now) (c .before .loop .i) (c .before .loop .odd) _ (c .loop-test .left) (c .before .loop .inv .1 rest es p s)
+returns-2 c = λ rest es p s. odd-end _ (c .before .before .before .before .args .t .now) (c .before .loop .i) (c .before .loop .odd) _ (c .loop-test .left) (c .before .loop .inv .1 rest es p s)
 
 pub odd-to-spec : {M : Type 1} → statement M
 odd-to-spec =
@@ -45,6 +48,7 @@ odd-to-spec =
     (tie.spec
     Inv-loop
     μ-loop
+    indicators-to-requires
     loop-holds
     scalar-start-requires
     class-at-requires

@@ -1,29 +1,9 @@
 use native.Mathlib.Omega.{arith}
+use mathlib.Core.List.{[]}
 use borrow.Author.Needs.{needs}
-use Rattle.text.proofs.Converting.{piece-damaged, piece-end, piece-run, piece-span}
+use Rattle.text.proofs.Converting.{piece-damaged, piece-end, piece-fits, piece-run}
 use Rattle.text.proofs.overstrike.convert_piece.Statement.{statement}
 use Rattle.text.proofs.overstrike.convert_piece.Tie as tie
-
-run-end-requires : tie.Need-run-end-requires
-run-end-requires c κs = search needs
-
-shared-slice-read-out : tie.Need-shared-slice-read-out
-shared-slice-read-out c = search needs
-
-slice-write-out : tie.Need-slice-write-out
-slice-write-out c = omega (arith, c .before .before .before .before .before .pre .room, c .before .before .before .before .before .pre .here)
-
-add-t13 : tie.Need-add-t13
-add-t13 c = search needs
-
-add-t14 : tie.Need-add-t14
-add-t14 c = search needs
-
-same-length : tie.Need-same-length
-same-length c = search needs
-
-returns : tie.Need-returns
-returns c = search piece-damaged
 
 sub-convert-unicode-span : tie.Need-sub-convert-unicode-span
 sub-convert-unicode-span c = search needs
@@ -32,7 +12,7 @@ part-convert-unicode-span-start : tie.Need-part-convert-unicode-span-start
 part-convert-unicode-span-start c = search needs
 
 part-convert-unicode-span-end : tie.Need-part-convert-unicode-span-end
-part-convert-unicode-span-end c = search piece-end
+part-convert-unicode-span-end c = search needs
 
 sub-convert-unicode-span-2 : tie.Need-sub-convert-unicode-span-2
 sub-convert-unicode-span-2 c = search needs
@@ -44,10 +24,31 @@ part-convert-unicode-span-end-2 : tie.Need-part-convert-unicode-span-end-2
 part-convert-unicode-span-end-2 c = search needs
 
 convert-unicode-span-requires : tie.Need-convert-unicode-span-requires
-convert-unicode-span-requires c κs = search piece-span
+convert-unicode-span-requires c κs = search needs
 
-add-t16 : tie.Need-add-t16
-add-t16 c = search needs
+shared-slice-read-out : tie.Need-shared-slice-read-out
+shared-slice-read-out c = search needs
+
+slice-write-out : tie.Need-slice-write-out
+slice-write-out c = search needs
+
+add-t20 : tie.Need-add-t20
+add-t20 c = search needs
+
+add-t21 : tie.Need-add-t21
+add-t21 c = search needs
+
+same-length : tie.Need-same-length
+same-length c = search needs
+
+returns : tie.Need-returns
+returns c = search piece-damaged
+
+add-t9 : tie.Need-add-t9
+add-t9 c = omega (arith, piece-end (c .before .before .before .before .before .before .before .before .before .before .args .line .now) (c .before .before .before .before .before .before .before .before .before .before .args .out .now) (c .before .before .before .before .before .before .before .before .before .before .args .done) (c .before .before .before .before .before .before .before .before .before .before .pre) _ (c .before .before .before .before .before .convert-unicode-span .last .1 .1 .0) [] (c .before .before .before .before .before .convert-unicode-span .result) (c .before .before .before .before .before .convert-unicode-span .kept .1 .1 .0) (c .before .before .before .before .before .convert-unicode-span .ensures))
+
+add-t13 : tie.Need-add-t13
+add-t13 c = omega (arith, piece-fits (c .before .before .before .before .before .before .before .before .before .before .before .args .line .now) (c .before .before .before .before .before .before .before .before .before .before .before .args .out .now) (c .before .before .before .before .before .before .before .before .before .before .before .args .done) (c .before .before .before .before .before .before .before .before .before .before .before .pre) _ (c .before .before .before .before .before .before .convert-unicode-span .last .1 .1 .0) [] (c .before .before .before .before .before .before .convert-unicode-span .result) (c .before .before .before .before .before .before .convert-unicode-span .kept .1 .1 .0) (c .before .before .before .before .before .before .convert-unicode-span .ensures))
 
 same-length-2 : tie.Need-same-length-2
 same-length-2 c = search needs
@@ -59,13 +60,6 @@ pub convert-piece-spec : {M : Type 1} → statement M
 convert-piece-spec =
     tie.close
     (tie.spec
-    run-end-requires
-    shared-slice-read-out
-    slice-write-out
-    add-t13
-    add-t14
-    same-length
-    returns
     sub-convert-unicode-span
     part-convert-unicode-span-start
     part-convert-unicode-span-end
@@ -73,6 +67,13 @@ convert-piece-spec =
     part-convert-unicode-span-start-2
     part-convert-unicode-span-end-2
     convert-unicode-span-requires
-    add-t16
+    shared-slice-read-out
+    slice-write-out
+    add-t20
+    add-t21
+    same-length
+    returns
+    add-t9
+    add-t13
     same-length-2
     returns-2)

@@ -3,7 +3,7 @@ use mathlib.Core.Path.{_≡_}
 use lib.ListN.{length}
 use borrow.Author.Needs.{needs}
 use Rattle.text.specs.Code.{profileOf}
-use Rattle.text.proofs.Converting.{Running, running-begin, running-end, running-finish, running-less, running-ready, running-turn}
+use Rattle.text.proofs.Converting.{Running, running-begin, running-damaged, running-end, running-finish, running-less, running-ready, running-turn}
 use Rattle.text.proofs.overstrike.convert_unicode_span.Statement.{statement}
 use Rattle.text.proofs.overstrike.convert_unicode_span.Tie as tie
 
@@ -19,6 +19,15 @@ loop-holds c = (search running-begin, search needs)
 first-end-requires : tie.Need-first-end-requires Inv-loop μ-loop
 first-end-requires c κs = search needs
 
+finish-requires : tie.Need-finish-requires Inv-loop μ-loop
+finish-requires c κs = search running-finish
+
+same-length : tie.Need-same-length Inv-loop μ-loop
+same-length c = search needs
+
+returns : tie.Need-returns Inv-loop μ-loop
+returns c = search running-damaged
+
 step-requires : tie.Need-step-requires Inv-loop μ-loop
 step-requires c κs = search running-ready
 
@@ -28,14 +37,14 @@ loop-less c = search running-less
 loop-again : tie.Need-loop-again Inv-loop μ-loop
 loop-again c = (search running-turn, search needs)
 
-finish-requires : tie.Need-finish-requires Inv-loop μ-loop
-finish-requires c κs = search running-finish
+finish-requires-2 : tie.Need-finish-requires-2 Inv-loop μ-loop
+finish-requires-2 c κs = search running-finish
 
-same-length : tie.Need-same-length Inv-loop μ-loop
-same-length c = search needs
+same-length-2 : tie.Need-same-length-2 Inv-loop μ-loop
+same-length-2 c = search needs
 
-returns : tie.Need-returns Inv-loop μ-loop
-returns c = search running-end
+returns-2 : tie.Need-returns-2 Inv-loop μ-loop
+returns-2 c = search running-end
 
 pub convert-unicode-span-spec : {M : Type 1} → statement M
 convert-unicode-span-spec =
@@ -45,9 +54,12 @@ convert-unicode-span-spec =
     μ-loop
     loop-holds
     first-end-requires
+    finish-requires
+    same-length
+    returns
     step-requires
     loop-less
     loop-again
-    finish-requires
-    same-length
-    returns)
+    finish-requires-2
+    same-length-2
+    returns-2)

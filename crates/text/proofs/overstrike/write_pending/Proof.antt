@@ -1,39 +1,67 @@
 use native.Mathlib.Omega.{arith}
 use borrow.Author.Needs.{needs}
 use Rattle.text.proofs.Runs.{part-slice}
-use Rattle.text.proofs.Steps.{part-pushed, part-room}
+use Rattle.text.proofs.Steps.{part-pushed, part-room, plain-pushed, plain-room}
 use Rattle.text.proofs.overstrike.write_pending.Statement.{statement}
 use Rattle.text.proofs.overstrike.write_pending.Tie as tie
 
+is-changed-requires : tie.Need-is-changed-requires
+is-changed-requires c κs = search needs
+
 add-control-sequence-requires : tie.Need-add-control-sequence-requires
-add-control-sequence-requires c κs = omega (arith, c .before .before .before .before .before .pre .room)
+add-control-sequence-requires c κs = omega (arith, c .before .before .before .before .before .before .before .pre .room)
 
 sub-push : tie.Need-sub-push
-sub-push c = omega (arith, c .before .before .before .before .before .before .before .before .before .pre .sound .part .ordered)
+sub-push c = omega (arith, c .before .before .before .before .before .before .before .before .before .before .before .pre .sound .part .ordered)
 
 part-push-start : tie.Need-part-push-start
-part-push-start c = omega (arith, c .before .before .before .before .before .before .before .before .before .pre .sound .part .ordered, c .before .before .before .before .before .before .before .before .before .pre .sound .part .within)
+part-push-start c = search needs
 
 part-push-end : tie.Need-part-push-end
-part-push-end c = omega (arith, c .before .before .before .before .before .before .before .before .before .pre .sound .part .ordered, c .before .before .before .before .before .before .before .before .before .pre .sound .part .within)
+part-push-end c = omega (arith, c .before .before .before .before .before .before .before .before .before .before .before .pre .sound .part .ordered, c .before .before .before .before .before .before .before .before .before .before .before .pre .sound .part .within)
 
 push-requires : tie.Need-push-requires
-push-requires c κs = rw (part-slice (c .before .before .before .before .before .before .before .before .before .before .args .st .at) (c .before .before .before .before .before .before .before .before .before .before .args .st .end) (c .before .before .before .before .before .before .before .before .before .before .args .line .now)) (part-room (c .before .before .before .before .before .before .before .before .before .before .args .line .now) (c .before .before .before .before .before .before .before .before .before .before .args .out .now) (c .before .before .before .before .before .before .before .before .before .before .args .st) (c .before .before .before .before .before .before .before .before .before .before .pre) (c .before .before .before .before .add-control-sequence .last .0) _ (c .before .before .before .before .add-control-sequence .ensures) (c .before .before .before .before .add-control-sequence .kept .0))
+push-requires c κs = rw (part-slice (c .before .before .before .before .before .before .before .before .before .before .before .before .args .st .at) (c .before .before .before .before .before .before .before .before .before .before .before .before .args .st .end) (c .before .before .before .before .before .before .before .before .before .before .before .before .args .line .now)) (part-room (c .before .before .before .before .before .before .before .before .before .before .before .before .args .line .now) (c .before .before .before .before .before .before .before .before .before .before .before .before .args .out .now) (c .before .before .before .before .before .before .before .before .before .before .before .before .args .st) (c .before .before .before .before .before .before .before .before .before .before .before .before .pre) (c .before .before .before .before .add-control-sequence .last .0) _ (c .before .before .before .before .add-control-sequence .ensures) (c .before .before .before .before .add-control-sequence .kept .0))
 
 same-length : tie.Need-same-length
 same-length c = search needs
 
 returns : tie.Need-returns
-returns c = part-pushed (c .before .before .before .before .before .before .before .before .before .before .before .before .before .args .line .now) (c .before .before .before .before .before .before .before .before .before .before .before .before .before .args .out .now) (c .before .before .before .before .before .before .before .before .before .before .before .before .before .args .st) (c .before .before .before .before .before .before .before .before .before .before .before .before .before .pre) (c .before .before .before .before .before .before .before .add-control-sequence .last .0) _ (c .before .before .before .before .before .before .before .add-control-sequence .ensures) (c .before .before .before .before .before .before .before .add-control-sequence .kept .0) _ _ (rw (part-slice (c .before .before .before .before .before .before .before .before .before .before .before .before .before .args .st .at) (c .before .before .before .before .before .before .before .before .before .before .before .before .before .args .st .end) (c .before .before .before .before .before .before .before .before .before .before .before .before .before .args .line .now)) at (c .before .before .push .ensures))
+returns c = part-pushed (c .before .before .before .before .before .before .before .before .before .before .before .before .before .before .before .args .line .now) (c .before .before .before .before .before .before .before .before .before .before .before .before .before .before .before .args .out .now) (c .before .before .before .before .before .before .before .before .before .before .before .before .before .before .before .args .st) (c .before .before .before .before .before .before .before .before .before .before .before .before .before .before .before .pre) (c .before .before .before .before .before .before .before .add-control-sequence .last .0) _ (c .before .before .before .before .before .before .before .add-control-sequence .ensures) (c .before .before .before .before .before .before .before .add-control-sequence .kept .0) _ _ (rw (part-slice (c .before .before .before .before .before .before .before .before .before .before .before .before .before .before .before .args .st .at) (c .before .before .before .before .before .before .before .before .before .before .before .before .before .before .before .args .st .end) (c .before .before .before .before .before .before .before .before .before .before .before .before .before .before .before .args .line .now)) at (c .before .before .push .ensures))
+
+sub-push-2 : tie.Need-sub-push-2
+sub-push-2 c = search needs
+
+part-push-start-2 : tie.Need-part-push-start-2
+part-push-start-2 c = search needs
+
+part-push-end-2 : tie.Need-part-push-end-2
+part-push-end-2 c = search needs
+
+push-requires-2 : tie.Need-push-requires-2
+push-requires-2 c κs = rw (part-slice (c .before .before .before .before .before .before .before .before .args .st .at) (c .before .before .before .before .before .before .before .before .args .st .end) (c .before .before .before .before .before .before .before .before .args .line .now)) (plain-room (c .before .before .before .before .before .before .before .before .args .line .now) (c .before .before .before .before .before .before .before .before .args .out .now) (c .before .before .before .before .before .before .before .before .args .st) (c .before .before .before .before .before .before .before .before .pre) _ (c .before .before .before .is-changed .ensures) (c .before .before .if1 .left))
+
+same-length-2 : tie.Need-same-length-2
+same-length-2 c = search needs
+
+returns-2 : tie.Need-returns-2
+returns-2 c = plain-pushed (c .before .before .before .before .before .before .before .before .before .before .before .args .line .now) (c .before .before .before .before .before .before .before .before .before .before .before .args .out .now) (c .before .before .before .before .before .before .before .before .before .before .before .args .st) (c .before .before .before .before .before .before .before .before .before .before .before .pre) _ (c .before .before .before .before .before .before .is-changed .ensures) (c .before .before .before .before .before .if1 .left) _ _ (rw (part-slice (c .before .before .before .before .before .before .before .before .before .before .before .args .st .at) (c .before .before .before .before .before .before .before .before .before .before .before .args .st .end) (c .before .before .before .before .before .before .before .before .before .before .before .args .line .now)) at (c .before .before .push2 .ensures))
 
 pub write-pending-spec : {M : Type 1} → statement M
 write-pending-spec =
     tie.close
     (tie.spec
+    is-changed-requires
     add-control-sequence-requires
     sub-push
     part-push-start
     part-push-end
     push-requires
     same-length
-    returns)
+    returns
+    sub-push-2
+    part-push-start-2
+    part-push-end-2
+    push-requires-2
+    same-length-2
+    returns-2)

@@ -1,10 +1,14 @@
 use borrow.Author.Needs.{needs}
+use Rattle.text.proofs.Ascii.{ascii-first}
+use Rattle.text.proofs.Units.{decode-at}
 use Rattle.text.proofs.utf8.decode.Statement.{statement}
 use Rattle.text.proofs.utf8.decode.Tie as tie
-use Rattle.text.proofs.Units.{decode-at}
 
 byte-at-requires : tie.Need-byte-at-requires
 byte-at-requires c κs = search needs
+
+returns : tie.Need-returns
+returns c = search ascii-first
 
 add-byte-at : tie.Need-add-byte-at
 add-byte-at c = search needs
@@ -30,14 +34,15 @@ sequence-of-requires c κs = search needs
 value-of-requires : tie.Need-value-of-requires
 value-of-requires c κs = search needs
 
-returns : tie.Need-returns
-returns c = search decode-at
+returns-2 : tie.Need-returns-2
+returns-2 c = search decode-at
 
 pub decode-spec : {M : Type 1} → statement M
 decode-spec =
     tie.close
     (tie.spec
     byte-at-requires
+    returns
     add-byte-at
     byte-at-requires-2
     add-byte-at-2
@@ -46,4 +51,4 @@ decode-spec =
     byte-at-requires-4
     sequence-of-requires
     value-of-requires
-    returns)
+    returns-2)

@@ -1,0 +1,276 @@
+-- What the short cuts rest on: scalars below 80, and ranges in which every scalar is of class other.
+use Prim.Native.Nat.{_+_, _-_, _<_, _≤_, suc, zero, ℕ}
+use native.Mathlib.Omega.{arith}
+use mathlib.Core.Bool.{Bool, _&&_, _||_, false, not, true}
+use mathlib.Core.List.{List, [], _∷_}
+use mathlib.Core.Logic.{_≢_}
+use mathlib.Core.Path.{_∙_, _≡_, ap, refl, sym}
+use lib.Dec.{T, eqb, eqb→eq, leb, leb→le, ltb, ltb→lt}
+use lib.ListN.{drop, getD, length}
+use lib.Seq.{drop-cons}
+use borrow.Author.Tests.{eqb-false, eqb-true, le-leb, lt-leb, ne-eqb, not-true}
+use Rattle.text.specs.Class.{Profile, among, class01, control, controls, cr, extends, inAny, lf, number, other}
+use Rattle.text.specs.Cluster.{Context, joined}
+use Rattle.text.specs.Code.{asciiPair, back, firstSequence, isTail, plain, profileOf, quiets, regionalAt, sequenceOf}
+use Rattle.text.specs.Tests.{and-T, cases, is-false, is-true, or-T, true-T}
+use Rattle.text.specs.Utf8.{Range, decode, fits, lengthIn, sequence, table, to, value, within}
+use Rattle.text.specs.Width.{wides, width01}
+use Rattle.text.specs.declared.utf8.Sequence.{Sequence}
+use Rattle.text.proofs.Tails.{back-here, back-tail}
+use Rattle.text.proofs.Units.{decode-at, first-by, zero-leb}
+use Rattle.text.specs.declared.class.Profile as code
+
+-- ---- a test of every number of a range, computed once
+
+unfoldable pub eachFrom : ℕ → ℕ → (ℕ → Bool) → Bool
+eachFrom lo zero f = true
+eachFrom lo (suc n) f = f lo && eachFrom (suc lo) n f
+
+pub each-at : (n lo x : ℕ) (f : ℕ → Bool) → T (eachFrom lo n f) → lo ≤ x → x < lo + n → f x ≡ true
+unfolding eachFrom
+each-at zero lo x f t h k = absurd (omega arith)
+each-at (suc n) lo x f t h k =
+    let p = and-T (f lo) (eachFrom (suc lo) n f) t in
+    cases (eqb lo x)
+    (λ e. rw (eqb-true lo x e) at (is-true (f lo) (p .0)))
+    (λ e. each-at n (suc lo) x f (p .1) (let d = eqb-false lo x e in omega arith) (omega arith))
+
+-- ---- below 80
+
+-- CR apart, none of them joins what follows
+before-class : ℕ → Bool
+before-class x = eqb x 0x0D || among (number (class01 x)) (lf ∷ control ∷ other ∷ [])
+
+-- and none joins what stands before it
+after-class : ℕ → Bool
+after-class x = among (number (class01 x)) (cr ∷ lf ∷ control ∷ other ∷ [])
+
+before-each : T (eachFrom 0 128 before-class)
+unfolding eachFrom before-class among number class01
+before-each = tt
+
+after-each : T (eachFrom 0 128 after-class)
+unfolding eachFrom after-class among number class01
+after-each = tt
+
+apart-numbers : (p : ℕ) (k : Context) (c : ℕ) → among p (lf ∷ control ∷ other ∷ []) ≡ true → among c (cr ∷ lf ∷ control ∷ other ∷ []) ≡ true → joined p k c ≡ false
+unfolding joined among number
+apart-numbers p k c f g =
+    cases (eqb p 1) (λ e. rw (eqb-true p 1 e) refl)
+    (λ e₁. cases (eqb p 2) (λ e. rw (eqb-true p 2 e) refl)
+    (λ e₂. let z : p ≡ 11 = eqb-true p 11 (rw (e₁, e₂) at f) in
+    rw z
+    (cases (eqb c 0) (λ e. rw (eqb-true c 0 e) refl)
+    (λ d₀. cases (eqb c 1) (λ e. rw (eqb-true c 1 e) refl)
+    (λ d₁. cases (eqb c 2) (λ e. rw (eqb-true c 2 e) refl)
+    (λ d₂. let y : c ≡ 11 = eqb-true c 11 (rw (d₀, d₁, d₂) at g) in
+    rw y (cases (k .odd) (λ o. rw o refl) (λ o. rw o refl))))))))
+
+pub ascii-apart : (b a : ℕ) (k : Context) → b < 128 → a < 128 → (b ≢ 13) → joined (number (class01 b)) k (number (class01 a)) ≡ false
+unfolding before-class after-class
+ascii-apart b a k h g n =
+    let f : (eqb b 13 || among (number (class01 b)) (lf ∷ control ∷ other ∷ [])) ≡ true = each-at 128 0 b before-class before-each (omega arith) (omega arith) in
+    apart-numbers (number (class01 b)) k (number (class01 a)) (rw (ne-eqb b 13 n) at f) (each-at 128 0 a after-class after-each (omega arith) (omega arith))
+
+-- a byte below 80 is a sequence by itself
+sequence-one : (a : ℕ) (s : List ℕ) → a < 128 → sequence (a ∷ s) ≡ 1
+unfolding sequence lengthIn fits table
+sequence-one a s h = rw (zero-leb a, le-leb a 0x7F (omega arith)) refl
+
+pub ascii-sequence : (s : List ℕ) (p a : ℕ) → p < length s → a ≡ getD s p 0 → a < 128 → sequenceOf a 1 ≡ firstSequence (decode (drop p s))
+unfolding value
+ascii-sequence s p a h e l =
+    sym (ap (λ (x : List ℕ). firstSequence (decode x)) (drop-cons s p 0 h ∙ ap (λ (x : ℕ). x ∷ drop (suc p) s) (sym e)) ∙ first-by a (drop (suc p) s) 1 (sequence-one a (drop (suc p) s) l))
+
+pub ascii-first : (s : List ℕ) (p a : ℕ) → p < length s → a ≡ getD s p 0 → a ≤ 0x7F → sequenceOf a 1 ≡ firstSequence (decode (drop p s))
+ascii-first s p a h e l = ascii-sequence s p a h e (omega arith)
+
+-- of two bytes below 80, the first not CR, no rule of the profile joins the second to the first
+abbrev pub Apart : Profile → Type 0
+Apart P = (b a : ℕ) (k : Context) → b < 128 → a < 128 → (b ≢ 13) → joined (number (P .class b)) k (number (P .class a)) ≡ false
+
+pub apart : (p : code.Profile) → Apart (profileOf p)
+unfolding profileOf
+apart p b a k h g n = ascii-apart b a k h g n
+
+pub record PairBytes (s : List ℕ) (i : ℕ) : Type 0 where
+  pub first : getD s i 0 < 128
+  pub plain : getD s i 0 ≢ 13
+  pub second : getD s (i + 1) 0 < 128
+
+pub pair-bytes : (s : List ℕ) (i : ℕ) → asciiPair s i ≡ true → PairBytes s i
+pair-bytes s i e =
+    let p = and-T (ltb (getD s i 0) 128) _ (true-T e) in
+    let q = and-T (not (eqb (getD s i 0) 13)) _ (p .1) in
+    record {
+      first = ltb→lt _ _ (p .0);
+      plain = eqb-false _ _ (not-true _ (is-true _ (q .0)));
+      second = ltb→lt _ _ (q .1);
+    }
+
+pub low-tail : (b : ℕ) → b < 128 → isTail b ≡ false
+low-tail b h = rw (lt-leb 0x80 b h) refl
+
+-- ---- regional indicators
+
+record RegionalBytes (t : List ℕ) (j : ℕ) : Type 0 where
+  a : getD t j 0 ≡ 0xF0
+  b : getD t (j + 1) 0 ≡ 0x9F
+  c : getD t (j + 2) 0 ≡ 0x87
+  low : 0xA6 ≤ getD t (j + 3) 0
+  high : getD t (j + 3) 0 ≤ 0xBF
+
+regional-bytes : (t : List ℕ) (j : ℕ) → regionalAt t j ≡ true → RegionalBytes t j
+regional-bytes t j e =
+    let p = and-T (eqb (getD t j 0) 0xF0) _ (true-T e) in
+    let q = and-T (eqb (getD t (j + 1) 0) 0x9F) _ (p .1) in
+    let r = and-T (eqb (getD t (j + 2) 0) 0x87) _ (q .1) in
+    let s = and-T (leb 0xA6 (getD t (j + 3) 0)) _ (r .1) in
+    record { a = eqb→eq _ _ (p .0); b = eqb→eq _ _ (q .0); c = eqb→eq _ _ (r .0); low = leb→le _ _ (s .0); high = leb→le _ _ (s .1) }
+
+pub regional-back : (t : List ℕ) (i j : ℕ) → 4 ≤ i → j ≡ i - 4 → regionalAt t j ≡ true → back t i ≡ j
+regional-back t i j h e f =
+    let w = regional-bytes t j f in
+    let m : isTail (getD t (j + 3) 0) ≡ true = rw (le-leb 0x80 (getD t (j + 3) 0) (omega (arith, w .low)), le-leb (getD t (j + 3) 0) 0xBF (w .high)) refl in
+    back-tail t i (j + 3) (getD t (j + 3) 0) (omega arith) (omega arith) refl m
+    ∙ back-tail t (j + 3) (j + 2) (getD t (j + 2) 0) (omega arith) (omega arith) refl (rw (w .c) refl)
+    ∙ back-tail t (j + 2) (j + 1) (getD t (j + 1) 0) (omega arith) (omega arith) refl (rw (w .b) refl)
+    ∙ sym (back-here t (j + 1) j (getD t j 0) (omega arith) (omega arith) refl (rw (w .a) refl))
+
+regional-test : ℕ → Bool
+regional-test d = eqb (sequence (0xF0 ∷ 0x9F ∷ 0x87 ∷ d ∷ [])) 4 && eqb (number (class01 (value (0xF0 ∷ 0x9F ∷ 0x87 ∷ d ∷ [])))) 10
+
+regional-each : T (eachFrom 0xA6 26 regional-test)
+unfolding eachFrom regional-test sequence value number class01
+regional-each = tt
+
+pub regional-class : (p : code.Profile) (t : List ℕ) (j : ℕ) → j + 4 ≤ length t → regionalAt t j ≡ true → number (profileOf p .class (firstSequence (decode (drop j t)) .code)) ≡ 10
+unfolding profileOf regional-test
+regional-class p t j h f =
+    let w = regional-bytes t j f in
+    let d : ℕ = getD t (j + 3) 0 in
+    let k = and-T (eqb (sequence (0xF0 ∷ 0x9F ∷ 0x87 ∷ d ∷ [])) 4) _ (true-T (each-at 26 0xA6 d regional-test regional-each (w .low) (omega (arith, w .high)))) in
+    let n : sequence (0xF0 ∷ 0x9F ∷ 0x87 ∷ d ∷ []) ≡ 4 = eqb→eq _ _ (k .0) in
+    let s : sequenceOf (value (0xF0 ∷ 0x9F ∷ 0x87 ∷ d ∷ [])) 4 ≡ firstSequence (decode (drop j t)) =
+    decode-at t j 0xF0 0x9F 0x87 d 4 (value (0xF0 ∷ 0x9F ∷ 0x87 ∷ d ∷ [])) (omega arith) (sym (w .a)) (sym (w .b)) (sym (w .c)) refl (sym n) refl in
+    ap (λ (u : Sequence). number (class01 (u .code))) (sym s) ∙ eqb→eq _ _ (k .1)
+
+-- ---- quiet ranges
+
+-- none of these ranges meets the scalars from a to b
+clear : ℕ → ℕ → List Range → Bool
+clear a b [] = true
+clear a b (r ∷ rs) = (ltb (r .high) a || ltb b (r .low)) && clear a b rs
+
+clear-within : (r : Range) (a b x : ℕ) → T (ltb (r .high) a || ltb b (r .low)) → a ≤ x → x ≤ b → within r x ≡ false
+clear-within r a b x t h k =
+    is-false _ (λ w.
+    let p = and-T (leb (r .low) x) (leb x (r .high)) w in
+    let lo : r .low ≤ x = leb→le _ _ (p .0) in
+    let hi : x ≤ r .high = leb→le _ _ (p .1) in
+    or-T (ltb (r .high) a) _ t
+    (λ u. let q : r .high < a = ltb→lt _ _ u in omega arith)
+    (λ u. let q : b < r .low = ltb→lt _ _ u in omega arith))
+
+clear-any : (rs : List Range) (a b x : ℕ) → T (clear a b rs) → a ≤ x → x ≤ b → inAny rs x ≡ false
+unfolding clear inAny
+clear-any [] a b x t h k = refl
+clear-any (r ∷ []) a b x t h k = clear-within r a b x (and-T (ltb (r .high) a || ltb b (r .low)) _ t .0) h k
+clear-any (r ∷ q ∷ rs) a b x t h k =
+    let p = and-T (ltb (r .high) a || ltb b (r .low)) (clear a b (q ∷ rs)) t in
+    rw (clear-within r a b x (p .0) h k) (clear-any (q ∷ rs) a b x (p .1) h k)
+
+not-one : (c a b x : ℕ) → T (ltb c a || ltb b c) → a ≤ x → x ≤ b → eqb x c ≡ false
+not-one c a b x t h k =
+    ne-eqb x c (λ e.
+    or-T (ltb c a) _ t
+    (λ u. let q : c < a = ltb→lt _ _ u in absurd (omega arith))
+    (λ u. let q : b < c = ltb→lt _ _ u in absurd (omega arith)))
+
+-- every test of class01 fails from a to b
+quiet-test : ℕ → ℕ → Bool
+quiet-test a b =
+    (ltb 0x0D a || ltb b 0x0D)
+    && ((ltb 0x0A a || ltb b 0x0A)
+    && ((ltb 0x200D a || ltb b 0x200D)
+    && (clear a b controls
+    && (clear a b extends
+    && (clear a b (to 0x1100 0x115F ∷ to 0xA960 0xA97C ∷ [])
+    && (clear a b (to 0x1160 0x11A7 ∷ to 0xD7B0 0xD7C6 ∷ [])
+    && (clear a b (to 0x11A8 0x11FF ∷ to 0xD7CB 0xD7FB ∷ [])
+    && (clear a b (to 0xAC00 0xD7A3 ∷ [])
+    && clear a b (to 0x1F1E6 0x1F1FF ∷ [])))))))))
+
+quiet-other : (a b x : ℕ) → T (quiet-test a b) → a ≤ x → x ≤ b → number (class01 x) ≡ 11
+unfolding quiet-test class01 number
+quiet-other a b x t h k =
+    let p₁ = and-T (ltb 0x0D a || ltb b 0x0D) _ t in
+    let p₂ = and-T (ltb 0x0A a || ltb b 0x0A) _ (p₁ .1) in
+    let p₃ = and-T (ltb 0x200D a || ltb b 0x200D) _ (p₂ .1) in
+    let p₄ = and-T (clear a b controls) _ (p₃ .1) in
+    let p₅ = and-T (clear a b extends) _ (p₄ .1) in
+    let p₆ = and-T (clear a b (to 0x1100 0x115F ∷ to 0xA960 0xA97C ∷ [])) _ (p₅ .1) in
+    let p₇ = and-T (clear a b (to 0x1160 0x11A7 ∷ to 0xD7B0 0xD7C6 ∷ [])) _ (p₆ .1) in
+    let p₈ = and-T (clear a b (to 0x11A8 0x11FF ∷ to 0xD7CB 0xD7FB ∷ [])) _ (p₇ .1) in
+    let p₉ = and-T (clear a b (to 0xAC00 0xD7A3 ∷ [])) _ (p₈ .1) in
+    rw (
+      not-one 0x0D a b x (p₁ .0) h k,
+      not-one 0x0A a b x (p₂ .0) h k,
+      clear-any controls a b x (p₄ .0) h k,
+      clear-any extends a b x (p₅ .0) h k,
+      not-one 0x200D a b x (p₃ .0) h k,
+      clear-any (to 0x1100 0x115F ∷ to 0xA960 0xA97C ∷ []) a b x (p₆ .0) h k,
+      clear-any (to 0x1160 0x11A7 ∷ to 0xD7B0 0xD7C6 ∷ []) a b x (p₇ .0) h k,
+      clear-any (to 0x11A8 0x11FF ∷ to 0xD7CB 0xD7FB ∷ []) a b x (p₈ .0) h k,
+      clear-any (to 0xAC00 0xD7A3 ∷ []) a b x (p₉ .0) h k,
+      clear-any (to 0x1F1E6 0x1F1FF ∷ []) a b x (p₉ .1) h k,
+    ) refl
+
+quiet-ranges : List Range → Bool
+quiet-ranges [] = true
+quiet-ranges (r ∷ rs) = quiet-test (r .low) (r .high) && quiet-ranges rs
+
+quiet-any : (rs : List Range) (x : ℕ) → T (quiet-ranges rs) → inAny rs x ≡ true → number (class01 x) ≡ 11
+unfolding quiet-ranges inAny
+quiet-any [] x t e = absurd (true-T e)
+quiet-any (r ∷ []) x t e =
+    let p = and-T (quiet-test (r .low) (r .high)) _ t in
+    let q = and-T (leb (r .low) x) (leb x (r .high)) (true-T e) in
+    quiet-other (r .low) (r .high) x (p .0) (leb→le _ _ (q .0)) (leb→le _ _ (q .1))
+quiet-any (r ∷ s ∷ rs) x t e =
+    let p = and-T (quiet-test (r .low) (r .high)) (quiet-ranges (s ∷ rs)) t in
+    cases (within r x)
+    (λ w. let q = and-T (leb (r .low) x) (leb x (r .high)) (true-T w) in quiet-other (r .low) (r .high) x (p .0) (leb→le _ _ (q .0)) (leb→le _ _ (q .1)))
+    (λ w. quiet-any (s ∷ rs) x (p .1) (rw w at e))
+
+pub quiet-class : (p : code.Profile) (x : ℕ) (b : Bool) → b ≡ inAny quiets x → b ≡ true → 11 ≡ number (profileOf p .class x)
+unfolding profileOf quiet-ranges quiet-test clear quiets controls extends
+quiet-class p x b e t = sym (quiet-any quiets x tt (sym e ∙ t))
+
+-- the first range of Extend
+pub mark-class : (p : code.Profile) (x : ℕ) → (leb 0x300 x && leb x 0x36F) ≡ true → 3 ≡ number (profileOf p .class x)
+unfolding profileOf class01 number inAny extends clear controls
+mark-class p x e =
+    let q = and-T (leb 0x300 x) (leb x 0x36F) (true-T e) in
+    let lo : 0x300 ≤ x = leb→le _ _ (q .0) in
+    let hi : x ≤ 0x36F = leb→le _ _ (q .1) in
+    sym (rw (not-one 0x0D 0x300 0x36F x tt lo hi, not-one 0x0A 0x300 0x36F x tt lo hi, clear-any controls 0x300 0x36F x tt lo hi, e) refl)
+
+-- ---- widths of common scalars
+
+module _ (p : code.Profile) (x : ℕ) where
+  pub narrow-width : (leb 0x20 x && leb x 0x7E) ≡ true → 1 ≡ profileOf p .width x
+  unfolding profileOf width01 clear wides quiet-test controls extends among number
+  narrow-width e =
+      let q = and-T (leb 0x20 x) (leb x 0x7E) (true-T e) in
+      let lo : 0x20 ≤ x = leb→le _ _ (q .0) in
+      let hi : x ≤ 0x7E = leb→le _ _ (q .1) in
+      sym (rw (quiet-other 0x20 0x7E x tt lo hi, clear-any wides 0x20 0x7E x tt lo hi) refl)
+
+  pub wide-width : (leb 0x3041 x && leb x 0xA4CF) ≡ true → 2 ≡ profileOf p .width x
+  unfolding profileOf width01 clear wides inAny quiet-test controls extends among number
+  wide-width e =
+      let q = and-T (leb 0x3041 x) (leb x 0xA4CF) (true-T e) in
+      let lo : 0x3041 ≤ x = leb→le _ _ (q .0) in
+      let hi : x ≤ 0xA4CF = leb→le _ _ (q .1) in
+      sym (rw (quiet-other 0x3041 0xA4CF x tt lo hi, clear-within (to 0x1100 0x115F) 0x3041 0xA4CF x tt lo hi, clear-within (to 0x2E80 0x303E) 0x3041 0xA4CF x tt lo hi, e) refl)
