@@ -1,0 +1,263 @@
+//! Makes a call of the library and compares what it leaves with the oracle's answer.
+
+use crate::faults::Fault;
+use crate::lent::Lent;
+use console_lines::Span;
+use oracle::format::answer_text;
+use oracle::{Answer, Call, Case, Record};
+use std::fmt;
+
+const BYTE: u8 = 0xA7;
+const NUMBER: usize = usize::from_ne_bytes([BYTE; 8]);
+const SPAN: Span = Span {
+    kind: NUMBER,
+    place: NUMBER,
+    len: NUMBER,
+    matched: NUMBER,
+};
+
+/// After so many calls all of the memory is looked at, not the guard zones only.
+const CALLS_BETWEEN_WHOLE_CHECKS: usize = 1_024;
+
+/// The memory that a call is handed.
+#[derive(Clone, Copy)]
+pub enum Buffer {
+    Line,
+    Matches,
+    Conv,
+    Spans,
+    Rows,
+    List,
+}
+
+impl Buffer {
+    pub const ALL: [Buffer; 6] = [
+        Buffer::Line,
+        Buffer::Matches,
+        Buffer::Conv,
+        Buffer::Spans,
+        Buffer::Rows,
+        Buffer::List,
+    ];
+}
+
+impl fmt::Display for Buffer {
+    fn fmt(&self, f: &mut fmt::Formatter<'_>) -> fmt::Result {
+        f.write_str(match self {
+            Buffer::Line => "the line",
+            Buffer::Matches => "the matches",
+            Buffer::Conv => "the conversion buffer",
+            Buffer::Spans => "the span list",
+            Buffer::Rows => "the row list",
+            Buffer::List => "the change list",
+        })
+    }
+}
+
+pub struct Library {
+    line: Lent<u8>,
+    matches: Lent<usize>,
+    conv: Lent<u8>,
+    spans: Lent<Span>,
+    rows: Lent<usize>,
+    list: Lent<u8>,
+    calls: usize,
+}
+
+impl Library {
+    pub fn new() -> Library {
+        Library {
+            line: Lent::new(BYTE),
+            matches: Lent::new(NUMBER),
+            conv: Lent::new(BYTE),
+            spans: Lent::new(SPAN),
+            rows: Lent::new(NUMBER),
+            list: Lent::new(BYTE),
+            calls: 0,
+        }
+    }
+
+    /// Makes a call, and compares what it returns and leaves.
+    pub fn compare(&mut self, case: &Case, expected: &Answer) -> Option<String> {
+        let answer = self.call(case);
+        self.difference(case, expected, answer)
+    }
+
+    /// The difference, as text, between what the last call returned and left and
+    /// what is expected. All memory is taken back.
+    pub fn difference(
+        &mut self,
+        case: &Case,
+        expected: &Answer,
+        answer: console_lines::Answer,
+    ) -> Option<String> {
+        let same = answer.number == expected.number
+            && answer.count == expected.count
+            && self.buffers_hold(expected);
+        let mut faults = self.memory_faults(case);
+        if !same {
+            let answer = answer_text(&case.call, &self.whole_answer(answer));
+            faults.insert(0, format!("= {answer}"));
+        }
+        self.take_back();
+        if self.calls.is_multiple_of(CALLS_BETWEEN_WHOLE_CHECKS) && !self.untouched() {
+            faults.push("memory far outside was written by this call or one before".to_string());
+        }
+        if faults.is_empty() {
+            return None;
+        }
+        self.restore();
+        let expected = answer_text(&case.call, expected);
+        Some(format!(
+            "{case} = {expected}\n  library: {}",
+            faults.join("; ")
+        ))
+    }
+
+    pub fn call(&mut self, case: &Case) -> console_lines::Answer {
+        let [conv, spans, rows, list] = case.call.lent();
+        let line = self.line.lend_copy(&case.line);
+        let matches = self.matches.lend_copy(case.call.matches());
+        let (conv, spans) = (self.conv.lend(conv), self.spans.lend(spans));
+        let (rows, list) = (self.rows.lend(rows), self.list.lend(list));
+        match case.call {
+            Call::Convert { .. } => console_lines::convert(line, conv),
+            Call::Read { .. } => console_lines::read(line, matches, conv, spans),
+            Call::Rows { width, mode, .. } => {
+                console_lines::rows(line, width, mode, conv, spans, rows)
+            }
+            Call::Height { width, mode, .. } => {
+                console_lines::height(line, width, mode, conv, spans)
+            }
+            Call::DrawWindow {
+                current,
+                start,
+                end,
+                ..
+            } => console_lines::draw_window(line, matches, current, start, end, conv, spans, list),
+            Call::DrawRow {
+                current,
+                first,
+                count,
+                width,
+                mode,
+                ..
+            } => console_lines::draw_row(
+                line, matches, current, first, count, width, mode, conv, spans, list,
+            ),
+        }
+    }
+
+    fn buffers_hold(&self, expected: &Answer) -> bool {
+        self.conv.holds(expected.conv.iter().copied())
+            && self.spans.holds(expected.records.iter().map(span))
+            && self.rows.holds(expected.pairs.iter().copied())
+            && self.list.holds(expected.list.iter().copied())
+    }
+
+    /// What was done to memory that is not lent for writing.
+    fn memory_faults(&self, case: &Case) -> Vec<String> {
+        let touched = Buffer::ALL.iter().filter(|buffer| !self.guarded(**buffer));
+        let mut faults: Vec<String> = touched
+            .map(|buffer| format!("memory around {buffer} is written"))
+            .collect();
+        if self.line.lent() != case.line || self.matches.lent() != case.call.matches() {
+            faults.push("the line or the matches are written".to_string());
+        }
+        faults
+    }
+
+    fn guarded(&self, buffer: Buffer) -> bool {
+        match buffer {
+            Buffer::Line => self.line.guarded(),
+            Buffer::Matches => self.matches.guarded(),
+            Buffer::Conv => self.conv.guarded(),
+            Buffer::Spans => self.spans.guarded(),
+            Buffer::Rows => self.rows.guarded(),
+            Buffer::List => self.list.guarded(),
+        }
+    }
+
+    /// Plants a fault in what the last call returned and left; whether it has room.
+    pub fn plant(&mut self, fault: Fault, answer: &mut console_lines::Answer) -> bool {
+        let (buffer, place) = match fault {
+            Fault::Number => {
+                answer.number ^= 1;
+                return true;
+            }
+            Fault::Count => {
+                answer.count += 1;
+                return true;
+            }
+            Fault::Memory(buffer, place) => (buffer, place),
+        };
+        match buffer {
+            Buffer::Line => self.line.damage(place),
+            Buffer::Matches => self.matches.damage(place),
+            Buffer::Conv => self.conv.damage(place),
+            Buffer::Spans => self.spans.damage(place),
+            Buffer::Rows => self.rows.damage(place),
+            Buffer::List => self.list.damage(place),
+        }
+    }
+
+    /// What the library returned and left, zeros included.
+    fn whole_answer(&self, answer: console_lines::Answer) -> Answer {
+        Answer {
+            number: answer.number,
+            count: answer.count,
+            conv: self.conv.lent().to_vec(),
+            records: self.spans.lent().iter().map(record).collect(),
+            pairs: self.rows.lent().to_vec(),
+            list: self.list.lent().to_vec(),
+        }
+    }
+
+    /// Fills what was lent with the pattern again.
+    pub fn take_back(&mut self) {
+        self.line.take_back();
+        self.matches.take_back();
+        self.conv.take_back();
+        self.spans.take_back();
+        self.rows.take_back();
+        self.list.take_back();
+        self.calls += 1;
+    }
+
+    /// Whether all of the memory holds the pattern.
+    fn untouched(&self) -> bool {
+        self.line.untouched()
+            && self.matches.untouched()
+            && self.conv.untouched()
+            && self.spans.untouched()
+            && self.rows.untouched()
+            && self.list.untouched()
+    }
+
+    fn restore(&mut self) {
+        self.line.restore();
+        self.matches.restore();
+        self.conv.restore();
+        self.spans.restore();
+        self.rows.restore();
+        self.list.restore();
+    }
+}
+
+fn span(record: &Record) -> Span {
+    Span {
+        kind: record.kind,
+        place: record.place,
+        len: record.len,
+        matched: record.matched,
+    }
+}
+
+fn record(span: &Span) -> Record {
+    Record {
+        kind: span.kind,
+        place: span.place,
+        len: span.len,
+        matched: span.matched,
+    }
+}
