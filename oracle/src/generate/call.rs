@@ -31,7 +31,7 @@ fn conv_size(random: &mut Random, line: &[u8]) -> usize {
     enough(random, 8 * line.len())
 }
 
-fn width(random: &mut Random) -> usize {
+pub fn width(random: &mut Random) -> usize {
     match random.below(30) {
         0 => 65_535,
         1 => 65_536,
@@ -42,7 +42,7 @@ fn width(random: &mut Random) -> usize {
     }
 }
 
-fn mode(random: &mut Random) -> usize {
+pub fn mode(random: &mut Random) -> usize {
     match random.below(40) {
         0 => random.pick(&[3, 4, usize::MAX, 1 << 32]),
         1..=7 => 0,
@@ -52,7 +52,7 @@ fn mode(random: &mut Random) -> usize {
 }
 
 /// A window, mostly at or beside the edges of what is drawn.
-fn window(random: &mut Random, line: &[u8]) -> (usize, usize) {
+pub fn window(random: &mut Random, line: &[u8]) -> (usize, usize) {
     let largest = 1_048_576;
     match random.below(30) {
         0 => (0, random.pick(&[largest, largest + 1, usize::MAX])),
@@ -168,7 +168,7 @@ fn height(random: &mut Random, line: &[u8], conv: usize) -> Call {
     }
 }
 
-fn current(random: &mut Random) -> usize {
+pub fn current(random: &mut Random) -> usize {
     random.pick(&[NONE, NONE, 0, 0, 1, 2, 7])
 }
 
@@ -211,7 +211,7 @@ fn draw_row(random: &mut Random, line: &[u8], conv: usize, with_matches: bool) -
     call
 }
 
-fn row_number(random: &mut Random) -> usize {
+pub fn row_number(random: &mut Random) -> usize {
     match random.below(40) {
         0 => random.pick(&[65_534, 65_535, 65_536]),
         1 => random.pick(&[usize::MAX - 1, 1 << 32]),
