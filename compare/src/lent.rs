@@ -1,0 +1,80 @@
+//! Memory lent to the library, with guard zones before and behind it.
+
+/// Items in a guard zone.
+const GUARD: usize = 64;
+/// Items that are there from the start, so that writing far outside is seen.
+const SPARE: usize = 16_384;
+
+/// All of the memory holds the pattern, which is not zero, before each call; so
+/// every zero found afterwards was written.
+pub struct Lent<T> {
+    memory: Vec<T>,
+    len: usize,
+    pattern: T,
+}
+
+impl<T: Copy + PartialEq + Default> Lent<T> {
+    pub fn new(pattern: T) -> Lent<T> {
+        assert!(pattern != T::default());
+        Lent {
+            memory: vec![pattern; GUARD + SPARE + GUARD],
+            len: 0,
+            pattern,
+        }
+    }
+
+    pub fn lend(&mut self, len: usize) -> &mut [T] {
+        let whole = GUARD + len + GUARD;
+        if self.memory.len() < whole {
+            self.memory.resize(whole, self.pattern);
+        }
+        self.len = len;
+        &mut self.memory[GUARD..GUARD + len]
+    }
+
+    pub fn lend_copy(&mut self, items: &[T]) -> &[T] {
+        let lent = self.lend(items.len());
+        lent.copy_from_slice(items);
+        lent
+    }
+
+    pub fn lent(&self) -> &[T] {
+        &self.memory[GUARD..GUARD + self.len]
+    }
+
+    /// Whether what was lent holds `items` and zeros after them.
+    pub fn holds(&self, items: impl ExactSizeIterator<Item = T>) -> bool {
+        if items.len() > self.len {
+            return false;
+        }
+        let (written, rest) = self.lent().split_at(items.len());
+        let zero = T::default();
+        written.iter().copied().eq(items) && rest.iter().all(|item| *item == zero)
+    }
+
+    /// Whether the guard zones hold the pattern.
+    pub fn guarded(&self) -> bool {
+        let end = GUARD + self.len;
+        self.is_pattern(0..GUARD) && self.is_pattern(end..end + GUARD)
+    }
+
+    /// Whether all of the memory holds the pattern, far places too.
+    pub fn untouched(&self) -> bool {
+        self.is_pattern(0..self.memory.len())
+    }
+
+    fn is_pattern(&self, places: std::ops::Range<usize>) -> bool {
+        self.memory[places].iter().all(|item| *item == self.pattern)
+    }
+
+    /// Fills what was lent with the pattern again.
+    pub fn take_back(&mut self) {
+        let end = GUARD + self.len;
+        self.memory[GUARD..end].fill(self.pattern);
+    }
+
+    /// Fills all of the memory with the pattern again.
+    pub fn restore(&mut self) {
+        self.memory.fill(self.pattern);
+    }
+}

@@ -1,0 +1,79 @@
+//! Counts of cases, and the differences found.
+
+use std::fmt;
+
+/// So many differences of a set are printed, the shortest ones.
+const MOST_PRINTED: usize = 20;
+
+#[derive(Default)]
+pub struct Tally {
+    pub cases: usize,
+    pub differ: usize,
+    /// How many were accepted, and how many refused by each question.
+    by_number: [usize; 10],
+    differences: Vec<String>,
+}
+
+impl Tally {
+    pub fn count(&mut self, number: usize, difference: Option<String>) {
+        self.cases += 1;
+        self.by_number[number] += 1;
+        if let Some(text) = difference {
+            self.differ += 1;
+            self.differences.push(text);
+            self.keep_shortest();
+        }
+    }
+
+    fn keep_shortest(&mut self) {
+        self.differences.sort_by_key(String::len);
+        self.differences.truncate(MOST_PRINTED);
+    }
+
+    pub fn add(&mut self, other: Tally) {
+        self.cases += other.cases;
+        self.differ += other.differ;
+        for (count, more) in self.by_number.iter_mut().zip(other.by_number) {
+            *count += more;
+        }
+        self.differences.extend(other.differences);
+        self.keep_shortest();
+    }
+
+    pub fn print_differences(&self) {
+        for text in &self.differences {
+            println!("{text}");
+        }
+    }
+
+    /// How many were accepted and how many refused, by number.
+    pub fn numbers(&self) -> String {
+        let mut text = format!("accepted {}", grouped(self.by_number[0]));
+        for (number, &count) in self.by_number.iter().enumerate().skip(1) {
+            if count > 0 {
+                text += &format!(", refused {number}: {}", grouped(count));
+            }
+        }
+        text
+    }
+}
+
+impl fmt::Display for Tally {
+    fn fmt(&self, f: &mut fmt::Formatter<'_>) -> fmt::Result {
+        let (cases, differ) = (grouped(self.cases), grouped(self.differ));
+        write!(f, "{cases} cases, {differ} differ")
+    }
+}
+
+/// A number with a comma before each three digits.
+pub fn grouped(number: usize) -> String {
+    let digits = number.to_string();
+    let mut text = String::new();
+    for (index, digit) in digits.chars().enumerate() {
+        if index > 0 && (digits.len() - index).is_multiple_of(3) {
+            text.push(',');
+        }
+        text.push(digit);
+    }
+    text
+}
