@@ -18,3 +18,8 @@ pub use answer::{convert, draw_row, draw_window, height, read, rows};
 pub use answer::{Answer, NONE};
 pub use format::{Call, Case};
 pub use streampager::probe::{clip, line_drawn, Record};
+
+/// The source's own functions, without questions, records and checks around them.
+pub mod source {
+    pub use streampager::probe::{convert, SourceLine};
+}

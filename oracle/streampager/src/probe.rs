@@ -314,3 +314,38 @@ fn keep_awaited_panics_silent() {
         }
     }));
 }
+
+// ---- the source alone
+
+/// A line read by the source, and nothing else done: for measuring its speed.
+pub struct SourceLine(Line);
+
+impl SourceLine {
+    pub fn read(raw: &[u8]) -> SourceLine {
+        SourceLine(Line::new(0, raw))
+    }
+
+    pub fn rows(&self, width: usize, mode: usize) -> Vec<(usize, usize)> {
+        self.0.make_wrap(width, wrapping(mode))
+    }
+
+    pub fn height(&self, width: usize, mode: usize) -> usize {
+        self.0.height(width, wrapping(mode))
+    }
+
+    /// The changes of `Line::render`; it panics where `truncate_string` does.
+    pub fn draw_window(&self, start: usize, end: usize) -> Vec<Change> {
+        let mut changes = Vec::new();
+        self.0.render(&mut changes, start, end, None);
+        changes
+    }
+
+    /// The changes of `Line::render_wrapped`; it panics where `truncate_string` does.
+    pub fn draw_row(&self, first: usize, count: usize, width: usize, mode: usize) -> Vec<Change> {
+        let mut changes = Vec::new();
+        let mode = wrapping(mode);
+        self.0
+            .render_wrapped(&mut changes, first, count, width, mode, None);
+        changes
+    }
+}
