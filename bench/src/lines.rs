@@ -59,13 +59,14 @@ const NOISY: &[u8] =
     b"rx-03 \xFF\xFEsweep 11\xC08204: g\xF5in 41.5 dB\xE6\xBC tune\x80 94\xF8\xF810 \
     MHz \x00\x01 noise\x7F floor\xED\xA0\x80\n";
 
-pub const KINDS: [Kind; 14] = [
+pub const KINDS: [Kind; 18] = [
     common("plain log line", &[LOG]),
     common("coloured, with a link", &[COLOURED]),
     common("man page", &[MAN_PAGE]),
     common("mixed scripts", &[SCRIPTS]),
     common("noisy line", &[NOISY]),
     hostile("indicators, backspaces", &["\u{1F1E6}".as_bytes(), b"\x08"]),
+    hostile("indicators", &["\u{1F1E6}".as_bytes()]),
     hostile("marks, backspaces", &["\u{301}".as_bytes(), b"\x08"]),
     hostile("marks", &["\u{301}".as_bytes()]),
     hostile("backspaces", &[b"\x08"]),
@@ -74,6 +75,9 @@ pub const KINDS: [Kind; 14] = [
     hostile("ESC", &[b"\x1B"]),
     hostile("ESC [ 1 ;", &[b"\x1B[1;1;1;1;1;1;1"]),
     hostile("ESC ] 8 ; ; u", &[b"\x1B]8;;u"]),
+    hostile("one word", &[b"a"]),
+    hostile("spaces", &[b" "]),
+    hostile("tabs", &[b"\t"]),
 ];
 
 /// For rows only, at width 0.

@@ -96,7 +96,7 @@ impl Table {
             print!("  growth");
         }
         println!();
-        for job in jobs(self.name) {
+        for job in growth_jobs(self.name) {
             for kind in &KINDS {
                 self.print_growth(job, kind);
             }
@@ -138,18 +138,30 @@ fn print_row(times: [f64; 4]) -> f64 {
     growth
 }
 
+/// The jobs whose times are printed.
 fn jobs(name: &str) -> Vec<Job> {
-    let wraps = [(1, 1), (40, 1), (80, 1), (1, 2), (40, 2), (80, 2)].into_iter();
     match name {
         "convert" => vec![Job::Convert],
         "read" => vec![Job::Read],
-        "rows" => wraps
-            .map(|(width, mode)| Job::Rows { width, mode })
-            .collect(),
+        "rows" => rows(&[(1, 1), (40, 1), (80, 1), (1, 2), (40, 2), (80, 2)]),
         "height" => vec![Job::Height { width: 80, mode: 2 }],
         "draw_window" => vec![Job::DrawWindow { start: 0, end: 80 }],
         _ => vec![Job::DrawRow { width: 80, mode: 2 }],
     }
+}
+
+/// The jobs whose growth is printed.
+fn growth_jobs(name: &str) -> Vec<Job> {
+    match name {
+        "rows" => rows(&[(1, 1), (1, 2), (80, 2)]),
+        _ => jobs(name),
+    }
+}
+
+fn rows(widths_and_modes: &[(usize, usize)]) -> Vec<Job> {
+    let each = widths_and_modes.iter();
+    each.map(|&(width, mode)| Job::Rows { width, mode })
+        .collect()
 }
 
 /// The jobs for a line of hyphens.
