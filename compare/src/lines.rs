@@ -1,34 +1,73 @@
-//! The lines that are compared: every short one over an alphabet, and random ones.
+//! The lines that are compared: every one of some kinds, and random ones.
 
+use crate::alphabets::Alphabet;
 use oracle::generate::{self, NOISE};
 use oracle::random::Random;
 
-/// The symbols of short lines; a symbol is a byte or some bytes that belong together.
-pub type Alphabet = &'static [&'static [u8]];
-
-/// Every line of up to `longest` symbols.
-#[derive(Clone, Copy)]
-pub struct Short {
-    pub alphabet: Alphabet,
-    pub longest: u32,
+/// Lines that are made from their numbers, each of them once.
+pub struct Lines {
+    pub count: usize,
+    pub line: Box<dyn Fn(usize) -> Vec<u8> + Sync>,
 }
 
-impl Short {
-    pub fn count(&self) -> usize {
-        let symbols = self.alphabet.len();
-        (0..=self.longest).map(|len| symbols.pow(len)).sum()
-    }
-
-    /// The line of a number below `count`, shorter ones first.
-    pub fn line(&self, mut number: usize) -> Vec<u8> {
-        let symbols = self.alphabet.len();
+/// Every line of up to `longest` symbols, shorter ones first.
+pub fn short(alphabet: Alphabet, longest: u32) -> Lines {
+    let symbols = alphabet.len();
+    let count = (0..=longest).map(|len| symbols.pow(len)).sum();
+    let line = move |mut number: usize| {
         let mut line = Vec::new();
         while number > 0 {
             number -= 1;
-            line.extend(self.alphabet[number % symbols]);
+            line.extend(alphabet[number % symbols]);
             number /= symbols;
         }
         line
+    };
+    Lines {
+        count,
+        line: Box::new(line),
+    }
+}
+
+/// What stands before and behind a scalar.
+pub type Context = (&'static [u8], &'static [u8]);
+
+/// Every scalar in each of the contexts; surrogates in three bytes, too.
+pub fn scalars(contexts: &'static [Context]) -> Lines {
+    let line = |number: usize| {
+        let (before, behind) = contexts[number % contexts.len()];
+        let scalar = (number / contexts.len()) as u32;
+        [before, &scalar_bytes(scalar), behind].concat()
+    };
+    Lines {
+        count: 0x110000 * contexts.len(),
+        line: Box::new(line),
+    }
+}
+
+fn scalar_bytes(scalar: u32) -> Vec<u8> {
+    let low_bits = |shift: u32| 0x80 | (scalar >> shift & 0x3F) as u8;
+    match char::from_u32(scalar) {
+        Some(_) => generate::utf8(scalar),
+        None => vec![0xED, low_bits(6), low_bits(0)],
+    }
+}
+
+/// Every lead byte with every byte behind it, and telling ones behind these.
+pub fn sequences() -> Lines {
+    const THIRD: [u8; 12] = [
+        0x00, 0x41, 0x7F, 0x80, 0x8F, 0x90, 0x9F, 0xA0, 0xBF, 0xC0, 0xE6, 0xFF,
+    ];
+    const FOURTH: [u8; 5] = [0x41, 0x7F, 0x80, 0xBF, 0xC0];
+    let line = |number: usize| {
+        let (fourth, number) = (FOURTH[number % 5], number / 5);
+        let (third, number) = (THIRD[number % 12], number / 12);
+        let (second, lead) = (number % 256, 0xC0 + number / 256);
+        vec![lead as u8, second as u8, third, fourth]
+    };
+    Lines {
+        count: 64 * 256 * THIRD.len() * FOURTH.len(),
+        line: Box::new(line),
     }
 }
 
@@ -55,11 +94,12 @@ fn short_length(random: &mut Random) -> usize {
     }
 }
 
-/// The random line of a number: of mixed themes, over an alphabet, repeating,
-/// of any bytes, or damaged. A cut at its end may damage it too.
+/// The random line of a number: of the oracle's kinds, over an alphabet, repeating,
+/// of any bytes, or damaged. A cut at its end may damage it, too.
 pub fn random(random: &mut Random, alphabet: Alphabet, number: usize) -> Vec<u8> {
     let len = match number % LONG_ONE_IN {
         0 => swept_length(number / LONG_ONE_IN),
+        _ if random.percent(15) => return generate::any_line(random),
         _ => short_length(random),
     };
     let mut line = match random.below(10) {

@@ -1,5 +1,7 @@
 //! Compares the static library with the oracle, case by case.
 
+mod alphabets;
+mod calls;
 mod lending;
 mod lent;
 mod library;

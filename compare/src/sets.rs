@@ -1,8 +1,9 @@
 //! The sets of cases for each call.
 
+use crate::alphabets::{self, Alphabet};
+use crate::calls::{self, WIDTHS};
 use crate::lending::lend;
-use crate::lines::{self, Alphabet, Short};
-use oracle::generate;
+use crate::lines::{self, scalars, sequences, short, Context, Lines};
 use oracle::random::Random;
 use oracle::{Call, Case, NONE};
 
@@ -30,64 +31,30 @@ pub fn sets(call: &'static str, seed: u64) -> Vec<Set> {
     sets
 }
 
-// ---- alphabets
+// ---- contexts that every scalar is tried in
 
+/// Behind each class and before each class: what is erased tells what was joined.
 #[rustfmt::skip]
-const STRUCK_BYTES: Alphabet = &[
-    b"a", b"_", b"\x08", b"\xCC", b"\x81", b"\xE6", b"\xBC", b"\xA2", b"\xFF", b"\x1B", b"m",
+const STRUCK: &[Context] = &[
+    (b"a", b"\x08\x08"), (b"\xCC\x81", b"\x08\x08"), (b"\xE1\x84\x80", b"\x08\x08"),
+    (b"\xE1\x85\xA1", b"\x08\x08"), (b"\xE1\x86\xA8", b"\x08\x08"), (b"\xEA\xB0\x80", b"\x08\x08"),
+    (b"\xEA\xB0\x81", b"\x08\x08"), (b"\xF0\x9F\x87\xA6", b"\x08\x08"), (b"\r", b"\x08\x08"),
+    (b"", b"\xCC\x81\x08\x08"), (b"", b"\xE1\x84\x80\x08\x08"), (b"", b"\xE1\x85\xA1\x08\x08"),
+    (b"", b"\xE1\x86\xA8\x08\x08"), (b"", b"\xEA\xB0\x80\x08\x08"),
+    (b"", b"\xF0\x9F\x87\xA6\x08\x08"), (b"", b"\n\x08\x08"), (b"", b"a\x08\x08"),
 ];
 
-#[rustfmt::skip]
-const STRUCK: Alphabet = &[
-    b"a", b"b", b"_", b"\x08", b"\xCC\x81", b"\xF0\x9F\x87\xA6", b"\r", b"\n",
+const READ: &[Context] = &[
+    (b"", b""),
+    (b"a", b""),
+    (b"", b"\xCC\x81"),
+    (b"\x1B[m", b""),
 ];
+const WRAPPED: &[Context] = &[(b"", b""), (b"a", b"b c")];
+const DRAWN: &[Context] = &[(b"a", b"\xFF"), (b"\x1B(0", b"")];
 
-#[rustfmt::skip]
-const TELLING_BYTES: Alphabet = &[
-    b"\x1B", b"[", b"1", b"3", b";", b"m", b"K", b"]", b"8", b"\x07", b"\\", b"\xCC\x81", b"\t",
-    b"\r", b"\n", b"\xFF",
-];
+// ---- arguments that each line is tried with
 
-#[rustfmt::skip]
-const PARAMETERS: Alphabet = &[
-    b"\x1B[", b"\x1B", b"1", b"38", b"5", b"2", b";", b"m", b"K", b"H", b"\xCC\x81", b"a",
-];
-
-#[rustfmt::skip]
-const LINKS: Alphabet = &[
-    b"\x1B]8;", b";", b"u", b"\x07", b"\x1B\\", b"\x1B", b"\\", b"\xCC\x81", b"\t", b"\xFF",
-];
-
-#[rustfmt::skip]
-const SEARCHED: Alphabet = &[
-    b"a", b"\x1B[m", b"\x1B", b"\xCC\x81", b"\r", b"\n", b"\xFF",
-];
-
-const WORDS: Alphabet = &[
-    b"a",
-    b" ",
-    b"-",
-    b"\t",
-    b"\xE6\xBC\xA2",
-    b"\xCC\x81",
-    b"\xFF",
-    b"\x1B",
-];
-
-#[rustfmt::skip]
-const WIDTHS_OF_SPANS: Alphabet = &[
-    b"ab", b" ", b"\xE3\x80\x80", b"\xE2\x80\x8B", b"\x1B[1m", b"\xF3\xA0\x84\x80", b"\r\n", b"\x08",
-];
-
-#[rustfmt::skip]
-const DRAWN: Alphabet = &[
-    b"q", b"\xE6\xBC\xA2", b"\xCC\x81", b"\t", b"\xFF", b"\x1B[1m", b"\x1B[41m", b"\x1B[K",
-    b"\x1B(0", b"\x1B(B", b"\x1B]8;;u\x07", b"\n",
-];
-
-// ---- arguments that short lines are tried with
-
-const WIDTHS: [usize; 11] = [0, 1, 2, 3, 4, 7, 8, 9, 80, 65_535, 65_536];
 const MODES: [usize; 3] = [0, 1, 2];
 const STARTS: [usize; 7] = [0, 1, 2, 3, 4, 8, 9];
 const ENDS: [usize; 11] = [0, 1, 2, 3, 4, 5, 8, 9, 10, 16, 80];
@@ -143,34 +110,25 @@ impl Maker {
         }
     }
 
-    /// A call on every short line.
-    fn short(
-        self,
-        name: &'static str,
-        alphabet: Alphabet,
-        longest: u32,
-        call: fn(&mut Random, &[u8]) -> Call,
-    ) -> Set {
-        let short = Short { alphabet, longest };
-        self.set(name, short.count(), move |random, number| {
-            let line = short.line(number);
+    /// A call on every line.
+    fn every(self, name: &'static str, lines: Lines, call: fn(&mut Random, &[u8]) -> Call) -> Set {
+        self.set(name, lines.count, move |random, number| {
+            let line = (lines.line)(number);
             let call = call(random, &line);
             (line, call)
         })
     }
 
-    /// Every short line with each of so many calls.
+    /// Each of so many calls on every line.
     fn each(
         self,
         name: &'static str,
-        alphabet: Alphabet,
-        longest: u32,
+        lines: Lines,
         calls: usize,
         call: impl Fn(usize) -> Call + Sync + 'static,
     ) -> Set {
-        let short = Short { alphabet, longest };
-        self.set(name, short.count() * calls, move |_, number| {
-            (short.line(number / calls), call(number % calls))
+        self.set(name, lines.count * calls, move |_, number| {
+            ((lines.line)(number / calls), call(number % calls))
         })
     }
 
@@ -188,27 +146,33 @@ impl Maker {
     }
 
     fn convert(self) -> Vec<Set> {
+        use alphabets::{CLASSES, STRUCK as CLUSTERS, STRUCK_BYTES};
         let call = |_: &mut Random, _: &[u8]| Call::Convert { conv: 0 };
         vec![
-            self.short("short lines of bytes", STRUCK_BYTES, 6, call),
-            self.short("short lines of clusters", STRUCK, 7, call),
-            self.random_lines("random lines", STRUCK, call),
+            self.every("short lines of bytes", short(STRUCK_BYTES, 6), call),
+            self.every("short lines of clusters", short(CLUSTERS, 7), call),
+            self.every("short lines of classes", short(CLASSES, 6), call),
+            self.every("every scalar", scalars(STRUCK), call),
+            self.random_lines("random lines", CLUSTERS, call),
         ]
     }
 
     fn read(self) -> Vec<Set> {
-        let plain = |_: &mut Random, _: &[u8]| reading(Vec::new());
-        let matched = |random: &mut Random, line: &[u8]| reading(any_matches(random, line));
+        use alphabets::{CLASSES, LINKS, PARAMETERS, SEARCHED, TELLING_BYTES};
+        let plain = |_: &mut Random, _: &[u8]| calls::reading(Vec::new());
+        let matched =
+            |random: &mut Random, line: &[u8]| calls::reading(calls::any_matches(random, line));
+        let one = |number| calls::reading(calls::digits(number, 10, 2));
+        let two = |number| calls::reading(calls::digits(number, 5, 4));
         vec![
-            self.short("short lines of bytes", TELLING_BYTES, 5, plain),
-            self.short("short style orders", PARAMETERS, 6, plain),
-            self.short("short hyperlinks", LINKS, 6, plain),
-            self.each("short lines, one match", SEARCHED, 4, 100, |number| {
-                reading(digits(number, 10, 2))
-            }),
-            self.each("short lines, two matches", SEARCHED, 3, 625, |number| {
-                reading(digits(number, 5, 4))
-            }),
+            self.every("short lines of bytes", short(TELLING_BYTES, 5), plain),
+            self.every("short style orders", short(PARAMETERS, 6), plain),
+            self.every("short hyperlinks", short(LINKS, 6), plain),
+            self.every("short lines of classes", short(CLASSES, 5), plain),
+            self.every("every scalar", scalars(READ), plain),
+            self.every("sequences of bytes", sequences(), plain),
+            self.each("short lines, one match", short(SEARCHED, 4), 100, one),
+            self.each("short lines, two matches", short(SEARCHED, 3), 625, two),
             self.random_lines("random lines", TELLING_BYTES, plain),
             self.random_lines("random lines with matches", SEARCHED, matched),
         ]
@@ -216,37 +180,55 @@ impl Maker {
 
     /// Rows and height.
     fn wrapped(self) -> Vec<Set> {
+        use alphabets::{WIDTHS_OF_SPANS, WORDS};
         let rows = self.call == "rows";
-        let call = if rows { any_rows } else { any_height };
+        let any = if rows {
+            calls::any_rows
+        } else {
+            calls::any_height
+        };
         let each = move |mut number| {
             let width = take(&mut number, &WIDTHS);
-            wrapping(rows, width, take(&mut number, &MODES))
+            calls::wrapping(rows, width, take(&mut number, &MODES))
         };
-        let calls = WIDTHS.len() * MODES.len();
+        let narrow = move |number| calls::wrapping(rows, number + 1, number + 1);
+        let count = WIDTHS.len() * MODES.len();
         vec![
-            self.each("short words, each width and mode", WORDS, 5, calls, each),
             self.each(
-                "short spans, each width and mode",
-                WIDTHS_OF_SPANS,
-                4,
-                calls,
+                "short words, each width and mode",
+                short(WORDS, 5),
+                count,
                 each,
             ),
-            self.short("short words", WORDS, 7, call),
-            self.random_lines("random lines", WORDS, call),
+            self.each(
+                "short spans, each width and mode",
+                short(WIDTHS_OF_SPANS, 4),
+                count,
+                each,
+            ),
+            self.every("short words", short(WORDS, 7), any),
+            self.each("every scalar", scalars(WRAPPED), 2, narrow),
+            self.random_lines("random lines", WORDS, any),
         ]
     }
 
     fn draw_window(self) -> Vec<Set> {
         let each = |mut number| {
             let start = take(&mut number, &STARTS);
-            drawn_window(Vec::new(), NONE, start, take(&mut number, &ENDS))
+            calls::drawn_window(Vec::new(), NONE, start, take(&mut number, &ENDS))
         };
-        let calls = STARTS.len() * ENDS.len();
+        let whole = |_: &mut Random, _: &[u8]| calls::drawn_window(Vec::new(), NONE, 0, 80);
+        let count = STARTS.len() * ENDS.len();
         vec![
-            self.each("short lines, each window", DRAWN, 3, calls, each),
-            self.short("short lines", DRAWN, 5, any_window),
-            self.random_lines("random lines", DRAWN, any_window),
+            self.each(
+                "short lines, each window",
+                short(alphabets::DRAWN, 3),
+                count,
+                each,
+            ),
+            self.every("short lines", short(alphabets::DRAWN, 5), calls::any_window),
+            self.every("every scalar", scalars(DRAWN), whole),
+            self.random_lines("random lines", alphabets::DRAWN, calls::any_window),
         ]
     }
 
@@ -255,156 +237,19 @@ impl Maker {
             let width = take(&mut number, &DRAWN_WIDTHS);
             let mode = take(&mut number, &MODES);
             let first = take(&mut number, &[0, 1, 2]);
-            drawn_row(
-                Vec::new(),
-                NONE,
-                first,
-                take(&mut number, &[1, 2]),
-                width,
-                mode,
-            )
+            let rows = take(&mut number, &[1, 2]);
+            calls::drawn_row(Vec::new(), NONE, first, rows, width, mode)
         };
-        let calls = DRAWN_WIDTHS.len() * MODES.len() * 6;
+        let count = DRAWN_WIDTHS.len() * MODES.len() * 6;
         vec![
             self.each(
                 "short lines, each width, mode and row",
-                DRAWN,
-                3,
-                calls,
+                short(alphabets::DRAWN, 3),
+                count,
                 each,
             ),
-            self.short("short lines", DRAWN, 5, any_row),
-            self.random_lines("random lines", DRAWN, any_row),
+            self.every("short lines", short(alphabets::DRAWN, 5), calls::any_row),
+            self.random_lines("random lines", alphabets::DRAWN, calls::any_row),
         ]
     }
-}
-
-// ---- calls; what they are lent is filled in later
-
-fn reading(matches: Vec<usize>) -> Call {
-    Call::Read {
-        matches,
-        conv: 0,
-        spans: 0,
-    }
-}
-
-fn wrapping(rows: bool, width: usize, mode: usize) -> Call {
-    let (conv, spans) = (0, 0);
-    if rows {
-        Call::Rows {
-            width,
-            mode,
-            conv,
-            spans,
-            rows: 0,
-        }
-    } else {
-        Call::Height {
-            width,
-            mode,
-            conv,
-            spans,
-        }
-    }
-}
-
-fn drawn_window(matches: Vec<usize>, current: usize, start: usize, end: usize) -> Call {
-    Call::DrawWindow {
-        matches,
-        current,
-        start,
-        end,
-        conv: 0,
-        spans: 0,
-        list: 0,
-    }
-}
-
-fn drawn_row(
-    matches: Vec<usize>,
-    current: usize,
-    first: usize,
-    count: usize,
-    width: usize,
-    mode: usize,
-) -> Call {
-    Call::DrawRow {
-        matches,
-        current,
-        first,
-        count,
-        width,
-        mode,
-        conv: 0,
-        spans: 0,
-        list: 0,
-    }
-}
-
-/// The `count` digits of a number, as matches.
-fn digits(mut number: usize, base: usize, count: usize) -> Vec<usize> {
-    let mut digits = Vec::with_capacity(count);
-    for _ in 0..count {
-        digits.push(number % base);
-        number /= base;
-    }
-    digits
-}
-
-/// Matches, valid or not.
-fn any_matches(random: &mut Random, line: &[u8]) -> Vec<usize> {
-    match random.below(20) {
-        0 => digits(random.below(10_000), 10, 4),
-        1 => digits(random.below(1_000), 10, 3),
-        _ => generate::matches(random, line),
-    }
-}
-
-/// Matches or none.
-fn some_matches(random: &mut Random, line: &[u8]) -> Vec<usize> {
-    if random.percent(50) {
-        any_matches(random, line)
-    } else {
-        Vec::new()
-    }
-}
-
-fn any_rows(random: &mut Random, _: &[u8]) -> Call {
-    wrapping(true, any_width(random), generate::mode(random))
-}
-
-fn any_height(random: &mut Random, _: &[u8]) -> Call {
-    wrapping(false, any_width(random), generate::mode(random))
-}
-
-fn any_width(random: &mut Random) -> usize {
-    if random.percent(50) {
-        random.pick(&WIDTHS)
-    } else {
-        generate::width(random)
-    }
-}
-
-fn any_window(random: &mut Random, line: &[u8]) -> Call {
-    let matches = some_matches(random, line);
-    let current = generate::current(random);
-    let (start, end) = generate::window(random, line);
-    drawn_window(matches, current, start, end)
-}
-
-fn any_row(random: &mut Random, line: &[u8]) -> Call {
-    let matches = some_matches(random, line);
-    let current = generate::current(random);
-    let first = generate::row_number(random);
-    let count = generate::row_number(random).saturating_add(random.pick(&[0, 1, 1, 1, 1]));
-    let width = any_width(random);
-    drawn_row(
-        matches,
-        current,
-        first,
-        count,
-        width,
-        generate::mode(random),
-    )
 }
