@@ -8,14 +8,30 @@ use std::hint::black_box;
 const LENGTHS: [usize; 4] = [512, 1_024, 2_048, 4_096];
 const LONGEST: usize = LENGTHS[3];
 
-/// A figure and where it was found.
-type Found = Option<(f64, String)>;
+/// The largest figure so far, and where it was found.
+#[derive(Default)]
+struct Largest(Option<(f64, String)>);
+
+impl Largest {
+    fn add(&mut self, figure: f64, place: &str) {
+        if self.0.as_ref().is_none_or(|(largest, _)| figure > *largest) {
+            self.0 = Some((figure, place.to_string()));
+        }
+    }
+
+    fn print(&self, what: &str) {
+        if let Some((figure, place)) = &self.0 {
+            println!("largest {what}: {figure:.2} ({place})");
+        }
+    }
+}
 
 pub struct Table {
     name: &'static str,
     effort: Effort,
-    least_ratio: Found,
-    most_growth: Found,
+    against_source: Largest,
+    against_copy: Largest,
+    growth: Largest,
 }
 
 impl Table {
@@ -23,20 +39,29 @@ impl Table {
         Table {
             name,
             effort,
-            least_ratio: None,
-            most_growth: None,
+            against_source: Largest::default(),
+            against_copy: Largest::default(),
+            growth: Largest::default(),
         }
     }
 
     pub fn print(mut self) {
         self.print_times();
         self.print_growths();
-        if let Some((ratio, place)) = &self.least_ratio {
-            println!("\n{}: smallest ratio {ratio:.1} ({place})", self.name);
-        }
-        if let Some((growth, place)) = &self.most_growth {
-            println!("{}: largest growth {growth:.1} ({place})", self.name);
-        }
+        println!();
+        self.against_source.print("just / source");
+        self.against_copy.print("just / copy, lines without 08");
+        self.growth.print("growth of just");
+    }
+
+    /// Whether copying is measured beside the call.
+    fn converts(&self) -> bool {
+        self.name == "convert"
+    }
+
+    /// Whether the call only copies the line: the source then does nothing.
+    fn only_copies(&self, line: &[u8]) -> bool {
+        self.converts() && !line.contains(&0x08)
     }
 
     // ---- times
@@ -45,7 +70,7 @@ impl Table {
         print!("\n{:<18} {:<24} {:>6}", "call", "line", "bytes");
         print!(" {:>9} {:>9} {:>9}", "just", "generous", "source");
         print!(" {:>6} {:>6}", "ratio", "ratio");
-        println!("{}", if self.copies() { "      copy" } else { "" });
+        println!("{}", if self.converts() { "      copy" } else { "" });
         for job in jobs(self.name) {
             for kind in KINDS.iter().filter(|kind| !kind.hostile) {
                 self.print_time(job, kind, &kind.short());
@@ -61,27 +86,20 @@ impl Table {
 
     fn print_time(&mut self, job: Job, kind: &Kind, line: &[u8]) {
         let [just, generous, source] = times(job, line, self.effort);
+        let copy = self.converts().then(|| copying(line, self.effort));
         let (call, name, bytes) = (job.to_string(), kind.name, line.len());
         print!("{call:<18} {name:<24} {bytes:>6}");
         print!(" {just:>9.0} {generous:>9.0} {source:>9.0}");
         print!(" {:>6.1} {:>6.1}", source / just, source / generous);
-        if self.copies() {
-            print!(" {:>9.0}", copying(line, self.effort));
+        println!(
+            "{}",
+            copy.map_or(String::new(), |copy| format!(" {copy:>9.0}"))
+        );
+        let place = format!("{call}, {name}, {bytes} bytes");
+        match copy {
+            Some(copy) if self.only_copies(line) => self.against_copy.add(just / copy, &place),
+            _ => self.against_source.add(just / source, &place),
         }
-        println!();
-        let ratio = source / just;
-        if self
-            .least_ratio
-            .as_ref()
-            .is_none_or(|(least, _)| ratio < *least)
-        {
-            self.least_ratio = Some((ratio, format!("{call}, {name}, {bytes} bytes")));
-        }
-    }
-
-    /// Conversion is compared with copying, too.
-    fn copies(&self) -> bool {
-        self.name == "convert"
     }
 
     // ---- growth
@@ -104,7 +122,7 @@ impl Table {
         for job in hyphen_jobs(self.name) {
             self.print_growth(job, &HYPHENS);
         }
-        if self.copies() {
+        if self.converts() {
             print!("{:<43}", "(copying alone)");
             print_row(LENGTHS.map(|len| copying(&KINDS[0].line(len), self.effort)));
             println!();
@@ -118,12 +136,8 @@ impl Table {
         let growth = print_row(times.map(|time| time[0]));
         print_row(times.map(|time| time[2]));
         println!();
-        if self
-            .most_growth
-            .as_ref()
-            .is_none_or(|(most, _)| growth > *most)
-        {
-            self.most_growth = Some((growth, format!("{call}, {name}")));
+        if !self.only_copies(&kind.line(LONGEST)) {
+            self.growth.add(growth, &format!("{call}, {name}"));
         }
     }
 }
