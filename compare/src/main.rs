@@ -7,6 +7,7 @@ mod lent;
 mod library;
 mod lines;
 mod options;
+mod orders;
 mod sets;
 mod tally;
 
@@ -85,14 +86,19 @@ fn given(call: &'static str, cases: &[Case]) -> Set {
     }
 }
 
+/// The stack of a thread: a call must do with less.
+const STACK: usize = 512 * 1_024;
+
 /// Compares a set, its cases dealt out to so many threads.
 fn compare_set(set: &Set, options: &Options) -> Tally {
     let mut whole = Tally::default();
     thread::scope(|scope| {
-        let jobs =
-            (0..options.jobs).map(|job| scope.spawn(move || compare_part(set, options, job)));
-        let jobs: Vec<_> = jobs.collect();
-        for job in jobs {
+        let start = |job| {
+            let thread = thread::Builder::new().stack_size(STACK);
+            thread.spawn_scoped(scope, move || compare_part(set, options, job))
+        };
+        let jobs: Result<Vec<_>, _> = (0..options.jobs).map(start).collect();
+        for job in jobs.expect("threads") {
             whole.add(job.join().expect("a thread of the comparison"));
         }
     });

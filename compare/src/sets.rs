@@ -4,6 +4,7 @@ use crate::alphabets::{self, Alphabet};
 use crate::calls::{self, WIDTHS};
 use crate::lending::lend;
 use crate::lines::{self, scalars, sequences, short, Context, Lines};
+use crate::orders::orders;
 use oracle::random::Random;
 use oracle::{Call, Case, NONE};
 
@@ -171,6 +172,7 @@ impl Maker {
             self.every("short lines of classes", short(CLASSES, 5), plain),
             self.every("every scalar", scalars(READ), plain),
             self.every("sequences of bytes", sequences(), plain),
+            self.every("sequences at ESC", orders(), plain),
             self.each("short lines, one match", short(SEARCHED, 4), 100, one),
             self.each("short lines, two matches", short(SEARCHED, 3), 625, two),
             self.random_lines("random lines", TELLING_BYTES, plain),
@@ -228,6 +230,7 @@ impl Maker {
             ),
             self.every("short lines", short(alphabets::DRAWN, 5), calls::any_window),
             self.every("every scalar", scalars(DRAWN), whole),
+            self.every("sequences at ESC", orders(), whole),
             self.random_lines("random lines", alphabets::DRAWN, calls::any_window),
         ]
     }
