@@ -6,7 +6,7 @@ use crate::lending::lend;
 use crate::lines::{self, scalars, sequences, short, Context, Lines};
 use crate::orders::orders;
 use oracle::random::Random;
-use oracle::{Call, Case, NONE};
+use oracle::{sample, Call, Case, NONE};
 
 /// Cases that are made from their numbers.
 pub struct Set {
@@ -18,7 +18,7 @@ pub struct Set {
 /// How many random cases a set has.
 const RANDOM: usize = 2_000_000;
 
-/// The sets for a call, the recorded sample first.
+/// The sets for a call, the oracle's sample first.
 pub fn sets(call: &'static str, seed: u64) -> Vec<Set> {
     let maker = Maker { call, seed };
     let mut sets = vec![maker.sample()];
@@ -96,16 +96,12 @@ impl Maker {
         Set { name, count, case }
     }
 
-    /// The cases of the oracle's recorded sample, with the sizes recorded there.
+    /// The cases of the oracle's sample, with the sizes that are lent there.
     fn sample(self) -> Set {
-        let lines = include_str!("../../oracle/sample").lines();
-        let lines = lines.filter(|line| line.split(' ').next() == Some(self.call));
-        let questions = lines.filter_map(|line| line.split(" = ").next());
-        let cases: Vec<Case> = questions
-            .map(|text| text.parse().expect("a line of the sample"))
-            .collect();
+        let mut cases = sample::cases(self.seed);
+        cases.retain(|case| case.call.name() == self.call);
         Set {
-            name: "recorded sample",
+            name: "the oracle's sample",
             count: cases.len(),
             case: Box::new(move |number| cases[number].clone()),
         }
