@@ -1,9 +1,35 @@
 //! Memory lent to the library, with guard zones before and behind it.
 
+use std::fmt;
+
 /// Items in a guard zone.
 const GUARD: usize = 64;
 /// Items that are there from the start, so that writing far outside is seen.
 const SPARE: usize = 16_384;
+
+/// A place in lent memory, or beside it.
+#[derive(Clone, Copy)]
+pub enum Place {
+    Before,
+    First,
+    Last,
+    Behind,
+}
+
+impl Place {
+    pub const ALL: [Place; 4] = [Place::Before, Place::First, Place::Last, Place::Behind];
+}
+
+impl fmt::Display for Place {
+    fn fmt(&self, f: &mut fmt::Formatter<'_>) -> fmt::Result {
+        f.write_str(match self {
+            Place::Before => "before it",
+            Place::First => "first item",
+            Place::Last => "last item",
+            Place::Behind => "behind it",
+        })
+    }
+}
 
 /// All of the memory holds the pattern, which is not zero, before each call; so
 /// every zero found afterwards was written.
@@ -76,5 +102,23 @@ impl<T: Copy + PartialEq + Default> Lent<T> {
     /// Fills all of the memory with the pattern again.
     pub fn restore(&mut self) {
         self.memory.fill(self.pattern);
+    }
+
+    /// Changes an item; whether there is one at that place.
+    pub fn damage(&mut self, place: Place) -> bool {
+        let index = match place {
+            Place::Before => GUARD - 1,
+            Place::Behind => GUARD + self.len,
+            _ if self.len == 0 => return false,
+            Place::First => GUARD,
+            Place::Last => GUARD + self.len - 1,
+        };
+        let item = &mut self.memory[index];
+        *item = if *item == self.pattern {
+            T::default()
+        } else {
+            self.pattern
+        };
+        true
     }
 }

@@ -1,9 +1,11 @@
 //! Makes a call of the library and compares what it leaves with the oracle's answer.
 
+use crate::faults::Fault;
 use crate::lent::Lent;
 use console_lines::Span;
 use oracle::format::answer_text;
 use oracle::{Answer, Call, Case, Record};
+use std::fmt;
 
 const BYTE: u8 = 0xA7;
 const NUMBER: usize = usize::from_ne_bytes([BYTE; 8]);
@@ -16,6 +18,41 @@ const SPAN: Span = Span {
 
 /// After so many calls all of the memory is looked at, not the guard zones only.
 const CALLS_BETWEEN_WHOLE_CHECKS: usize = 1_024;
+
+/// The memory that a call is handed.
+#[derive(Clone, Copy)]
+pub enum Buffer {
+    Line,
+    Matches,
+    Conv,
+    Spans,
+    Rows,
+    List,
+}
+
+impl Buffer {
+    pub const ALL: [Buffer; 6] = [
+        Buffer::Line,
+        Buffer::Matches,
+        Buffer::Conv,
+        Buffer::Spans,
+        Buffer::Rows,
+        Buffer::List,
+    ];
+}
+
+impl fmt::Display for Buffer {
+    fn fmt(&self, f: &mut fmt::Formatter<'_>) -> fmt::Result {
+        f.write_str(match self {
+            Buffer::Line => "the line",
+            Buffer::Matches => "the matches",
+            Buffer::Conv => "the conversion buffer",
+            Buffer::Spans => "the span list",
+            Buffer::Rows => "the row list",
+            Buffer::List => "the change list",
+        })
+    }
+}
 
 pub struct Library {
     line: Lent<u8>,
@@ -40,9 +77,20 @@ impl Library {
         }
     }
 
-    /// The difference, as text, between the library's answer and the expected one.
-    pub fn difference(&mut self, case: &Case, expected: &Answer) -> Option<String> {
+    /// Makes a call, and compares what it returns and leaves.
+    pub fn compare(&mut self, case: &Case, expected: &Answer) -> Option<String> {
         let answer = self.call(case);
+        self.difference(case, expected, answer)
+    }
+
+    /// The difference, as text, between what the last call returned and left and
+    /// what is expected. All memory is taken back.
+    pub fn difference(
+        &mut self,
+        case: &Case,
+        expected: &Answer,
+        answer: console_lines::Answer,
+    ) -> Option<String> {
         let same = answer.number == expected.number
             && answer.count == expected.count
             && self.buffers_hold(expected);
@@ -66,7 +114,7 @@ impl Library {
         ))
     }
 
-    fn call(&mut self, case: &Case) -> console_lines::Answer {
+    pub fn call(&mut self, case: &Case) -> console_lines::Answer {
         let [conv, spans, rows, list] = case.call.lent();
         let line = self.line.lend_copy(&case.line);
         let matches = self.matches.lend_copy(case.call.matches());
@@ -109,22 +157,48 @@ impl Library {
 
     /// What was done to memory that is not lent for writing.
     fn memory_faults(&self, case: &Case) -> Vec<String> {
-        let around = [
-            ("the line", self.line.guarded()),
-            ("the matches", self.matches.guarded()),
-            ("the conversion buffer", self.conv.guarded()),
-            ("the span list", self.spans.guarded()),
-            ("the row list", self.rows.guarded()),
-            ("the change list", self.list.guarded()),
-        ];
-        let touched = around.iter().filter(|(_, guarded)| !guarded);
+        let touched = Buffer::ALL.iter().filter(|buffer| !self.guarded(**buffer));
         let mut faults: Vec<String> = touched
-            .map(|(name, _)| format!("memory around {name} is written"))
+            .map(|buffer| format!("memory around {buffer} is written"))
             .collect();
         if self.line.lent() != case.line || self.matches.lent() != case.call.matches() {
             faults.push("the line or the matches are written".to_string());
         }
         faults
+    }
+
+    fn guarded(&self, buffer: Buffer) -> bool {
+        match buffer {
+            Buffer::Line => self.line.guarded(),
+            Buffer::Matches => self.matches.guarded(),
+            Buffer::Conv => self.conv.guarded(),
+            Buffer::Spans => self.spans.guarded(),
+            Buffer::Rows => self.rows.guarded(),
+            Buffer::List => self.list.guarded(),
+        }
+    }
+
+    /// Plants a fault in what the last call returned and left; whether it has room.
+    pub fn plant(&mut self, fault: Fault, answer: &mut console_lines::Answer) -> bool {
+        let (buffer, place) = match fault {
+            Fault::Number => {
+                answer.number ^= 1;
+                return true;
+            }
+            Fault::Count => {
+                answer.count += 1;
+                return true;
+            }
+            Fault::Memory(buffer, place) => (buffer, place),
+        };
+        match buffer {
+            Buffer::Line => self.line.damage(place),
+            Buffer::Matches => self.matches.damage(place),
+            Buffer::Conv => self.conv.damage(place),
+            Buffer::Spans => self.spans.damage(place),
+            Buffer::Rows => self.rows.damage(place),
+            Buffer::List => self.list.damage(place),
+        }
     }
 
     /// What the library returned and left, zeros included.
@@ -140,7 +214,7 @@ impl Library {
     }
 
     /// Fills what was lent with the pattern again.
-    fn take_back(&mut self) {
+    pub fn take_back(&mut self) {
         self.line.take_back();
         self.matches.take_back();
         self.conv.take_back();

@@ -2,6 +2,7 @@
 
 mod alphabets;
 mod calls;
+mod faults;
 mod lending;
 mod lent;
 mod library;
@@ -31,13 +32,32 @@ fn main() -> ExitCode {
     let exported = console_lines::exported();
     let wanted = Call::NAMES.iter().filter(|name| options.wants(name));
     let (there, missing): (Vec<&str>, Vec<&str>) = wanted.partition(|name| exported.contains(name));
-    let start = Instant::now();
-    let mut total = Tally::default();
-    for call in there {
-        total.add(compare_call(call, &options));
-    }
     if !missing.is_empty() {
         println!("not in the library: {}", missing.join(", "));
+    }
+    if options.faults {
+        plant_faults(&there, options.seed)
+    } else {
+        compare_calls(&there, &options)
+    }
+}
+
+fn plant_faults(calls: &[&'static str], seed: u64) -> ExitCode {
+    let missed = calls.iter().filter(|call| !faults::try_faults(call, seed));
+    if missed.count() == 0 && !calls.is_empty() {
+        println!("all found");
+        ExitCode::SUCCESS
+    } else {
+        println!("NOT ALL FOUND");
+        ExitCode::FAILURE
+    }
+}
+
+fn compare_calls(calls: &[&'static str], options: &Options) -> ExitCode {
+    let start = Instant::now();
+    let mut total = Tally::default();
+    for call in calls {
+        total.add(compare_call(call, options));
     }
     let seconds = start.elapsed().as_secs_f64();
     println!("total: {total}, {seconds:.1} s");
@@ -76,14 +96,9 @@ fn compare_call(call: &'static str, options: &Options) -> Tally {
 }
 
 /// The cases of a call among those given in a file.
-fn given(call: &'static str, cases: &[Case]) -> Set {
+fn given(call: &str, cases: &[Case]) -> Set {
     let cases = cases.iter().filter(|case| case.call.name() == call);
-    let cases: Vec<Case> = cases.cloned().collect();
-    Set {
-        name: "given cases",
-        count: cases.len(),
-        case: Box::new(move |number| cases[number].clone()),
-    }
+    Set::of("given cases", cases.cloned().collect())
 }
 
 /// The stack of a thread: a call must do with less.
@@ -115,7 +130,7 @@ fn compare_part(set: &Set, options: &Options, job: usize) -> Tally {
             eprintln!("{case}");
         }
         let expected = case.answer();
-        tally.count(expected.number, library.difference(&case, &expected));
+        tally.count(expected.number, library.compare(&case, &expected));
     }
     tally
 }

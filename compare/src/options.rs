@@ -4,7 +4,8 @@ use oracle::{Call, Case};
 use std::fs;
 
 pub const USAGE: &str = "usage: compare [--call NAME]... [--quick] [--jobs N] [--seed N] [--trace]
-       compare --cases FILE [--trace]";
+       compare --cases FILE [--trace]
+       compare --faults [--call NAME]...";
 
 /// A quick run takes one case of so many.
 const QUICK_STEP: usize = 41;
@@ -18,6 +19,8 @@ pub struct Options {
     pub seed: u64,
     /// Prints each case before its call.
     pub trace: bool,
+    /// Plants faults, to see that they are found.
+    pub faults: bool,
     /// Cases to compare in place of the sets.
     pub cases: Option<Vec<Case>>,
 }
@@ -30,6 +33,7 @@ impl Options {
             jobs: 1,
             seed: 1,
             trace: false,
+            faults: false,
             cases: None,
         };
         while let Some(argument) = arguments.next() {
@@ -40,6 +44,7 @@ impl Options {
                 "--jobs" => options.jobs = number(&value()?)?.max(1) as usize,
                 "--seed" => options.seed = number(&value()?)?,
                 "--trace" => options.trace = true,
+                "--faults" => options.faults = true,
                 "--cases" => options.cases = Some(cases(&value()?)?),
                 _ => return Err(format!("no option {argument}")),
             }

@@ -15,13 +15,30 @@ pub struct Set {
     pub case: Box<dyn Fn(usize) -> Case + Sync>,
 }
 
+impl Set {
+    pub fn of(name: &'static str, cases: Vec<Case>) -> Set {
+        Set {
+            name,
+            count: cases.len(),
+            case: Box::new(move |number| cases[number].clone()),
+        }
+    }
+}
+
+/// The calls of one name in the oracle's sample, with the sizes that are lent there.
+pub fn sample(call: &str, seed: u64) -> Vec<Case> {
+    let mut cases = sample::cases(seed);
+    cases.retain(|case| case.call.name() == call);
+    cases
+}
+
 /// How many random cases a set has.
 const RANDOM: usize = 2_000_000;
 
 /// The sets for a call, the oracle's sample first.
 pub fn sets(call: &'static str, seed: u64) -> Vec<Set> {
     let maker = Maker { call, seed };
-    let mut sets = vec![maker.sample()];
+    let mut sets = vec![Set::of("the oracle's sample", sample(call, seed))];
     sets.extend(match call {
         "convert" => maker.convert(),
         "read" => maker.read(),
@@ -94,17 +111,6 @@ impl Maker {
         };
         let case = Box::new(case);
         Set { name, count, case }
-    }
-
-    /// The cases of the oracle's sample, with the sizes that are lent there.
-    fn sample(self) -> Set {
-        let mut cases = sample::cases(self.seed);
-        cases.retain(|case| case.call.name() == self.call);
-        Set {
-            name: "the oracle's sample",
-            count: cases.len(),
-            case: Box::new(move |number| cases[number].clone()),
-        }
     }
 
     /// A call on every line.
