@@ -59,13 +59,17 @@ const NOISY: &[u8] =
     b"rx-03 \xFF\xFEsweep 11\xC08204: g\xF5in 41.5 dB\xE6\xBC tune\x80 94\xF8\xF810 \
     MHz \x00\x01 noise\x7F floor\xED\xA0\x80\n";
 
-pub const KINDS: [Kind; 18] = [
+pub const KINDS: [Kind; 19] = [
     common("plain log line", &[LOG]),
     common("coloured, with a link", &[COLOURED]),
     common("man page", &[MAN_PAGE]),
     common("mixed scripts", &[SCRIPTS]),
     common("noisy line", &[NOISY]),
     hostile("indicators, backspaces", &["\u{1F1E6}".as_bytes(), b"\x08"]),
+    hostile(
+        "indicators, erasures",
+        &["\u{1F1E6}".as_bytes(), b"ba\x08\x08a\x08\x08"],
+    ),
     hostile("indicators", &["\u{1F1E6}".as_bytes()]),
     hostile("marks, backspaces", &["\u{301}".as_bytes(), b"\x08"]),
     hostile("marks", &["\u{301}".as_bytes()]),

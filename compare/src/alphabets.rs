@@ -34,6 +34,9 @@ pub const SEARCHED: Alphabet = &[
     b"a", b"\x1B[m", b"\x1B", b"\xCC\x81", b"\r", b"\n", b"\xFF",
 ];
 
+/// What a search leaves out, and what is like it.
+pub const LEFT_OUT: Alphabet = &[b"\x1B[", b"\x1B", b"[", b"1", b"?", b"m", b"a", b"\n"];
+
 pub const WORDS: Alphabet = &[
     b"a",
     b" ",

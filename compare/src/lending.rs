@@ -17,12 +17,13 @@ pub fn lend(random: &mut Random, call: &mut Call, line: &[u8]) {
 }
 
 fn around(random: &mut Random, need: usize) -> usize {
-    match random.below(40) {
-        0 => need.saturating_sub(1),
-        1 => need.saturating_sub(2),
-        2 => random.below(need + 1),
-        3..=24 => need,
-        25..=32 => need + 1,
-        _ => need + random.below(40),
+    match random.below(80) {
+        0 | 1 => need.saturating_sub(1),
+        2 | 3 => need.saturating_sub(2),
+        4 | 5 => random.below(need + 1),
+        6..=49 => need,
+        50..=64 => need + 1,
+        65..=78 => need + random.below(40),
+        _ => need + random.between(40, 5_000),
     }
 }

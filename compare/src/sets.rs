@@ -161,7 +161,7 @@ impl Maker {
     }
 
     fn read(self) -> Vec<Set> {
-        use alphabets::{CLASSES, LINKS, PARAMETERS, SEARCHED, TELLING_BYTES};
+        use alphabets::{CLASSES, LEFT_OUT, LINKS, PARAMETERS, SEARCHED, TELLING_BYTES};
         let plain = |_: &mut Random, _: &[u8]| calls::reading(Vec::new());
         let matched =
             |random: &mut Random, line: &[u8]| calls::reading(calls::any_matches(random, line));
@@ -177,6 +177,8 @@ impl Maker {
             self.every("sequences at ESC", orders(), plain),
             self.each("short lines, one match", short(SEARCHED, 4), 100, one),
             self.each("short lines, two matches", short(SEARCHED, 3), 625, two),
+            self.every("short lines, any matches", short(LEFT_OUT, 6), matched),
+            self.every("sequences at ESC, any matches", orders(), matched),
             self.random_lines("random lines", TELLING_BYTES, plain),
             self.random_lines("random lines with matches", SEARCHED, matched),
         ]
