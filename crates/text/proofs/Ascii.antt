@@ -1,7 +1,7 @@
 -- What the short cuts rest on: scalars below 80, and ranges in which every scalar is of class other.
 use Prim.Native.Nat.{_+_, _-_, _<_, _≤_, suc, zero, ℕ}
 use native.Mathlib.Omega.{arith}
-use mathlib.Core.Bool.{Bool, _&&_, _||_, false, not, true}
+use mathlib.Core.Bool.{Bool, _&&_, _||_, false, not, true, and-false}
 use mathlib.Core.List.{List, [], _∷_}
 use mathlib.Core.Logic.{_≢_}
 use mathlib.Core.Path.{_∙_, _≡_, ap, refl, sym}
@@ -37,40 +37,46 @@ each-at (suc n) lo x f t h k =
 
 -- ---- below 80
 
--- CR apart, none of them joins what follows
+-- CR alone has CR's class
 before-class : ℕ → Bool
-before-class x = eqb x 0x0D || among (number (class01 x)) (lf ∷ control ∷ other ∷ [])
+before-class x = eqb x 0x0D || not (eqb (number (class01 x)) 0)
 
--- and none joins what stands before it
+-- none of them joins what stands before it, but for LF behind CR
 after-class : ℕ → Bool
 after-class x = among (number (class01 x)) (cr ∷ lf ∷ control ∷ other ∷ [])
 
 before-each : T (eachFrom 0 128 before-class)
-unfolding eachFrom before-class among number class01
+unfolding eachFrom before-class number class01
 before-each = tt
 
 after-each : T (eachFrom 0 128 after-class)
 unfolding eachFrom after-class among number class01
 after-each = tt
 
-apart-numbers : (p : ℕ) (k : Context) (c : ℕ) → among p (lf ∷ control ∷ other ∷ []) ≡ true → among c (cr ∷ lf ∷ control ∷ other ∷ []) ≡ true → joined p k c ≡ false
+apart-numbers : (p : ℕ) (k : Context) (c : ℕ) → (p ≢ 0) → among c (cr ∷ lf ∷ control ∷ other ∷ []) ≡ true → joined p k c ≡ false
 unfolding joined among number
 apart-numbers p k c f g =
-    cases (eqb p 1) (λ e. rw (eqb-true p 1 e) refl)
-    (λ e₁. cases (eqb p 2) (λ e. rw (eqb-true p 2 e) refl)
-    (λ e₂. let z : p ≡ 11 = eqb-true p 11 (rw (e₁, e₂) at f) in
-    rw z
-    (cases (eqb c 0) (λ e. rw (eqb-true c 0 e) refl)
-    (λ d₀. cases (eqb c 1) (λ e. rw (eqb-true c 1 e) refl)
-    (λ d₁. cases (eqb c 2) (λ e. rw (eqb-true c 2 e) refl)
+    rw (ne-eqb p 0 f)
+    (cases (eqb p 2) (λ e. rw (eqb-true p 2 e) refl)
+    (λ e₂. cases (eqb p 1) (λ e. rw (eqb-true p 1 e) refl)
+    (λ e₁.
+    cases (eqb c 0) (λ e. rw (e₂, e₁, eqb-true c 0 e) refl)
+    (λ d₀. cases (eqb c 1) (λ e. rw (e₂, e₁, eqb-true c 1 e) refl)
+    (λ d₁. cases (eqb c 2) (λ e. rw (e₂, e₁, eqb-true c 2 e) refl)
     (λ d₂. let y : c ≡ 11 = eqb-true c 11 (rw (d₀, d₁, d₂) at g) in
-    rw y (cases (k .odd) (λ o. rw o refl) (λ o. rw o refl))))))))
+    rw (e₂, e₁, y, and-false (eqb p 5), and-false (eqb p 8 || eqb p 6), and-false (eqb p 9 || eqb p 7), and-false (k .odd)) refl))))))
+
+-- a scalar below 80 joins nothing before it that is not CR
+pub ascii-after : (p : ℕ) (k : Context) (a : ℕ) → (p ≢ 0) → a < 128 → joined p k (number (class01 a)) ≡ false
+unfolding after-class
+ascii-after p k a f h = apart-numbers p k (number (class01 a)) f (each-at 128 0 a after-class after-each (omega arith) (omega arith))
 
 pub ascii-apart : (b a : ℕ) (k : Context) → b < 128 → a < 128 → (b ≢ 13) → joined (number (class01 b)) k (number (class01 a)) ≡ false
-unfolding before-class after-class
+unfolding before-class
 ascii-apart b a k h g n =
-    let f : (eqb b 13 || among (number (class01 b)) (lf ∷ control ∷ other ∷ [])) ≡ true = each-at 128 0 b before-class before-each (omega arith) (omega arith) in
-    apart-numbers (number (class01 b)) k (number (class01 a)) (rw (ne-eqb b 13 n) at f) (each-at 128 0 a after-class after-each (omega arith) (omega arith))
+    let f : (eqb b 13 || not (eqb (number (class01 b)) 0)) ≡ true = each-at 128 0 b before-class before-each (omega arith) (omega arith) in
+    let m : not (eqb (number (class01 b)) 0) ≡ true = rw (ne-eqb b 13 n) at f in
+    ascii-after (number (class01 b)) k a (eqb-false _ _ (not-true _ m)) g
 
 -- a byte below 80 is a sequence by itself
 sequence-one : (a : ℕ) (s : List ℕ) → a < 128 → sequence (a ∷ s) ≡ 1

@@ -1,25 +1,25 @@
 -- The first cluster of a text, as the code walks it.
-use Rattle.text.specs.declared.class.Profile as code
 use Prim.Native.Nat.{_+_, _<_, _≤_, ℕ}
 use native.Mathlib.Nat.{add-assoc, add-zero}
 use native.Mathlib.Omega.{arith}
-use mathlib.Core.Bool.{Bool, false, true}
+use mathlib.Core.Bool.{Bool, _&&_, false, not, true}
 use mathlib.Core.List.{List, [], _∷_}
 use mathlib.Core.Logic.{_≢_}
 use mathlib.Core.Path.{_∙_, _≡_, ap, refl, sym}
-use lib.Dec.{ltb}
+use lib.Dec.{eqb, ltb, ltb→lt}
 use lib.ListN.{drop, getD, length, take}
-use borrow.Author.Tests.{ltb-false, ltb-true}
+use borrow.Author.Tests.{eqb-false, ltb-false, ltb-true, not-true}
 use Rattle.text.specs.Class.{Profile, among, class01, classT, classV, control, cr, extend, inAny, lf, number, zwj}
 use Rattle.text.specs.Cluster.{Context, after, classOf, clusters, context, joined, joins, start}
 use Rattle.text.specs.Cluster.Laws.{clusters-first, further}
-use Rattle.text.specs.Code.{asciiPair, contextOf, firstOf, firstSequence, firstSize, moreFrom, sequenceOf, size}
-use Rattle.text.specs.Tests.{cases}
+use Rattle.text.specs.Code.{asciiPair, contextOf, firstOf, firstSequence, firstSize, moreFrom, profileOf, sequenceOf, size}
+use Rattle.text.specs.Tests.{and-T, cases, is-true, true-T}
 use Rattle.text.specs.Utf8.{Scalar, decode, runOf}
 use Rattle.text.specs.Width.{wides, width01, widthOf}
 use Rattle.text.specs.declared.utf8.Sequence.{Sequence}
-use Rattle.text.proofs.Ascii.{Apart, ascii-sequence, pair-bytes}
+use Rattle.text.proofs.Ascii.{Apart, ascii-after, ascii-sequence, pair-bytes}
 use Rattle.text.proofs.Units.{run-bad, run-end, run-good, run-size, scalarAt}
+use Rattle.text.specs.declared.class.Profile as code
 
 module _ (P : Profile) where
   more-further : (s : List Scalar) (p : Scalar) (ps : List Scalar) → size (take (further P (p ∷ ps) s) s) ≡ moreFrom P (classOf P p) (context P (p ∷ ps)) s
@@ -85,6 +85,15 @@ module _ (P : Profile) (s : List ℕ) (p : ℕ) (u : Sequence) (here : p < lengt
       pub go-on : r ≡ true → total ≡ p + u .len + moreFrom P k (after (contextOf odd) k) (runOf (decode (drop (p + u .len) s)))
       unfolding moreFrom
       go-on t = rw (run-good s p u here read z, ← kv, sym rr ∙ t, run-size s p u here read z, ← add-assoc) at same
+
+pub stop-ascii : (v : code.Profile) (s : List ℕ) (p prev b : ℕ) (odd r : Bool) (total : ℕ) → b ≡ getD s p 0 → r ≡ (ltb b 0x80 && not (eqb prev 0)) → r ≡ true
+    → total ≡ p + moreFrom (profileOf v) prev (contextOf odd) (runOf (decode (drop p s))) → p ≡ total
+unfolding profileOf
+stop-ascii v s p prev b odd r total e f t same =
+    let q = and-T (ltb b 0x80) (not (eqb prev 0)) (true-T (sym f ∙ t)) in
+    let l : getD s p 0 < 128 = rw e at (ltb→lt b 0x80 (q .0)) in
+    let n : prev ≢ 0 = eqb-false prev 0 (not-true (eqb prev 0) (is-true _ (q .1))) in
+    sym (rw (more-ascii (profileOf v) s p prev (contextOf odd) (λ k. ascii-after prev k (getD s p 0) n l) l, add-zero) at same)
 
 pub stop-end : (P : Profile) (s : List ℕ) (p prev : ℕ) (odd : Bool) (total : ℕ) → length s ≤ p → total ≡ p + moreFrom P prev (contextOf odd) (runOf (decode (drop p s))) → p ≡ total
 unfolding moreFrom

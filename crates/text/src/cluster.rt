@@ -9,6 +9,8 @@ ghost use Prim.Native.Nat.{_+_, _≤_, _<_};
 ghost use mathlib.Core.List.{reverse};
 ghost use lib.ListN.{length, drop};
 ghost use lib.Seq.{slice};
+ghost use lib.Dec.{ltb, eqb};
+ghost use mathlib.Core.Bool.{_&&_, not};
 ghost use Rattle.text.specs.Utf8.{decode};
 ghost use Rattle.text.specs.Class.{number};
 ghost use Rattle.text.specs.Cluster.{start, after, joined};
@@ -71,6 +73,13 @@ fn is_joined(s: Seen, c: u8) -> bool
     false
 }
 
+// Is the next byte below 80, behind a scalar that is not CR? No rule joins it.
+fn ends_before(class: u8, b: u32) -> bool
+    ensures { λ r. ⌜ r ≡ (ltb b 0x80 && not (eqb class 0)) ⌝ }
+{
+    (b < 0x80) & (class != 0)
+}
+
 // The end of the cluster that a scalar of class c begins, whose next scalar stands at `from`.
 fn more_end(profile: Profile, s: &[u8], from: usize, c: u8) -> usize
     requires { ⌜ from ≤ length (now s) ⌝ }
@@ -79,6 +88,9 @@ fn more_end(profile: Profile, s: &[u8], from: usize, c: u8) -> usize
     let mut p = from;
     let mut before = with_scalar(false, c);
     while p < s.len() {
+        if ends_before(before.class, byte_at(s, p)) {
+            return p;
+        }
         let u = decode(s, p);
         if u.len == 0 {
             return p;
