@@ -1,118 +1,28 @@
 -- Valid texts one after the other, and the beginnings of a valid text.
-use Prim.Native.Nat.{_+_, _-_, _<_, _≤_, suc, zero, ℕ}
+use Prim.Native.Nat.{_+_, _-_, _≤_, suc, zero, ℕ}
 use native.Mathlib.Omega.{arith}
-use mathlib.Core.Bool.{Bool, _&&_, _||_, false, true}
-use mathlib.Core.List.{List, [], _++_, _∷_}
+use mathlib.Core.List.{List, [], _++_, _∷_, append-assoc}
 use mathlib.Core.Path.{_∙_, _≡_, ap, ap₂, refl, sym}
-use lib.Dec.{T, leb, leb→le, ltb, ltb→lt}
-use lib.ListN.{drop, length, take}
+use lib.ListN.{drop, length, take, take-append-drop}
 use lib.Seq.{drop-append-le, drop-append-seam, take-add, take-append-le, take-take}
-use Rattle.text.specs.Code.{runOf, size, whole}
-use Rattle.text.specs.Tests.{and-T, cases, is-false, is-true, or-T, true-T}
-use Rattle.text.specs.Utf8.{Range, Scalar, bytesOf, decode, fits, lengthIn, sequence, table, value, within}
+use Rattle.text.specs.Code.{size, whole}
+use Rattle.text.specs.Utf8.{Scalar, bytesOf, decode, runOf, sequence, value}
 use Rattle.text.specs.Utf8.Laws.{bytesOf-append, sequence-le}
+use Rattle.text.specs.Utf8.Valid.{sequence-take}
 use Rattle.text.proofs.Runs.{Head, part-slice, run-head, run-nil}
 use Rattle.text.proofs.Units.{run-more}
 
--- ---- two rows of the table share no first byte
-
-apart : List Range → List Range → Bool
-apart [] b = false
-apart (q ∷ qs) [] = false
-apart (q ∷ qs) (r ∷ rs) = _||_ (ltb (q .high) (r .low)) (ltb (r .high) (q .low))
-
-apartAll : List Range → List (List Range) → Bool
-unfolding apart
-apartAll q [] = true
-apartAll q (r ∷ rs) = _&&_ (apart q r) (apartAll q rs)
-
-rowsApart : List (List Range) → Bool
-unfolding apartAll
-rowsApart [] = true
-rowsApart (q ∷ qs) = _&&_ (apartAll q qs) (rowsApart qs)
-
-apart-fits : (q r : List Range) (b : ℕ) (s u : List ℕ) → T (apart q r) → T (fits r (b ∷ s)) → fits q (b ∷ u) ≡ false
-unfolding apart fits
-apart-fits [] r b s u t f = absurd t
-apart-fits (q ∷ qs) [] b s u t f = absurd t
-apart-fits (q ∷ qs) (r ∷ rs) b s u t f =
-    let w = and-T (leb (r .low) b) (leb b (r .high)) (and-T (within r b) (fits rs s) f .0) in
-    let h₁ : r .low ≤ b = leb→le _ _ (w .0) in
-    let h₂ : b ≤ r .high = leb→le _ _ (w .1) in
-    is-false _ (λ g.
-    let x = and-T (leb (q .low) b) (leb b (q .high)) (and-T (within q b) (fits qs u) g .0) in
-    let h₃ : q .low ≤ b = leb→le _ _ (x .0) in
-    let h₄ : b ≤ q .high = leb→le _ _ (x .1) in
-    or-T (ltb (q .high) (r .low)) _ t
-    (λ v. let h : q .high < r .low = ltb→lt _ _ v in omega arith)
-    (λ v. let h : r .high < q .low = ltb→lt _ _ v in omega arith))
-
-apart-none : (rows : List (List Range)) (q : List Range) (b n : ℕ) (s u : List ℕ) → T (apartAll q rows) → lengthIn rows (b ∷ s) ≡ suc n → fits q (b ∷ u) ≡ false
-unfolding apartAll lengthIn
-apart-none [] q b n s u t e = absurd (omega arith)
-apart-none (row ∷ rows) q b n s u t e =
-    let w = and-T (apart q row) (apartAll q rows) t in
-    cases (fits row (b ∷ s)) (λ f. apart-fits q row b s u (w .0) (true-T f)) (λ f. apart-none rows q b n s u (w .1) (rw f at e))
-
-fits-append : (row : List Range) (s t : List ℕ) → T (fits row s) → T (fits row (s ++ t))
-unfolding fits
-fits-append [] s t f = tt
-fits-append (r ∷ rs) [] t f = absurd f
-fits-append (r ∷ rs) (b ∷ s) t f =
-    let w = and-T (within r b) (fits rs s) f in
-    rw (is-true (within r b) (w .0)) (fits-append rs s t (w .1))
-
-lengthIn-append : (rows : List (List Range)) (b n : ℕ) (s t : List ℕ) → T (rowsApart rows) → lengthIn rows (b ∷ s) ≡ suc n → lengthIn rows (b ∷ (s ++ t)) ≡ suc n
-unfolding rowsApart lengthIn
-lengthIn-append [] b n s t a e = e
-lengthIn-append (row ∷ rows) b n s t a e =
-    let w = and-T (apartAll row rows) (rowsApart rows) a in
-    cases (fits row (b ∷ s))
-    (λ f. rw (is-true (fits row (b ∷ (s ++ t))) (fits-append row (b ∷ s) t (true-T f))) (rw f at e))
-    (λ f.
-    let l : lengthIn rows (b ∷ s) ≡ suc n = rw f at e in
-    rw (apart-none rows row b n s (s ++ t) (w .0) l) (lengthIn-append rows b n s t (w .1) l))
-
 -- a sequence stays one, whatever follows
 pub sequence-append : (b n : ℕ) (s t : List ℕ) → sequence (b ∷ s) ≡ suc n → sequence (b ∷ (s ++ t)) ≡ suc n
-unfolding sequence rowsApart table
-sequence-append b n s t e = lengthIn-append table b n s t tt e
+sequence-append b n s t e =
+    ap (λ (x : List ℕ). sequence (b ∷ x)) (ap (λ (y : List ℕ). y ++ t) (sym (take-append-drop n s)) ∙ append-assoc (take n s) (drop n s) t)
+    ∙ sequence-take b n s (drop n s ++ t) e
 
--- a row that fits a beginning fits the whole
-fits-take : (row : List Range) (m : ℕ) (s : List ℕ) → T (fits row (take m s)) → T (fits row s)
-unfolding fits
-fits-take [] m s f = tt
-fits-take (r ∷ rs) zero s f = absurd f
-fits-take (r ∷ rs) (suc m) [] f = absurd f
-fits-take (r ∷ rs) (suc m) (b ∷ s) f =
-    let w = and-T (within r b) (fits rs (take m s)) f in
-    rw (is-true (within r b) (w .0)) (fits-take rs m s (w .1))
-
-take-fits : (row : List Range) (m : ℕ) (s : List ℕ) → length row ≤ m → T (fits row s) → T (fits row (take m s))
-unfolding fits
-take-fits [] m s h f = tt
-take-fits (r ∷ rs) zero s h f = absurd (omega arith)
-take-fits (r ∷ rs) (suc m) [] h f = absurd f
-take-fits (r ∷ rs) (suc m) (b ∷ s) h f =
-    let w = and-T (within r b) (fits rs s) f in
-    rw (is-true (within r b) (w .0)) (take-fits rs m s (omega arith) (w .1))
-
-lengthIn-take : (rows : List (List Range)) (m : ℕ) (s : List ℕ) → lengthIn rows s ≤ m → lengthIn rows (take m s) ≡ lengthIn rows s
-unfolding lengthIn
-lengthIn-take [] m s h = refl
-lengthIn-take (row ∷ rows) m s h =
-    cases (fits row s)
-    (λ f.
-    let l : length row ≤ m = rw f at h in
-    rw (f, is-true (fits row (take m s)) (take-fits row m s l (true-T f))) refl)
-    (λ f.
-    let l : lengthIn rows s ≤ m = rw f at h in
-    rw (f, is-false (fits row (take m s)) (λ g. let z = fits-take row m s g in absurd (rw f at z))) (lengthIn-take rows m s l))
-
--- a sequence that stands in a beginning stands there
-pub sequence-take : (m : ℕ) (s : List ℕ) → sequence s ≤ m → sequence (take m s) ≡ sequence s
-unfolding sequence
-sequence-take m s h = lengthIn-take table m s h
+-- and in a beginning that holds it
+sequence-front : (b n m : ℕ) (s : List ℕ) → sequence (b ∷ s) ≡ suc n → n ≤ m → sequence (b ∷ take m s) ≡ suc n
+sequence-front b n m s e h =
+    ap (λ (x : List ℕ). sequence (b ∷ x)) (sym (take-append-drop n (take m s)) ∙ ap (λ (y : List ℕ). y ++ drop n (take m s)) (take-take n m s h))
+    ∙ sequence-take b n s (drop n (take m s)) e
 
 -- ---- the run of one text behind another
 
@@ -152,7 +62,7 @@ step-take (b ∷ s) d es k h = go (length (d .bytes)) refl
     go (suc n) q =
         let sq : sequence (b ∷ s) ≡ suc n = h .seq ∙ q in
         let i : d ≡ record { code = value (take (suc n) (b ∷ s)); bytes = take (suc n) (b ∷ s) } = rw q at (h .is) in
-        let a : sequence (b ∷ take (k + n) s) ≡ suc n = sequence-take (suc (k + n)) (b ∷ s) (omega arith) ∙ sq in
+        let a : sequence (b ∷ take (k + n) s) ≡ suc n = sequence-front b n (k + n) s sq (omega arith) in
         let m : length (d .bytes) + k ≡ suc (k + n) = omega arith in
         let z : suc (k + n) - suc n ≡ k = omega arith in
         ap (λ (x : ℕ). runOf (decode (take x (b ∷ s)))) m

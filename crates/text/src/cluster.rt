@@ -160,11 +160,8 @@ fn is_regional(s: &[u8], at: usize) -> bool
     requires { ⌜ at + 4 ≤ length (now s) ⌝ }
     ensures { λ r. ⌜ r ≡ regionalAt (now (s .entry)) at ⌝ }
 {
-    let a = byte_at(s, at);
-    let b = byte_at(s, at + 1);
-    let c = byte_at(s, at + 2);
-    let d = byte_at(s, at + 3);
-    (a == 0xF0) & ((b == 0x9F) & ((c == 0x87) & ((0xA6 <= d) & (d <= 0xBF))))
+    let d = s[at + 3];
+    (s[at] == 0xF0) & ((s[at + 1] == 0x9F) & ((s[at + 2] == 0x87) & ((0xA6 <= d) & (d <= 0xBF))))
 }
 
 // The regional indicators that end at a place: where they begin, and whether their number is odd.

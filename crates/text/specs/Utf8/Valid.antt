@@ -77,7 +77,7 @@ lengthIn-take (row ∷ rows) b n s t a e =
     let l : lengthIn rows (b ∷ s) ≡ suc n = rw f at e in
     rw (apart-none rows row b n s (take n s ++ t) (w .0) l) (lengthIn-take rows b n s t (w .1) l))
 
-sequence-take : (b n : ℕ) (s t : List ℕ) → sequence (b ∷ s) ≡ suc n → sequence (b ∷ (take n s ++ t)) ≡ suc n
+pub sequence-take : (b n : ℕ) (s t : List ℕ) → sequence (b ∷ s) ≡ suc n → sequence (b ∷ (take n s ++ t)) ≡ suc n
 unfolding sequence rowsApart table
 sequence-take b n s t e = lengthIn-take table b n s t tt e
 
