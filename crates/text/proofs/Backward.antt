@@ -123,10 +123,10 @@ module _ (P : Profile) where
     joins-other n m = joins-by (λ d rest es h s x. n ∙ sym (odd-other d rest (λ w. m (x ∙ w))))
 
   -- a pair of bytes below 80
-  pub joins-ascii : (t : List ℕ) (q i : ℕ) → (q ≢ 0) → q < length t → i ≡ q - 1 → Apart P → asciiPair t i ≡ true → JoinsAt P t q false
+  joins-ascii-at : (t : List ℕ) (q i : ℕ) → (q ≢ 0) → q < length t → i ≡ q - 1 → Apart P → asciiPair t i ≡ true → JoinsAt P t q false
   unfolding joins size
-  joins-ascii t q i z h j g f c [] es p s = refl
-  joins-ascii t q i z h j g f c (d ∷ rest) es p s =
+  joins-ascii-at t q i z h j g f c [] es p s = refl
+  joins-ascii-at t q i z h j g f c (d ∷ rest) es p s =
       let n : i + 1 ≡ q = omega arith in
       let w = pair-bytes t i f in
       let u : back t q ≡ i = sym (back-here t q i (getD t i 0) (omega arith) j refl (low-tail (getD t i 0) (w .first))) in
@@ -136,6 +136,9 @@ module _ (P : Profile) where
       let y : number (P .class (getD t q 0)) ≡ number (P .class (c .code)) =
       class-of t q (number (P .class (getD t q 0))) c (d ∷ rest) es p (sym s) (ap (λ (m : Sequence). number (P .class (m .code))) (ascii-sequence t q (getD t q 0) h refl (rw n at (w .second)))) in
       sym (ap₂ (λ (m n : ℕ). joined m (context P (d ∷ rest)) n) (sym x) (sym y) ∙ g (getD t i 0) (getD t q 0) (context P (d ∷ rest)) (w .first) (rw n at (w .second)) (w .plain))
+
+  pub joins-ascii : (t : List ℕ) (q : ℕ) → (q ≢ 0) → q < length t → Apart P → asciiPair t (q - 1) ≡ true → JoinsAt P t q false
+  joins-ascii t q z h g f = joins-ascii-at t q (q - 1) z h refl g f
 
   -- ---- the last cluster
 

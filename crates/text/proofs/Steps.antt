@@ -80,24 +80,24 @@ module _ (line l : List ℕ) (st : Conversion) (w : PendingReady line l st) wher
   pending-room = omega (arith, w .room)
 
   module _ (l₁ : List ℕ) (n : ℕ) (p : Pushed l l₁ (st .len) (orderOf (st .before) (st .style)) n) (long : length l₁ ≡ length l) where
-    pub part-room : n + length (slice (st .at) (st .end) line) ≤ length l₁
-    part-room = rw (length-slice (st .at) (st .end) line (w .sound .part .within)) (omega (arith, w .room, p .end))
+    pub part-room : n + length (take (st .end - st .at) (drop (st .at) line)) ≤ length l₁
+    part-room = rw (part-slice (st .at) (st .end) line, length-slice (st .at) (st .end) line (w .sound .part .within)) (omega (arith, w .room, p .end))
 
-    pub part-pushed : (l₂ : List ℕ) (r : ℕ) → Pushed l₁ l₂ n (slice (st .at) (st .end) line) r → Front l₂ r (pushedOn line l st)
+    pub part-pushed : (l₂ : List ℕ) (r : ℕ) → Pushed l₁ l₂ n (take (st .end - st .at) (drop (st .at) line)) r → Front l₂ r (pushedOn line l st)
     unfolding pushedOn
     part-pushed l₂ r q =
         front-push l₁ l₂ n r (slice (st .at) (st .end) line) _
-        (front-order l l₁ (st .len) n (st .before) (st .style) _ (front-of line l st (w .sound)) p) (w .sound .part .valid) q
+        (front-order l l₁ (st .len) n (st .before) (st .style) _ (front-of line l st (w .sound)) p) (w .sound .part .valid) (rw (part-slice (st .at) (st .end) line) at q)
 
   -- where the style stays
   module _ (b : Bool) (e : b ≡ changedStyle (st .before) (st .style)) (f : b ≡ false) where
     stays : Pushed l l (st .len) (orderOf (st .before) (st .style)) (st .len)
     stays = order-none (st .before) (st .style) l (st .len) (sym e ∙ f) (omega (arith, w .room))
 
-    pub plain-room : st .len + length (slice (st .at) (st .end) line) ≤ length l
+    pub plain-room : st .len + length (take (st .end - st .at) (drop (st .at) line)) ≤ length l
     plain-room = part-room l (st .len) stays refl
 
-    pub plain-pushed : (l₂ : List ℕ) (r : ℕ) → Pushed l l₂ (st .len) (slice (st .at) (st .end) line) r → Front l₂ r (pushedOn line l st)
+    pub plain-pushed : (l₂ : List ℕ) (r : ℕ) → Pushed l l₂ (st .len) (take (st .end - st .at) (drop (st .at) line)) r → Front l₂ r (pushedOn line l st)
     plain-pushed l₂ r q = part-pushed l (st .len) stays refl l₂ r q
 
 -- ---- the weight bounds what is still written

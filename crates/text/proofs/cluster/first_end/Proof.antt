@@ -1,7 +1,7 @@
 use native.Mathlib.Omega.{arith}
-use mathlib.Core.Path.{_∙_, sym}
 use borrow.Author.Needs.{needs}
 use Rattle.text.proofs.Ascii.{apart}
+use Rattle.text.proofs.Branch.{met}
 use Rattle.text.proofs.Units.{run-room}
 use Rattle.text.proofs.Walks.{first-ascii, first-bad, first-good}
 use Rattle.text.proofs.cluster.first_end.Statement.{statement}
@@ -14,7 +14,7 @@ add-result : tie.Need-add-result
 add-result c = search needs
 
 returns : tie.Need-returns
-returns c = first-ascii _ (c .before .before .before .args .s .now) (c .before .before .before .args .at) (c .before .before .before .pre) (apart _) (sym (c .before .is-ascii-pair .ensures) ∙ c .if1 .taken)
+returns c = search (first-ascii, apart, met)
 
 decode-requires : tie.Need-decode-requires
 decode-requires c κs = search needs
@@ -29,7 +29,7 @@ class-requires : tie.Need-class-requires
 class-requires c κs = search needs
 
 more-end-requires : tie.Need-more-end-requires
-more-end-requires c κs = run-room (c .before .before .before .before .before .before .before .before .args .s .now) (c .before .before .before .before .before .before .before .before .args .at) (c .before .before .before .before .decode .result) (c .before .before .before .before .before .before .before .before .pre) (c .before .before .before .before .decode .ensures) (c .before .before .if2 .left)
+more-end-requires c κs = search run-room
 
 returns-3 : tie.Need-returns-3
 returns-3 c = search first-good

@@ -1,9 +1,9 @@
-use Prim.Native.Nat.{_-_, _<_}
+use Prim.Native.Nat.{_<_}
 use native.Mathlib.Omega.{arith}
-use mathlib.Core.Path.{_∙_, refl, sym}
 use borrow.Author.Needs.{needs}
 use Rattle.text.proofs.Ascii.{apart}
 use Rattle.text.proofs.Backward.{joins-ascii, joins-other, joins-regional, joins-zero}
+use Rattle.text.proofs.Branch.{met}
 use Rattle.text.proofs.Tails.{back-lt}
 use Rattle.text.proofs.cluster.joins_at.Statement.{statement}
 use Rattle.text.proofs.cluster.joins_at.Tie as tie
@@ -18,7 +18,7 @@ is-ascii-pair-requires : tie.Need-is-ascii-pair-requires
 is-ascii-pair-requires c κs = search needs
 
 returns-2 : tie.Need-returns-2
-returns-2 c = joins-ascii _ (c .before .before .before .before .args .t .now) (c .before .before .before .before .args .q) (c .before .before .before .before .args .q - 1) (c .before .before .if1 .left) (c .before .before .before .before .pre) refl (apart _) (sym (c .before .is-ascii-pair .ensures) ∙ c .if2 .taken)
+returns-2 c = search (joins-ascii, apart, met)
 
 scalar-start-requires : tie.Need-scalar-start-requires
 scalar-start-requires c κs = search needs
@@ -36,13 +36,13 @@ is-joined-requires : tie.Need-is-joined-requires
 is-joined-requires c κs = search needs
 
 returns-3 : tie.Need-returns-3
-returns-3 c = joins-regional _ (c .before .before .before .before .before .before .before .before .before .before .args .t .now) (c .before .before .before .before .before .before .before .before .before .before .args .q) _ _ _ _ _ (c .before .before .before .before .before .before .before .before .if1 .left) (c .before .before .before .before .before .scalar-start .ensures) (c .before .before .before .before .class-at .ensures) (c .before .before .before .class-at2 .ensures) (c .is-joined .ensures) (c .before .odd-to .ensures)
+returns-3 c = search joins-regional
 
 is-joined-requires-2 : tie.Need-is-joined-requires-2
 is-joined-requires-2 c κs = search needs
 
 returns-4 : tie.Need-returns-4
-returns-4 c = joins-other _ (c .before .before .before .before .before .before .before .before .before .args .t .now) (c .before .before .before .before .before .before .before .before .before .args .q) _ _ _ _ _ (c .before .before .before .before .before .before .before .if1 .left) (c .before .before .before .before .scalar-start .ensures) (c .before .before .before .class-at .ensures) (c .before .before .class-at2 .ensures) (c .is-joined2 .ensures) refl (c .before .if3 .left)
+returns-4 c = search joins-other
 
 pub joins-at-spec : {M : Type 1} → statement M
 joins-at-spec =

@@ -21,10 +21,10 @@ scalar-start-requires : tie.Need-scalar-start-requires Inv-loop μ-loop
 scalar-start-requires c κs = search needs
 
 loop-holds : tie.Need-loop-holds Inv-loop μ-loop
-loop-holds c = last-begin _ (c .before .before .before .args .t .now) _ (c .before .before .before .pre) (c .before .if1 .left) (c .scalar-start .ensures)
+loop-holds c = search last-begin
 
 joins-at-requires : tie.Need-joins-at-requires Inv-loop μ-loop
-joins-at-requires c κs = last-inside _ (c .before .before .before .before .before .args .t .now) (c .before .loop .q) _ (c .before .loop .inv)
+joins-at-requires c κs = search last-inside
 
 scalar-start-requires-2 : tie.Need-scalar-start-requires-2 Inv-loop μ-loop
 scalar-start-requires-2 c κs = omega (arith, last-inside _ (c .before .before .before .before .before .before .before .args .t .now) (c .before .before .before .loop .q) _ (c .before .before .before .loop .inv))
@@ -33,13 +33,13 @@ loop-less : tie.Need-loop-less Inv-loop μ-loop
 loop-less c = omega (arith, back-lt (c .before .before .before .before .before .before .before .before .args .t .now) (c .before .before .before .before .loop .q) (c .before .before .before .loop-test .taken), c .scalar-start2 .ensures)
 
 loop-again : tie.Need-loop-again Inv-loop μ-loop
-loop-again c = last-on _ (c .before .before .before .before .before .before .before .before .args .t .now) (c .before .before .before .before .loop .q) _ _ (c .before .before .joins-at .ensures) _ (c .before .before .before .loop-test .taken) (c .before .if2 .taken) (c .scalar-start2 .ensures) (c .before .before .before .before .loop .inv)
+loop-again c = search last-on
 
 returns-2 : tie.Need-returns-2 Inv-loop μ-loop
-returns-2 c = last-stop _ (c .before .before .before .before .before .before .before .args .t .now) (c .before .before .before .loop .q) _ _ (c .before .joins-at .ensures) (c .if2 .left) (c .before .before .before .loop .inv)
+returns-2 c = search last-stop
 
 returns-3 : tie.Need-returns-3 Inv-loop μ-loop
-returns-3 c = last-end _ (c .before .before .before .before .before .args .t .now) (c .before .loop .q) _ (c .loop-test .left) (c .before .loop .inv)
+returns-3 c = search last-end
 
 pub last-start-spec : {M : Type 1} → statement M
 last-start-spec =

@@ -21,7 +21,7 @@ same-length : tie.Need-same-length
 same-length c = search needs
 
 returns : tie.Need-returns
-returns c = erase-back _ (c .before .before .before .before .args .out .now) (c .before .before .before .before .args .len) _ (c .before .before .before .before .pre .0) (c .before .kept .ensures) (c .if1 .taken)
+returns c = search erase-back
 
 slice-write-out : tie.Need-slice-write-out
 slice-write-out c = search needs
@@ -33,7 +33,7 @@ same-length-2 : tie.Need-same-length-2
 same-length-2 c = search needs
 
 returns-2 : tie.Need-returns-2
-returns-2 c = erase-add _ (c .before .before .before .before .args .out .now) (c .before .before .before .before .args .len) _ (c .before .before .before .before .pre .0) (c .before .before .before .before .pre .1) (c .before .kept .ensures) (c .if1 .left)
+returns-2 c = search erase-add
 
 pub backspace-spec : {M : Type 1} → statement M
 backspace-spec =

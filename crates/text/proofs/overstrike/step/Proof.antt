@@ -48,7 +48,7 @@ returns-3 : tie.Need-returns-3
 returns-3 c = search step-pushed
 
 strike-requires : tie.Need-strike-requires
-strike-requires c κs = strike-ready (c .before .before .before .before .before .before .before .before .before .args .line .now) (c .before .before .before .before .before .before .before .before .before .args .out .now) (c .before .before .before .before .before .before .before .before .before .args .st) (c .before .before .before .before .before .before .before .before .before .args .at) (c .before .before .before .before .before .before .before .before .before .args .end) (c .before .before .before .before .before .before .before .before .before .pre) (c .before .before .if2 .left) (c .if3 .left)
+strike-requires c κs = search strike-ready
 
 returns-4 : tie.Need-returns-4
 returns-4 c = search step-struck

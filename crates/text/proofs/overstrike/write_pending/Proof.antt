@@ -1,6 +1,5 @@
 use native.Mathlib.Omega.{arith}
 use borrow.Author.Needs.{needs}
-use Rattle.text.proofs.Runs.{part-slice}
 use Rattle.text.proofs.Steps.{part-pushed, part-room, plain-pushed, plain-room}
 use Rattle.text.proofs.overstrike.write_pending.Statement.{statement}
 use Rattle.text.proofs.overstrike.write_pending.Tie as tie
@@ -21,13 +20,13 @@ part-push-end : tie.Need-part-push-end
 part-push-end c = omega (arith, c .before .before .before .before .before .before .before .before .before .before .before .pre .sound .part .ordered, c .before .before .before .before .before .before .before .before .before .before .before .pre .sound .part .within)
 
 push-requires : tie.Need-push-requires
-push-requires c κs = rw (part-slice (c .before .before .before .before .before .before .before .before .before .before .before .before .args .st .at) (c .before .before .before .before .before .before .before .before .before .before .before .before .args .st .end) (c .before .before .before .before .before .before .before .before .before .before .before .before .args .line .now)) (part-room (c .before .before .before .before .before .before .before .before .before .before .before .before .args .line .now) (c .before .before .before .before .before .before .before .before .before .before .before .before .args .out .now) (c .before .before .before .before .before .before .before .before .before .before .before .before .args .st) (c .before .before .before .before .before .before .before .before .before .before .before .before .pre) (c .before .before .before .before .add-control-sequence .last .0) _ (c .before .before .before .before .add-control-sequence .ensures) (c .before .before .before .before .add-control-sequence .kept .0))
+push-requires c κs = search part-room
 
 same-length : tie.Need-same-length
 same-length c = search needs
 
 returns : tie.Need-returns
-returns c = part-pushed (c .before .before .before .before .before .before .before .before .before .before .before .before .before .before .before .args .line .now) (c .before .before .before .before .before .before .before .before .before .before .before .before .before .before .before .args .out .now) (c .before .before .before .before .before .before .before .before .before .before .before .before .before .before .before .args .st) (c .before .before .before .before .before .before .before .before .before .before .before .before .before .before .before .pre) (c .before .before .before .before .before .before .before .add-control-sequence .last .0) _ (c .before .before .before .before .before .before .before .add-control-sequence .ensures) (c .before .before .before .before .before .before .before .add-control-sequence .kept .0) _ _ (rw (part-slice (c .before .before .before .before .before .before .before .before .before .before .before .before .before .before .before .args .st .at) (c .before .before .before .before .before .before .before .before .before .before .before .before .before .before .before .args .st .end) (c .before .before .before .before .before .before .before .before .before .before .before .before .before .before .before .args .line .now)) at (c .before .before .push .ensures))
+returns c = search part-pushed
 
 sub-push-2 : tie.Need-sub-push-2
 sub-push-2 c = search needs
@@ -39,13 +38,13 @@ part-push-end-2 : tie.Need-part-push-end-2
 part-push-end-2 c = search needs
 
 push-requires-2 : tie.Need-push-requires-2
-push-requires-2 c κs = rw (part-slice (c .before .before .before .before .before .before .before .before .args .st .at) (c .before .before .before .before .before .before .before .before .args .st .end) (c .before .before .before .before .before .before .before .before .args .line .now)) (plain-room (c .before .before .before .before .before .before .before .before .args .line .now) (c .before .before .before .before .before .before .before .before .args .out .now) (c .before .before .before .before .before .before .before .before .args .st) (c .before .before .before .before .before .before .before .before .pre) _ (c .before .before .before .is-changed .ensures) (c .before .before .if1 .left))
+push-requires-2 c κs = search plain-room
 
 same-length-2 : tie.Need-same-length-2
 same-length-2 c = search needs
 
 returns-2 : tie.Need-returns-2
-returns-2 c = plain-pushed (c .before .before .before .before .before .before .before .before .before .before .before .args .line .now) (c .before .before .before .before .before .before .before .before .before .before .before .args .out .now) (c .before .before .before .before .before .before .before .before .before .before .before .args .st) (c .before .before .before .before .before .before .before .before .before .before .before .pre) _ (c .before .before .before .before .before .before .is-changed .ensures) (c .before .before .before .before .before .if1 .left) _ _ (rw (part-slice (c .before .before .before .before .before .before .before .before .before .before .before .args .st .at) (c .before .before .before .before .before .before .before .before .before .before .before .args .st .end) (c .before .before .before .before .before .before .before .before .before .before .before .args .line .now)) at (c .before .before .push2 .ensures))
+returns-2 c = search plain-pushed
 
 pub write-pending-spec : {M : Type 1} → statement M
 write-pending-spec =
