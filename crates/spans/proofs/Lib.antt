@@ -1,3 +1,4 @@
 pub mod Branch
 pub mod Parameters
 pub mod Table
+pub mod Sequences

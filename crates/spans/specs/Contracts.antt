@@ -1,12 +1,12 @@
 -- What the contracts of the code say beyond the definitions.
 use mathlib.Core.Path.{_≡_}
-use Prim.Native.Nat.{ℕ, suc, _+_, _-_, _*_, _/_, _%_, _≤_}
+use Prim.Native.Nat.{ℕ, suc, _+_, _-_, _*_, _/_, _%_, _≤_, _<_}
 use mathlib.Core.Bool.{Bool, true, false, cond}
 use mathlib.Core.List.{List, [], _∷_}
-use lib.ListN.{length, drop}
+use lib.ListN.{length, drop, getD}
 use lib.Dec.{eqb, leb}
 use Rattle.spans.specs.Sgr.{digit, parameters, allowed, coloured, ordersFrom, orders}
-use Rattle.spans.specs.Sequence.{leading, parameterByte}
+use Rattle.spans.specs.Sequence.{Sequence, sgr, eraseToEnd, ignored, hyperlink, lineDrawing, Found, found, missing, leading, past, parameterByte, uriByte, closed}
 use Rattle.spans.specs.declared.sgr.Color.the-variants.{Default, Palette}
 use Rattle.spans.specs.declared.sgr.Sgr.{Sgr}
 use Rattle.spans.specs.declared.sgr.Sgr.the-variants.{Reset, Intensity, Underline, Blink, Italic, Inverse, Invisible, StrikeThrough, Overline, Foreground, Background}
@@ -18,6 +18,9 @@ use Rattle.spans.specs.declared.sgr.Step.the-variants as step
 use Rattle.spans.specs.declared.sgr.Scan.{Scan}
 use Rattle.spans.specs.declared.sgr.Parameter.{Parameter}
 use Rattle.spans.specs.declared.sgr.Orders.{Orders}
+use Rattle.spans.specs.declared.sequence.Sequence as code
+use Rattle.spans.specs.declared.sequence.Sequence.the-variants.{Missing, EraseToEnd, Ignored, Hyperlink, LineDrawing}
+use Rattle.spans.specs.declared.sequence.Sequence.the-variants as sequence
 use Rattle.spans.specs.declared.sgr.NextOrder.{NextOrder}
 use Rattle.spans.specs.declared.sgr.NextOrder.the-variants.{Order, End}
 
@@ -97,3 +100,35 @@ unfoldable pub ordersOf : List ℕ → NextOrder → List Sgr
 unfolding ordersAt
 ordersOf s (Order o c) = o ∷ ordersAt s c
 ordersOf s End = []
+
+-- ---- sequences at ESC
+
+-- a sequence as the code has it: kind, length and places
+unfoldable pub told : Found → code.Sequence
+told missing = Missing
+told (found (sgr os) n) = sequence.Sgr n
+told (found eraseToEnd n) = EraseToEnd n
+told (found ignored n) = Ignored n
+told (found (hyperlink p k) n) = Hyperlink p k n
+told (found (lineDrawing b) n) = LineDrawing b n
+
+-- past the bytes that pass the test
+pub record Skipped (p : ℕ → Bool) (s : List ℕ) (at r : ℕ) : Type 0 where
+  pub len : r ≡ past p s at
+  pub up : at ≤ r
+  pub low : r ≤ at + length s
+
+-- behind `ESC ]`: a URI at m
+unfoldable pub uriAt : List ℕ → ℕ → Found
+unfolding past closed
+uriAt s m = let e : ℕ = past uriByte s m in closed m e (getD s e 0) (getD s (e + 1) 0)
+
+pub record Near (s : List ℕ) (m : ℕ) : Type 0 where
+  pub small : length s ≤ 65536
+  pub near : m ≤ 3 + length s
+
+-- a run of a line ends at `end`, behind the place `at`
+pub record Within (s : List ℕ) (at end : ℕ) : Type 0 where
+  pub first : at < end
+  pub last : end ≤ length s
+  pub small : length s ≤ 65536

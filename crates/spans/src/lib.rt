@@ -1,6 +1,7 @@
 // Layer 2, spans: the sequences at ESC, reading, and reading with matches.
 use text::BytePlace;
 
+pub mod sequence;
 pub mod sgr;
 
 // A record of the span list: the span's kind, 1 to 13 in the order of the source's Span; the byte place and the length, in the converted
