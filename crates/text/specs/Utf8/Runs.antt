@@ -1,14 +1,14 @@
 -- A line is its first run and what follows it.
 use mathlib.Core.Path.{_≡_, refl, sym, ap, ap₂, _∙_}
-use Prim.Native.Nat.{ℕ, _+_}
+use Prim.Native.Nat.{ℕ, _+_, _-_, _≤_}
 use native.Mathlib.Omega.{arith}
 use mathlib.Core.List.{List, [], _∷_, _++_, map, append-assoc, append-nil, append-cancel-left}
-use lib.ListN.{length, drop, length-append}
-use lib.Seq.{drop-append-seam, drop-drop}
+use lib.ListN.{length, take, drop, length-append}
+use lib.Seq.{take-append-seam, drop-append-seam, take-at}
 use Rattle.text.specs.Each.{All, all-nil, all-cons, all-split}
 use Rattle.text.specs.Utf8.{Scalar, decode, Decoded, wellFormed, illFormed, Piece, run, damaged, addToRun, runs, runOf, bytesOf}
 use Rattle.text.specs.Utf8.Laws.{bytesOf-append, decodedBytes, decodedBytes-decode}
-use Rattle.text.specs.Utf8.Valid.{Valid, ValidPiece, runs-valid, decode-text}
+use Rattle.text.specs.Utf8.Valid.{Valid, ValidPiece, runs-valid, decode-text, run-text}
 
 -- what follows the run
 unfoldable pub afterRun : List Decoded → List Decoded
@@ -56,7 +56,7 @@ unfolding withRun
 with-valid [] ps a = all-nil
 with-valid (c ∷ s) ps (all-cons (ValidPiece.valid v) a) = v
 
-run-valid : (s : List ℕ) → All Valid (runOf (decode s))
+pub run-valid : (s : List ℕ) → All Valid (runOf (decode s))
 run-valid s = with-valid (runOf (decode s)) (runs (afterRun (decode s))) (rw (← runs-split (decode s)) (runs-valid s))
 
 -- ---- the run that a line begins with, and the bytes behind it
@@ -101,5 +101,24 @@ module _ (s : List ℕ) (g r : List Scalar) (e : runOf (decode s) ≡ g ++ r) wh
       ∙ ap runOf (decode-text (all-split g (rw e at (run-valid s)) .1) t)
       ∙ run-of-wells r (decode t) (run-stops s)
 
+  pub front-bytes : take (length (bytesOf g)) s ≡ bytesOf g
+  front-bytes =
+      let t : List ℕ = drop (length (bytesOf (runOf (decode s)))) s in
+      ap (take (length (bytesOf g))) (sym (run-bytes s) ∙ ap (λ (l : List Scalar). bytesOf l ++ t) e ∙ ap (λ (l : List ℕ). l ++ t) (bytesOf-append g r) ∙ append-assoc (bytesOf g) (bytesOf r) t)
+      ∙ take-append-seam (bytesOf g) (bytesOf r ++ t)
+
+  pub front-run : runOf (decode (take (length (bytesOf g)) s)) ≡ g
+  front-run = ap (λ (l : List ℕ). runOf (decode l)) front-bytes ∙ run-text (all-split g (rw e at (run-valid s)) .0)
+
+  -- the rest's bytes are those up to the run's end
+  pub rest-bytes : (n : ℕ) → n ≡ length (bytesOf (runOf (decode s))) - length (bytesOf g) → take n (drop (length (bytesOf g)) s) ≡ bytesOf r
+  rest-bytes n q =
+      let t : List ℕ = drop (length (bytesOf (runOf (decode s)))) s in
+      let k : length (bytesOf r) ≡ n = omega (arith, simp length-append at (ap length (ap bytesOf e ∙ bytesOf-append g r))) in
+      ap (take n) behind-bytes ∙ take-at (bytesOf r) t n k
+
   pub run-length : length (bytesOf (runOf (decode s))) ≡ length (bytesOf g) + length (bytesOf (runOf (decode (drop (length (bytesOf g)) s))))
   run-length = ap (λ (l : List Scalar). length (bytesOf l)) e ∙ ap length (bytesOf-append g r) ∙ length-append (bytesOf g) (bytesOf r) ∙ ap (λ (l : List Scalar). length (bytesOf g) + length (bytesOf l)) (sym run-rest)
+
+pub run-fits : (s : List ℕ) → length (bytesOf (runOf (decode s))) ≤ length s
+run-fits s = omega (arith, simp length-append at (ap length (run-bytes s)))
