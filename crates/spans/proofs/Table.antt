@@ -49,7 +49,7 @@ unpack-none kind x h1 h2 h3 h4 h5 h6 h7 h8 h9 h10 h11 h12 h13 =
 
 -- ---- one computed test
 
-unfoldable upFrom : ℕ → ℕ → List ℕ
+unfoldable pub upFrom : ℕ → ℕ → List ℕ
 upFrom i zero = []
 upFrom i (suc n) = i ∷ upFrom (suc i) n
 
@@ -61,7 +61,7 @@ abbrev same : map unpacked table ≡ map said (upFrom 0 108)
 unfolding unpacked table said upFrom
 same = refl
 
-upFrom-at : (n i k d : ℕ) → k < n → getD (upFrom i n) k d ≡ i + k
+pub upFrom-at : (n i k d : ℕ) → k < n → getD (upFrom i n) k d ≡ i + k
 unfolding upFrom
 upFrom-at zero i k d h = absurd (not-suc-le-zero h)
 upFrom-at (suc n) i zero d h = sym (add-zero i)

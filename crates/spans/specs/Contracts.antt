@@ -1,12 +1,23 @@
 -- What the contracts of the code say beyond the definitions.
 use mathlib.Core.Path.{_≡_}
 use Prim.Native.Nat.{ℕ, suc, _+_, _-_, _*_, _/_, _%_, _≤_, _<_}
-use mathlib.Core.Bool.{Bool, true, false, cond}
+use mathlib.Core.Bool.{Bool, true, false, not, cond, _&&_, _||_}
+use mathlib.Core.Option.{Option, none, some}
 use mathlib.Core.List.{List, [], _∷_}
 use lib.ListN.{length, drop, getD}
 use lib.Dec.{eqb, leb}
+use Rattle.text.specs.Utf8.{Scalar, decode, runOf, bytesOf}
+use Rattle.text.specs.Class.{Profile}
+use Rattle.text.specs.Cluster.{clusters}
+use Rattle.text.specs.Code.{size}
 use Rattle.spans.specs.Sgr.{digit, parameters, allowed, coloured, ordersFrom, orders}
 use Rattle.spans.specs.Sequence.{Sequence, sgr, eraseToEnd, ignored, hyperlink, lineDrawing, Found, found, missing, leading, past, parameterByte, uriByte, closed}
+use Rattle.spans.specs.Spans.{spansAt, Record, aRecord, records}
+use Rattle.spans.specs.Spans.Steps.{plainCluster, plainSize, skipped}
+use Rattle.spans.specs.declared.reader.Look.{Look}
+use Rattle.spans.specs.declared.reader.Place.{Place}
+use Rattle.spans.specs.declared.reader.Matched.{Matched}
+use Rattle.spans.specs.declared.reader.NextSpan.{NextSpan}
 use Rattle.spans.specs.declared.sgr.Color.the-variants.{Default, Palette}
 use Rattle.spans.specs.declared.sgr.Sgr.{Sgr}
 use Rattle.spans.specs.declared.sgr.Sgr.the-variants.{Reset, Intensity, Underline, Blink, Italic, Inverse, Invisible, StrikeThrough, Overline, Foreground, Background}
@@ -132,3 +143,102 @@ pub record Within (s : List ℕ) (at end : ℕ) : Type 0 where
   pub first : at < end
   pub last : end ≤ length s
   pub small : length s ≤ 65536
+
+-- ---- clusters
+
+abbrev pub printable : ℕ → Bool
+printable b = leb 0x20 b && leb b 0x7E
+
+-- a cluster of n bytes, the first of them a and b, that is w columns wide is a part of a text
+unfoldable pub plainBytes : ℕ → ℕ → ℕ → ℕ → Bool
+plainBytes n a b w = cond (eqb n 1 && (leb a 0x1F || eqb a 0x7F)) false (cond (eqb n 2 && (eqb a 0x0D && eqb b 0x0A)) false (not (eqb w 0)))
+
+-- the clusters of the run that a line begins with
+abbrev pub clustersAt : Profile → List ℕ → List (List Scalar)
+clustersAt P s = clusters P (runOf (decode s))
+
+-- the bytes of the first cluster if it is plain
+unfoldable pub plainFirst : Profile → List (List Scalar) → ℕ
+plainFirst P [] = 0
+plainFirst P (g ∷ gs) = cond (plainCluster P g) (length (bytesOf g)) 0
+
+abbrev pub aLook : ℕ → ℕ → Look
+aLook k n = record { kind = k; len = n }
+
+unfoldable pub escapeLook : code.Sequence → Look
+escapeLook Missing = aLook 3 1
+escapeLook (sequence.Sgr n) = aLook 6 n
+escapeLook (Hyperlink p k n) = aLook 7 n
+escapeLook (LineDrawing b n) = aLook 8 n
+escapeLook (Ignored n) = aLook 9 n
+escapeLook (EraseToEnd n) = aLook 13 n
+
+-- what a cluster of n bytes is, the first of them a and b, that is no part of a text; f is what stands at an ESC
+unfoldable pub lookBytes : ℕ → ℕ → ℕ → Found → Look
+unfolding escapeLook told
+lookBytes n a b f =
+    cond (eqb n 1)
+    (cond (eqb a 0x1B) (escapeLook (told f)) (cond (eqb a 0x0A) (aLook 12 1) (cond (eqb a 0x09) (aLook 10 1) (cond (leb a 0x1F || eqb a 0x7F) (aLook 3 1) (aLook 5 1)))))
+    (cond (eqb n 2 && (eqb a 0x0D && eqb b 0x0A)) (aLook 11 2) (aLook 5 n))
+
+-- the part from `at` to `end` of t
+pub record Part (t : List ℕ) (at end : ℕ) : Type 0 where
+  pub here : at < length t
+  pub ordered : at ≤ end
+  pub inside : end ≤ length t
+
+-- the cluster from `at` to `end` lies in a run that ends at `run`
+pub record Looked (t : List ℕ) (at end run : ℕ) : Type 0 where
+  pub ordered : at ≤ end
+  pub within : Within t at run
+
+-- the end of the run at a place
+abbrev pub runAt : List ℕ → ℕ → ℕ
+runAt t at = at + size (runOf (decode (drop at t)))
+
+abbrev pub Ahead : List ℕ → ℕ → ℕ → Type 0
+Ahead t at stop = stop ≤ runAt t at
+
+pub record Skip (P : Profile) (t : List ℕ) (at stop r : ℕ) : Type 0 where
+  pub same : r ≡ at + skipped P (stop - at) (clustersAt P (drop at t))
+  pub run : runAt t r ≡ runAt t at
+
+-- ---- places
+
+-- the run's end, where it lies beyond the place, is that of the run at the place
+abbrev pub Fresh : List ℕ → Place → Type 0
+Fresh t c = c .at < c .run → c .run ≡ runAt t (c .at)
+
+pub record Ready (t : List ℕ) (c : Place) : Type 0 where
+  pub here : c .at < length t
+  pub small : length t ≤ 65536
+  pub fresh : Fresh t c
+
+-- the match that a stretch is, if it is one
+unfoldable pub matchIn : Matched → Option ℕ
+matchIn m = cond (m .inside) (some (m .number)) none
+
+-- the record of a text of n bytes at a place
+unfoldable pub textRecord : Matched → ℕ → ℕ → Record
+textRecord m at n = cond (m .inside) (aRecord 2 at n (m .number)) (aRecord 1 at n 0)
+
+-- the records of the spans from a place to the stretch's end
+unfoldable pub recordsFrom : Profile → Matched → List ℕ → ℕ → List Record
+unfolding records spansAt matchIn
+recordsFrom P m t at = records (spansAt P (matchIn m) at (drop at t))
+
+-- the first of them and the reading behind it
+pub record Stepped (P : Profile) (t : List ℕ) (m : Matched) (at : ℕ) (r : NextSpan) : Type 0 where
+  pub same : recordsFrom P m t at ≡ r .span ∷ recordsFrom P m t (r .place .at)
+  pub fresh : Fresh t (r .place)
+  pub up : at < r .place .at
+  pub low : r .place .at ≤ length t
+
+-- a cluster that is no part of a text stands at the place, in a run that ends at `run`
+pub record Special (P : Profile) (t : List ℕ) (at run : ℕ) : Type 0 where
+  pub within : Within t at run
+  pub ends : run ≡ runAt t at
+  pub special : plainSize P (clustersAt P (drop at t)) ≡ 0
+
+abbrev pub SpecialStep : Profile → List ℕ → ℕ → ℕ → NextSpan → Type 0
+SpecialStep P t at run r = (m : Matched) → Stepped P t m at r

@@ -1,6 +1,7 @@
 // Layer 2, spans: the sequences at ESC, reading, and reading with matches.
 use text::BytePlace;
 
+pub mod reader;
 pub mod sequence;
 pub mod sgr;
 

@@ -35,7 +35,7 @@ unfoldable pub isPlain : Seen → Bool
 isPlain plain = true
 isPlain (special c k) = false
 
-unfoldable NoText : Seen → Type 0
+unfoldable pub NoText : Seen → Type 0
 NoText plain = Unit {0}
 NoText (special (text m t) k) = ⊥
 NoText (special (control b) k) = Unit {0}
@@ -55,7 +55,7 @@ unfolding NoText escapeSeen
 escape-noText (found e n) = tt
 escape-noText missing = tt
 
-escape-special : (f : Found) → isPlain (escapeSeen f) ≡ false
+pub escape-special : (f : Found) → isPlain (escapeSeen f) ≡ false
 unfolding isPlain escapeSeen
 escape-special (found e n) = refl
 escape-special missing = refl
@@ -71,7 +71,7 @@ cond-plain true x x′ y e = e
 cond-plain false x x′ y e = refl
 
 module _ (P : Profile) where
-  seen-noText : (g : List Scalar) (s : List ℕ) → NoText (seen P g s)
+  pub seen-noText : (g : List Scalar) (s : List ℕ) → NoText (seen P g s)
   unfolding seen NoText
   seen-noText g s =
       cond-noText (reads g (0x1B ∷ [])) _ _ (escape-noText (parse s))
