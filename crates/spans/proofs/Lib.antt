@@ -5,3 +5,4 @@ pub mod Sequences
 pub mod Clusters
 pub mod Printable
 pub mod Reading
+pub mod Searching

@@ -2,6 +2,7 @@
 use text::BytePlace;
 
 pub mod reader;
+pub mod search;
 pub mod sequence;
 pub mod sgr;
 
