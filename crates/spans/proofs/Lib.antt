@@ -6,3 +6,4 @@ pub mod Clusters
 pub mod Printable
 pub mod Reading
 pub mod Searching
+pub mod StretchLaws

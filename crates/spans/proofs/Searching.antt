@@ -211,7 +211,7 @@ module _ (s : List ℕ) (at sum : ℕ) (z : LengthLoop s at sum) where
       let k : lengthOf (escapesAt s at) ≡ 0 = rw (escapes-none s at h) in
       record { same = omega (arith, z .same); fits = omega (arith, z .few, z .inside) }
 
-trimmed-fits : (s : List ℕ) → trimmed s ≤ length s
+pub trimmed-fits : (s : List ℕ) → trimmed s ≤ length s
 unfolding trimmed
 trimmed-fits [] = omega arith
 trimmed-fits (a ∷ []) = cases (eqb a 0x0A) (λ e. rw e (omega arith)) (λ e. rw e (omega arith))

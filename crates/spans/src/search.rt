@@ -96,7 +96,7 @@ fn next_escape(s: &[u8], at: usize) -> Escape
 }
 
 // trim_trailing_newline
-fn trimmed_len(s: &[u8]) -> usize
+pub fn trimmed_len(s: &[u8]) -> usize
     ensures { λ r. ⌜ r ≡ trimmed (now (s .entry)) ⌝ }
 {
     let n = s.len();
@@ -174,7 +174,7 @@ pub fn in_order(matches: &[usize], most: usize) -> bool
 }
 
 // convert_offset's beginning.
-fn first_offsets(s: &[u8]) -> Offsets
+pub fn first_offsets(s: &[u8]) -> Offsets
     requires { ⌜ length (now s) ≤ 65536 ⌝ }
     ensures { λ r. ⌜ OffsetsFrom (now (s .entry)) 0 r ⌝ }
 {
@@ -187,7 +187,7 @@ fn first_offsets(s: &[u8]) -> Offsets
 }
 
 // convert_offset for an offset that is not before the last one.
-fn offset_at(s: &[u8], o: Offsets, x: usize) -> Offset
+pub fn offset_at(s: &[u8], o: Offsets, x: usize) -> Offset
     requires { ⌜ OffsetReady (now s) o x ⌝ }
     ensures { λ r. ⌜ OffsetAt (now (s .entry)) x r ⌝ }
 {
