@@ -3,3 +3,4 @@ pub mod Sequence
 pub mod Spans
 pub mod Search
 pub mod Calls
+pub mod Contracts

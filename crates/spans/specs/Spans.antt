@@ -14,6 +14,7 @@ use Rattle.spans.specs.declared.Span as declared
 pub mod Laws
 pub mod Noise
 pub mod ContentLaw
+pub mod Steps
 
 -- the source's Span: what a span holds; Text is `text none`, Match is `text (some k)`
 pub data Content : Type 0 where

@@ -1,32 +1,31 @@
-// Reading with matches: the text searched, and its offsets carried back to the line.
+// Reading with matches: src/search.rs, ESCAPE_SEQUENCE and trim_trailing_newline; src/line.rs, convert_offset.
+use super::sequence::byte_at;
 ghost use mathlib.Core.Path.{_≡_};
-ghost use Prim.Native.Nat.{_+_, _-_, _≤_, _<_};
-ghost use lib.ListN.{length};
-ghost use Rattle.spans.specs.Search.{sequenceByte, escapesFrom, lengthOf, trimmed, inOrder};
-ghost use Rattle.spans.specs.Search.Laws.{Inside, Advanced};
-ghost use Rattle.spans.specs.Search.Laws.{Skipped, Matched};
+ghost use Prim.Native.Nat.{_+_, _≤_, _<_};
+ghost use lib.ListN.{length, drop, take};
+ghost use Rattle.spans.specs.Search.{sequenceByte, trimmed, escapesFrom, lengthOf, searchedLength, inOrder};
+ghost use Rattle.spans.specs.Contracts.{Skipped, Matching, Small, EscapeAt, EscapesLength, pairInOrder, OffsetsFrom, OffsetReady, OffsetAt};
 
-// trim_trailing_newline: the length without the final LF or CR LF.
-pub fn trim_trailing_newline(s: &[u8]) -> usize
-    ensures { λ r. ⌜ r ≡ trimmed (now (s .entry)) ⌝ }
-{
-    let n = s.len();
-    if n == 0 {
-        return 0;
-    }
-    if s[n - 1] != b'\n' {
-        return n;
-    }
-    if n == 1 {
-        return 0;
-    }
-    if s[n - 2] == b'\r' {
-        return n - 2;
-    }
-    n - 1
+// A match of ESCAPE_SEQUENCE, or none.
+pub struct Escape {
+    pub from: usize,
+    pub upto: usize,
+    pub found: bool,
 }
 
-// One of ESCAPE_SEQUENCE's parameter characters.
+// convert_offset between two matches: original_offset, how much of the text searched lies before it, and the next ESCAPE_SEQUENCE match.
+pub struct Offsets {
+    pub origin: usize,
+    pub passed: usize,
+    pub next: Escape,
+}
+
+// An offset into the line, and the conversion behind it.
+pub struct Offset {
+    pub value: usize,
+    pub offsets: Offsets,
+}
+
 fn is_sequence_byte(b: u8) -> bool
     ensures { λ r. ⌜ r ≡ sequenceByte b ⌝ }
 {
@@ -37,9 +36,8 @@ fn is_sequence_byte(b: u8) -> bool
                     | (((0x3F <= b) & (b <= 0x3F)) | ((0x5B <= b) & (b <= 0x5B))))))
 }
 
-// The end of the run of parameter characters that begins at a place.
-fn sequence_run(s: &[u8], at: usize) -> usize
-    requires { ⌜ at ≤ length (now s) ⌝ }
+// Past the bytes that ESCAPE_SEQUENCE takes between `ESC [` and `m`.
+fn skip_sequence(s: &[u8], at: usize) -> usize
     ensures { λ r. ⌜ Skipped sequenceByte (now (s .entry)) at r ⌝ }
 {
     let mut i = at;
@@ -53,94 +51,165 @@ fn sequence_run(s: &[u8], at: usize) -> usize
     i
 }
 
-// The length of the ESCAPE_SEQUENCE match at a place; 0 where there is none.
+// The length of the ESCAPE_SEQUENCE match at a place, or 0.
 fn escape_match(s: &[u8], at: usize) -> usize
-    requires { ⌜ at < length (now s) ⌝ }
-    ensures { λ r. ⌜ Matched (now (s .entry)) at r ⌝ }
+    requires { ⌜ Small (now s) at ⌝ }
+    ensures { λ r. ⌜ Matching (now (s .entry)) at r ⌝ }
 {
-    if s[at] != 0x1B {
+    if byte_at(s, at) != 0x1B {
         return 0;
     }
-    if s.len() - at < 3 {
+    if byte_at(s, at + 1) != b'[' {
         return 0;
     }
-    if s[at + 1] != b'[' {
-        return 0;
+    let e = skip_sequence(s, at + 2);
+    let n = e - (at + 2);
+    let f = byte_at(s, e);
+    if (n <= 32) & (f == b'm') {
+        return 3 + n;
     }
-    let end = sequence_run(s, at + 2);
-    if s.len() <= end {
-        return 0;
-    }
-    if s[end] != b'm' {
-        return 0;
-    }
-    if at + 34 < end {
-        return 0;
-    }
-    end - at + 1
+    0
 }
 
-// The length of the text searched: the line s, without its final newline, without each ESCAPE_SEQUENCE match.
-pub fn searched_length(s: &[u8]) -> usize
-    ensures { λ r. ⌜ r ≡ length (now (s .entry)) - lengthOf (escapesFrom 0 0 (now (s .entry))) ⌝ }
-{
-    let mut i = 0;
-    let mut count = 0;
-    while i < s.len() {
-        let k = escape_match(s, i);
-        if k == 0 {
-            i += 1;
-        } else {
-            i += k;
-            count += k;
-        }
-    }
-    i - count
-}
-
-// convert_offset, from a place whose offset is known: the place of the offset that lies `by` behind it.
-pub fn convert_offset(s: &[u8], at: usize, by: usize) -> usize
-    requires { ⌜ Inside (now s) at by ⌝ }
-    ensures { λ r. ⌜ Advanced (now (s .entry)) at by r ⌝ }
+// The first ESCAPE_SEQUENCE match from a place on.
+fn next_escape(s: &[u8], at: usize) -> Escape
+    requires { ⌜ length (now s) ≤ 65536 ⌝ }
+    ensures { λ r. ⌜ EscapeAt (now (s .entry)) at r ⌝ }
 {
     let mut i = at;
-    let mut rest = by;
     while i < s.len() {
-        let k = escape_match(s, i);
-        if k != 0 {
-            i += k;
-        } else {
-            if rest == 0 {
-                return i;
-            }
-            i += 1;
-            rest -= 1;
+        let n = escape_match(s, i);
+        if n != 0 {
+            return Escape {
+                from: i,
+                upto: i + n,
+                found: true,
+            };
         }
+        i += 1;
     }
-    i
+    Escape {
+        from: i,
+        upto: i,
+        found: false,
+    }
 }
 
-// Question 3: whole pairs in order, inside a text of `most` bytes.
+// trim_trailing_newline
+pub fn trimmed_len(s: &[u8]) -> usize
+    ensures { λ r. ⌜ r ≡ trimmed (now (s .entry)) ⌝ }
+{
+    let n = s.len();
+    if n == 0 {
+        return 0;
+    }
+    if s[n - 1] != 0x0A {
+        return n;
+    }
+    if n == 1 {
+        return 0;
+    }
+    if s[n - 2] != 0x0D {
+        return n - 1;
+    }
+    n - 2
+}
+
+// The bytes of all ESCAPE_SEQUENCE matches.
+fn escapes_len(s: &[u8]) -> usize
+    requires { ⌜ length (now s) ≤ 65536 ⌝ }
+    ensures { λ r. ⌜ EscapesLength (now (s .entry)) r ⌝ }
+{
+    let mut at = 0;
+    let mut sum: usize = 0;
+    while at < s.len() {
+        let e = next_escape(s, at);
+        let found = e.found;
+        if found {
+            sum += e.upto - e.from;
+            at = e.upto;
+        } else {
+            return sum;
+        }
+    }
+    sum
+}
+
+// The length of the text searched.
+pub fn searched_len(line: &[u8]) -> usize
+    requires { ⌜ length (now line) ≤ 65536 ⌝ }
+    ensures { λ r. ⌜ r ≡ searchedLength (now (line .entry)) ⌝ }
+{
+    let n = trimmed_len(line);
+    n - escapes_len(&line[..n])
+}
+
+// A match from a to b, behind one that ends at e, in a text of `most` bytes.
+fn pair_in_order(e: usize, a: usize, b: usize, most: usize) -> bool
+    ensures { λ r. ⌜ r ≡ pairInOrder e a b most ⌝ }
+{
+    (e <= a) & ((a <= b) & (b <= most))
+}
+
+// Question 3: whole pairs, each start at most its end and at least the end before, all inside the text searched.
 pub fn in_order(matches: &[usize], most: usize) -> bool
     ensures { λ r. ⌜ r ≡ inOrder most 0 (now (matches .entry)) ⌝ }
 {
     let mut i = 0;
-    let mut end = 0;
+    let mut e = 0;
     while i < matches.len() {
         if matches.len() - i == 1 {
             return false;
         }
-        if matches[i] < end {
+        let a = matches[i];
+        let b = matches[i + 1];
+        if pair_in_order(e, a, b, most) {
+            e = b;
+            i += 2;
+        } else {
             return false;
         }
-        if matches[i + 1] < matches[i] {
-            return false;
-        }
-        if most < matches[i + 1] {
-            return false;
-        }
-        end = matches[i + 1];
-        i += 2;
     }
     true
+}
+
+// convert_offset's beginning.
+pub fn first_offsets(s: &[u8]) -> Offsets
+    requires { ⌜ length (now s) ≤ 65536 ⌝ }
+    ensures { λ r. ⌜ OffsetsFrom (now (s .entry)) 0 r ⌝ }
+{
+    let next = next_escape(s, 0);
+    Offsets {
+        origin: 0,
+        passed: 0,
+        next: next,
+    }
+}
+
+// convert_offset for an offset that is not before the last one.
+pub fn offset_at(s: &[u8], o: Offsets, x: usize) -> Offset
+    requires { ⌜ OffsetReady (now s) o x ⌝ }
+    ensures { λ r. ⌜ OffsetAt (now (s .entry)) x r ⌝ }
+{
+    let mut c = o;
+    let mut next = o.next;
+    while next.found {
+        if c.origin + (x - c.passed) < next.from {
+            return Offset {
+                value: c.origin + (x - c.passed),
+                offsets: c,
+            };
+        }
+        let after = next_escape(s, next.upto);
+        c = Offsets {
+            origin: next.upto,
+            passed: c.passed + (next.from - c.origin),
+            next: after,
+        };
+        next = after;
+    }
+    Offset {
+        value: c.origin + (x - c.passed),
+        offsets: c,
+    }
 }

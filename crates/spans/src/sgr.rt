@@ -1,4 +1,7 @@
-// What style orders say.
+// Style orders: the parameters behind `ESC [`, and what the known ones say (ECMA-48, SGR, as document 01 cuts it).
+ghost use mathlib.Core.Path.{_≡_};
+ghost use Rattle.spans.specs.Sgr.{digit, known, saidBy, coloured, stepOf};
+ghost use Rattle.spans.specs.Contracts.{more, targetOf, unpacked, Scanned, ParameterAt, ordersAt, ordersOf};
 
 pub enum Color {
     Default,
@@ -44,4 +47,361 @@ pub enum Step {
     Order(Sgr),
     Hold(Wait),
     Stop,
+}
+
+// The length of a run of parameters, and whether there are at most 32, each at most 65,535.
+pub struct Scan {
+    pub len: usize,
+    pub fine: bool,
+}
+
+// A parameter, where the next one begins, and whether there is one.
+pub struct Parameter {
+    pub value: usize,
+    pub next: usize,
+    pub further: bool,
+}
+
+// Where a reading of orders stands: the next parameter's place, and whether there is one.
+pub struct Orders {
+    pub at: usize,
+    pub further: bool,
+}
+
+// The next order and where the reading stands after it, or none.
+pub enum NextOrder {
+    Order(Sgr, Orders),
+    End,
+}
+
+fn is_digit(b: u8) -> bool
+    ensures { λ r. ⌜ r ≡ digit b ⌝ }
+{
+    (0x30 <= b) & (b <= 0x39)
+}
+
+// The number v with one digit more; past 65,535 it stays as it is.
+fn with_digit(v: usize, b: u8) -> usize
+    ensures { λ r. ⌜ r ≡ more v b ⌝ }
+{
+    if v <= 65535 {
+        return v * 10 + (b % 16) as usize;
+    }
+    v
+}
+
+// The parameters that the bytes begin with.
+pub fn scan_parameters(s: &[u8]) -> Scan
+    ensures { λ r. ⌜ Scanned (now (s .entry)) r ⌝ }
+{
+    let mut i = 0;
+    let mut count: usize = 0;
+    let mut fine = true;
+    let mut v: usize = 0;
+    'params: loop {
+        'digits: loop {
+            if s.len() <= i {
+                break 'params;
+            }
+            let b = s[i];
+            if is_digit(b) {
+                v = with_digit(v, b);
+                i += 1;
+            } else {
+                break 'digits;
+            }
+        }
+        if s[i] != b';' {
+            break 'params;
+        }
+        fine = fine & (v <= 65535);
+        count += 1;
+        v = 0;
+        i += 1;
+    }
+    Scan {
+        len: i,
+        fine: fine & (v <= 65535) & (count < 32),
+    }
+}
+
+// The parameter at a place.
+fn parameter_at(s: &[u8], at: usize) -> Parameter
+    ensures { λ r. ⌜ ParameterAt (now (s .entry)) at r ⌝ }
+{
+    let mut i = at;
+    let mut v: usize = 0;
+    while i < s.len() {
+        let b = s[i];
+        if is_digit(b) {
+            v = with_digit(v, b);
+            i += 1;
+        } else {
+            if b == b';' {
+                return Parameter {
+                    value: v,
+                    next: i + 1,
+                    further: true,
+                };
+            }
+            return Parameter {
+                value: v,
+                next: i,
+                further: false,
+            };
+        }
+    }
+    Parameter {
+        value: v,
+        next: i,
+        further: false,
+    }
+}
+
+// What each parameter below 108 says: the kind in the upper half, a value in the lower; 0 where it is unknown.
+const TABLE: [u8; 108] = [
+    16,
+    33,
+    34,
+    81,
+    49,
+    65,
+    66,
+    97,
+    113,
+    129,
+    0,
+    0,
+    0,
+    0,
+    0,
+    0,
+    0,
+    0,
+    0,
+    0,
+    0,
+    50,
+    32,
+    80,
+    48,
+    64,
+    0,
+    96,
+    112,
+    128,
+    160,
+    161,
+    162,
+    163,
+    164,
+    165,
+    166,
+    167,
+    208,
+    192,
+    176,
+    177,
+    178,
+    179,
+    180,
+    181,
+    182,
+    183,
+    209,
+    193,
+    0,
+    0,
+    0,
+    145,
+    0,
+    144,
+    0,
+    0,
+    210,
+    194,
+    0,
+    0,
+    0,
+    0,
+    0,
+    0,
+    0,
+    0,
+    0,
+    0,
+    0,
+    0,
+    0,
+    0,
+    0,
+    0,
+    0,
+    0,
+    0,
+    0,
+    0,
+    0,
+    0,
+    0,
+    0,
+    0,
+    0,
+    0,
+    0,
+    0,
+    168,
+    169,
+    170,
+    171,
+    172,
+    173,
+    174,
+    175,
+    0,
+    0,
+    184,
+    185,
+    186,
+    187,
+    188,
+    189,
+    190,
+    191,
+];
+
+fn coloured(t: Target, c: Color) -> Sgr
+    ensures { λ r. ⌜ r ≡ coloured t c ⌝ }
+{
+    match t {
+        Target::Foreground => Sgr::Foreground(c),
+        Target::Background => Sgr::Background(c),
+        Target::Underline => Sgr::UnderlineColor(c),
+    }
+}
+
+// An entry of the table.
+fn unpacked(e: u8) -> Step
+    ensures { λ r. ⌜ r ≡ unpacked e ⌝ }
+{
+    let kind = e / 16;
+    let x = e % 16;
+    match kind {
+        1 => Step::Order(Sgr::Reset),
+        2 => Step::Order(Sgr::Intensity(x)),
+        3 => Step::Order(Sgr::Underline(x)),
+        4 => Step::Order(Sgr::Blink(x)),
+        5 => Step::Order(Sgr::Italic(x == 1)),
+        6 => Step::Order(Sgr::Inverse(x == 1)),
+        7 => Step::Order(Sgr::Invisible(x == 1)),
+        8 => Step::Order(Sgr::StrikeThrough(x == 1)),
+        9 => Step::Order(Sgr::Overline(x == 1)),
+        10 => Step::Order(Sgr::Foreground(Color::Palette(x))),
+        11 => Step::Order(Sgr::Background(Color::Palette(x))),
+        12 => Step::Order(coloured(target_of(x), Color::Default)),
+        13 => Step::Hold(Wait::WantKind(target_of(x))),
+        _ => Step::Stop,
+    }
+}
+
+fn target_of(x: u8) -> Target
+    ensures { λ r. ⌜ r ≡ targetOf x ⌝ }
+{
+    if x == 0 {
+        return Target::Foreground;
+    }
+    if x == 1 {
+        return Target::Background;
+    }
+    Target::Underline
+}
+
+// What a parameter says that is in no group.
+fn said_by(p: usize) -> Step
+    ensures { λ r. ⌜ r ≡ saidBy known p ⌝ }
+{
+    if p < 108 {
+        return unpacked(TABLE[p]);
+    }
+    Step::Stop
+}
+
+// What a parameter says after those before it.
+fn step_of(w: Wait, p: usize) -> Step
+    ensures { λ r. ⌜ r ≡ stepOf w p ⌝ }
+{
+    match w {
+        Wait::Ready => said_by(p),
+        Wait::WantKind(t) => {
+            if p == 5 {
+                return Step::Hold(Wait::WantIndex(t));
+            }
+            if p == 2 {
+                Step::Hold(Wait::WantRed(t))
+            } else {
+                Step::Stop
+            }
+        }
+        Wait::WantIndex(t) => {
+            if p <= 255 {
+                Step::Order(coloured(t, Color::Palette(p as u8)))
+            } else {
+                Step::Stop
+            }
+        }
+        Wait::WantRed(t) => {
+            if p <= 255 {
+                Step::Hold(Wait::WantGreen(t, p as u8))
+            } else {
+                Step::Stop
+            }
+        }
+        Wait::WantGreen(t, r) => {
+            if p <= 255 {
+                Step::Hold(Wait::WantBlue(t, r, p as u8))
+            } else {
+                Step::Stop
+            }
+        }
+        Wait::WantBlue(t, r, g) => {
+            if p <= 255 {
+                Step::Order(coloured(t, Color::Rgb(r, g, p as u8)))
+            } else {
+                Step::Stop
+            }
+        }
+    }
+}
+
+// The next order; none behind the last parameter or at the first unknown one.
+pub fn next_order(s: &[u8], c: Orders) -> NextOrder
+    ensures { λ r. ⌜ ordersOf (now (s .entry)) r ≡ ordersAt (now (s .entry)) c ⌝ }
+{
+    let mut at = c.at;
+    let mut further = c.further;
+    let mut wait = Wait::Ready;
+    while further {
+        let p = parameter_at(s, at);
+        let step = step_of(wait, p.value);
+        at = p.next;
+        further = p.further;
+        match step {
+            Step::Order(o) => {
+                return NextOrder::Order(
+                    o,
+                    Orders {
+                        at: at,
+                        further: further,
+                    },
+                );
+            }
+            Step::Hold(w) => {
+                wait = w;
+            }
+            Step::Stop => {
+                return NextOrder::End;
+            }
+        }
+    }
+    NextOrder::End
 }

@@ -7,6 +7,7 @@ use lib.Dec.{leb, eqb}
 pub mod Laws
 pub mod Noise
 pub mod Valid
+pub mod Runs
 
 -- ---- the table of well-formed sequences
 

@@ -8,9 +8,10 @@ use mathlib.Core.Bool.{Bool, true, false, not, cond, _&&_, _||_}
 use mathlib.Core.List.{List, [], _∷_, _++_}
 use lib.ListN.{length, drop, getD, length-append, length-drop, List·getD-append, List·getD-eq-default}
 use lib.Seq.{drop-append-le, getD-drop}
-use lib.Dec.{T, eqb, leb, ltb, ltb→lt, nltb→le}
-use Rattle.text.specs.Tests.{cases, true-T}
+use lib.Dec.{T, eqb, leb, ltb, eqb→eq, ltb→lt, nltb→le}
+use Rattle.text.specs.Tests.{cases, and-T, true-T}
 use Rattle.spans.specs.Sgr.{digit, parameters, allowed, orders}
+use Rattle.spans.specs.declared.sgr.Sgr.{Sgr}
 use Rattle.spans.specs.Sequence.{Sequence, Found, found, missing, leading, past, parameterByte, ifKnown, erase, final, csi, charset, uriByte, idByte, closed, osc, parse}
 
 -- ---- runs of bytes that pass a test
@@ -127,3 +128,79 @@ parse-stable (a ∷ s) t q n e =
     (λ g. cases (eqb a 0x5D)
     (λ h. rw (f, g, h) (osc-stable s t q n (rw (f, g, h) at e)))
     (λ h. absurd-missing missing q n refl (rw (f, g, h) at e))))
+
+-- ---- a sequence lies inside the bytes
+
+unfoldable Short : ℕ → Found → Type 0
+Short m (found q n) = n ≤ m
+Short m missing = Unit {0}
+
+cond-short : (m : ℕ) (b : Bool) (x y : Found) → (b ≡ true → Short m x) → (b ≡ false → Short m y) → Short m (cond b x y)
+cond-short m true x y f g = f refl
+cond-short m false x y f g = g refl
+
+-- a byte that is not 0 stands inside
+byte-inside : (s : List ℕ) (i v : ℕ) → T (eqb (getD s i 0) (suc v)) → i < length s
+byte-inside s i v e =
+    cases (ltb i (length s))
+    (λ l. ltb→lt _ _ (true-T l))
+    (λ l. absurd (let z : getD s i 0 ≡ 0 = List·getD-eq-default s 0 (nltb→le _ _ (rw l tt)) in omega (arith, eqb→eq (getD s i 0) (suc v) e)))
+
+known-short : (m : ℕ) (os : List Sgr) (n : ℕ) → 3 + n ≤ m → Short m (ifKnown os n)
+unfolding Short ifKnown
+known-short m [] n h = tt
+known-short m (o ∷ os) n h = h
+
+csi-short-by : (s : List ℕ) → leading parameterByte s < length s → Short (2 + length s) (csi s)
+unfolding csi erase Short
+csi-short-by s h =
+    let n : ℕ = leading parameterByte s in
+    let ps : List ℕ = parameters 0 s in
+    let k : 3 + leading parameterByte s ≤ 2 + length s = omega arith in
+    cond-short (2 + length s) (eqb (getD s n 0) 0x6D) _ _
+    (λ e. cond-short (2 + length s) (allowed ps) _ _ (λ f. known-short (2 + length s) (orders ps) n k) (λ f. tt))
+    (λ e. cond-short (2 + length s) (eqb (getD s n 0) 0x4B) _ _
+    (λ f. cond-short (2 + length s) (eqb n 0 || (eqb n 1 && eqb (getD s 0 0) 0x30)) _ _ (λ g. k)
+    (λ g. cond-short (2 + length s) (eqb n 1 && (eqb (getD s 0 0) 0x31 || eqb (getD s 0 0) 0x32)) _ _ (λ j. k) (λ j. tt)))
+    (λ f. cond-short (2 + length s) (final (getD s n 0)) _ _ (λ g. k) (λ g. tt)))
+
+csi-inside : (s : List ℕ) → Short (2 + length s) (csi s)
+unfolding Short
+csi-inside s =
+    cases (ltb (leading parameterByte s) (length s))
+    (λ l. csi-short-by s (ltb→lt _ _ (true-T l)))
+    (λ l. rw (csi-short s (nltb→le _ _ (rw l tt))) tt)
+
+charset-inside : (s : List ℕ) → Short (2 + length s) (charset s)
+unfolding charset Short
+charset-inside s =
+    cond-short (2 + length s) (eqb (getD s 0 0) 0x30) _ _
+    (λ e. omega (arith, byte-inside s 0 0x2F (true-T e)))
+    (λ e. cond-short (2 + length s) (eqb (getD s 0 0) 0x42) _ _ (λ f. omega (arith, byte-inside s 0 0x41 (true-T f))) (λ f. tt))
+
+osc-inside : (s : List ℕ) → Short (2 + length s) (osc s)
+unfolding osc closed Short
+osc-inside s =
+    let i : ℕ = past idByte s 2 in
+    let e : ℕ = past uriByte s (i + 1) in
+    cond-short (2 + length s) (eqb (getD s 0 0) 0x38 && (eqb (getD s 1 0) 0x3B && eqb (getD s i 0) 0x3B)) _ _
+    (λ f. cond-short (2 + length s) (eqb (getD s e 0) 0x07) _ _
+    (λ g. omega (arith, byte-inside s e 0x06 (true-T g)))
+    (λ g. cond-short (2 + length s) (eqb (getD s e 0) 0x1B && eqb (getD s (e + 1) 0) 0x5C) _ _
+    (λ h. omega (arith, byte-inside s (e + 1) 0x5B (and-T (eqb (getD s e 0) 0x1B) (eqb (getD s (e + 1) 0) 0x5C) (true-T h) .1)))
+    (λ h. tt)))
+    (λ f. tt)
+
+parse-inside : (s : List ℕ) → Short (1 + length s) (parse s)
+unfolding parse Short
+parse-inside [] = tt
+parse-inside (a ∷ s) =
+    let k : 2 + length s ≡ 1 + length (a ∷ s) = omega arith in
+    cond-short (1 + length (a ∷ s)) (eqb a 0x5B) _ _ (λ e. rw k at (csi-inside s))
+    (λ e. cond-short (1 + length (a ∷ s)) (eqb a 0x28) _ _ (λ f. rw k at (charset-inside s))
+    (λ f. cond-short (1 + length (a ∷ s)) (eqb a 0x5D) _ _ (λ g. rw k at (osc-inside s)) (λ g. tt)))
+
+-- a sequence and its ESC
+pub parse-length : (s : List ℕ) (q : Sequence) (n : ℕ) → parse s ≡ found q n → n ≤ 1 + length s
+unfolding Short
+parse-length s q n e = rw e at (parse-inside s)

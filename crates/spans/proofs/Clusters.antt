@@ -1,0 +1,128 @@
+-- What a cluster is, by its bytes.
+use mathlib.Core.Path.{_≡_, refl, sym, ap, _∙_}
+use Prim.Native.Nat.{ℕ, zero, suc, _+_, _-_, _≤_, _<_}
+use native.Mathlib.Omega.{arith}
+use mathlib.Core.Bool.{Bool, true, false, not, cond, _&&_, _||_, and-true, and-false}
+use mathlib.Core.List.{List, [], _∷_, _++_}
+use lib.ListN.{length, take, drop, getD}
+use lib.Seq.{getD-take}
+use lib.Dec.{T, eqb, leb, eqb→eq}
+use borrow.Author.Tests.{eq-eqb, ne-eqb, le-leb, lt-leb, eqb-true}
+use Rattle.text.specs.Tests.{cases, true-T}
+use Rattle.text.specs.Utf8.{Scalar, decode, runOf, bytesOf, sameBytes, reads}
+use Rattle.text.specs.Class.{Profile}
+use Rattle.text.specs.Width.{widthOf}
+use Rattle.text.specs.Cluster.{clusters}
+use Rattle.text.specs.Cluster.Walk.{cluster-bytes, cluster-some}
+use Rattle.spans.specs.Sequence.{Sequence, sgr, eraseToEnd, ignored, hyperlink, lineDrawing, Found, found, missing, parse}
+use Rattle.spans.specs.Spans.{Content, text, control, invalid, unprintable, escape, tab, crlf, lf, Seen, plain, special, escapeSeen, controlSeen, seen, kindOf, matchOf}
+use Rattle.spans.specs.Spans.Steps.{isPlain, escape-special, plainCluster, plain-same}
+use Rattle.spans.specs.Contracts.{plainBytes, aLook, told, escapeLook, lookBytes}
+use Rattle.spans.specs.declared.reader.Look.{Look}
+
+no-one : (n : ℕ) → eqb (suc (suc n)) 1 ≡ false
+no-one n = ne-eqb (suc (suc n)) 1 (λ e. omega arith)
+
+no-two : (n : ℕ) → eqb (suc (suc (suc n))) 2 ≡ false
+no-two n = ne-eqb (suc (suc (suc n))) 2 (λ e. omega arith)
+
+-- a cluster that no earlier rule took
+lastSeen : List Scalar → ℕ → ℕ → Seen
+lastSeen g n w = cond (eqb w 0) (special (unprintable g) n) plain
+
+-- what a cluster of n bytes is, the first of them a and y, that is w columns wide, with f at an ESC
+seenOf : List Scalar → ℕ → ℕ → ℕ → ℕ → Found → Seen
+seenOf g n a y w f =
+    cond (eqb n 1)
+    (cond (eqb a 0x1B) (escapeSeen f) (cond (eqb a 0x0A) (special lf 1) (cond (eqb a 0x09) (special tab 1) (cond (leb a 0x1F || eqb a 0x7F) (special (control a) 1) (lastSeen g n w)))))
+    (cond (eqb n 2 && (eqb a 0x0D && eqb y 0x0A)) (special crlf 2) (lastSeen g n w))
+
+module _ (P : Profile) (g : List Scalar) (y : ℕ) (s : List ℕ) where
+  seen-by : (b : List ℕ) → bytesOf g ≡ b → (1 < length b → y ≡ getD b 1 0) → seen P g s ≡ seenOf g (length b) (getD b 0 0) y (widthOf P g) (parse s)
+  unfolding seen reads sameBytes controlSeen seenOf lastSeen
+  seen-by [] e f = rw e
+  seen-by (x ∷ []) e f = rw e (simp (and-true, and-false))
+  seen-by (x ∷ z ∷ []) e f = let q : y ≡ z = f (omega arith) in rw (e, q) (simp (and-true, and-false))
+  seen-by (x ∷ z ∷ w ∷ b) e f = rw e (simp (and-false, no-one, no-two))
+
+-- ---- plain
+
+last-plain : (g : List Scalar) (n w : ℕ) → isPlain (lastSeen g n w) ≡ not (eqb w 0)
+unfolding isPlain lastSeen
+last-plain g n w = cases (eqb w 0) (λ e. rw e) (λ e. rw e)
+
+seen-plain : (g : List Scalar) (n a y w : ℕ) (f : Found) → isPlain (seenOf g n a y w f) ≡ plainBytes n a y w
+unfolding seenOf plainBytes isPlain
+seen-plain g n a y w f =
+    cases (eqb n 1)
+    (λ p. let q : eqb n 2 ≡ false = ne-eqb n 2 (λ e. omega (arith, eqb-true n 1 p)) in
+    cases (eqb a 0x1B)
+    (λ x. rw (p, x, le-leb a 0x1F (omega (arith, eqb-true a 0x1B x))) (escape-special f))
+    (λ x. cases (eqb a 0x0A)
+    (λ z. rw (p, x, z, le-leb a 0x1F (omega (arith, eqb-true a 0x0A z))))
+    (λ z. cases (eqb a 0x09)
+    (λ u. rw (p, x, z, u, le-leb a 0x1F (omega (arith, eqb-true a 0x09 u))))
+    (λ u. cases (leb a 0x1F || eqb a 0x7F)
+    (λ v. rw (p, x, z, u, v))
+    (λ v. rw (p, x, z, u, v, q) (last-plain g n w))))))
+    (λ p. cases (eqb n 2 && (eqb a 0x0D && eqb y 0x0A))
+    (λ x. rw (p, x))
+    (λ x. rw (p, x) (last-plain g n w)))
+
+-- ---- the span
+
+unfoldable pub lookOf : Seen → Look
+lookOf plain = aLook 0 0
+lookOf (special c k) = aLook (kindOf c) k
+
+last-look : (g : List Scalar) (n w : ℕ) → isPlain (lastSeen g n w) ≡ false → lookOf (lastSeen g n w) ≡ aLook 5 n
+unfolding isPlain lastSeen lookOf kindOf
+last-look g n w = cases (eqb w 0) (λ e. rw e (λ f. refl)) (λ e. rw e (λ f. absurd (let z : _≡_ {A = ℕ} 0 1 = cc in omega arith)))
+
+escape-look : (f : Found) → lookOf (escapeSeen f) ≡ escapeLook (told f)
+unfolding lookOf escapeSeen escapeLook told kindOf
+escape-look (found (sgr os) n) = refl
+escape-look (found eraseToEnd n) = refl
+escape-look (found ignored n) = refl
+escape-look (found (hyperlink a k) n) = refl
+escape-look (found (lineDrawing b) n) = refl
+escape-look missing = refl
+
+seen-look : (g : List Scalar) (n a y w : ℕ) (f : Found) → isPlain (seenOf g n a y w f) ≡ false → lookOf (seenOf g n a y w f) ≡ lookBytes n a y f
+unfolding seenOf lookBytes lookOf kindOf
+seen-look g n a y w f =
+    cases (eqb n 1)
+    (λ p.
+    cases (eqb a 0x1B)
+    (λ x. rw (p, x) (λ h. escape-look f))
+    (λ x. cases (eqb a 0x0A)
+    (λ z. rw (p, x, z) (λ h. refl))
+    (λ z. cases (eqb a 0x09)
+    (λ u. rw (p, x, z, u) (λ h. refl))
+    (λ u. cases (leb a 0x1F || eqb a 0x7F)
+    (λ v. rw (p, x, z, u, v) (λ h. refl))
+    (λ v. rw (p, x, z, u, v) (λ h. last-look g n w h ∙ ap (aLook 5) (eqb-true n 1 p)))))))
+    (λ p. cases (eqb n 2 && (eqb a 0x0D && eqb y 0x0A))
+    (λ x. rw (p, x) (λ h. refl))
+    (λ x. rw (p, x) (λ h. last-look g n w h)))
+
+-- ---- the first cluster of a line
+
+module _ (P : Profile) (s : List ℕ) (g : List Scalar) (gs : List (List Scalar)) (e : clusters P (runOf (decode s)) ≡ g ∷ gs) where
+  second : 1 < length (bytesOf g) → getD s 1 0 ≡ getD (bytesOf g) 1 0
+  second h = sym (ap (λ (l : List ℕ). getD l 1 0) (sym (cluster-bytes P s g gs e)) ∙ getD-take (length (bytesOf g)) s 1 0 h)
+
+  a-first : getD (bytesOf g) 0 0 ≡ getD s 0 0
+  a-first = ap (λ (l : List ℕ). getD l 0 0) (sym (cluster-bytes P s g gs e)) ∙ getD-take (length (bytesOf g)) s 0 0 (cluster-some P s g gs e)
+
+  by-seen : (t : List ℕ) → seen P g t ≡ seenOf g (length (bytesOf g)) (getD s 0 0) (getD s 1 0) (widthOf P g) (parse t)
+  by-seen t = rw (← a-first) (seen-by P g (getD s 1 0) t (bytesOf g) refl second)
+
+  pub plain-bytes : plainCluster P g ≡ plainBytes (length (bytesOf g)) (getD s 0 0) (getD s 1 0) (widthOf P g)
+  unfolding plainCluster
+  plain-bytes = ap isPlain (by-seen []) ∙ seen-plain g (length (bytesOf g)) (getD s 0 0) (getD s 1 0) (widthOf P g) (parse [])
+
+  pub look-bytes : (t : List ℕ) → plainCluster P g ≡ false → lookOf (seen P g t) ≡ lookBytes (length (bytesOf g)) (getD s 0 0) (getD s 1 0) (parse t)
+  look-bytes t h =
+      ap lookOf (by-seen t)
+      ∙ seen-look g (length (bytesOf g)) (getD s 0 0) (getD s 1 0) (widthOf P g) (parse t) (ap isPlain (sym (by-seen t)) ∙ plain-same P g t ∙ h)

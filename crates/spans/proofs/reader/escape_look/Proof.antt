@@ -1,0 +1,64 @@
+use Rattle.spans.proofs.Reading.{on-sequence}
+use Rattle.spans.specs.Contracts.{escapeLook}
+use borrow.Author.Needs.{needs}
+use Rattle.spans.proofs.reader.escape_look.Statement.{statement}
+use Rattle.spans.proofs.reader.escape_look.Tie as tie
+
+enum-told : tie.Need-enum-told
+enum-told c = search needs
+
+enum-known-q : tie.Need-enum-known-q
+enum-known-q c = search needs
+
+enum-known-q-2 : tie.Need-enum-known-q-2
+enum-known-q-2 c = search needs
+
+enum-known-q-3 : tie.Need-enum-known-q-3
+enum-known-q-3 c = search needs
+
+enum-known-q-4 : tie.Need-enum-known-q-4
+enum-known-q-4 c = search needs
+
+enum-known-q-5 : tie.Need-enum-known-q-5
+enum-known-q-5 c = search needs
+
+returns : tie.Need-returns
+unfolding escapeLook
+returns c = search on-sequence
+
+returns-2 : tie.Need-returns-2
+unfolding escapeLook
+returns-2 c = search on-sequence
+
+returns-3 : tie.Need-returns-3
+unfolding escapeLook
+returns-3 c = search on-sequence
+
+returns-4 : tie.Need-returns-4
+unfolding escapeLook
+returns-4 c = search on-sequence
+
+returns-5 : tie.Need-returns-5
+unfolding escapeLook
+returns-5 c = search on-sequence
+
+returns-6 : tie.Need-returns-6
+unfolding escapeLook
+returns-6 c = search on-sequence
+
+pub escape-look-spec : {M : Type 1} → statement M
+escape-look-spec =
+    tie.close
+    (tie.spec
+    enum-told
+    enum-known-q
+    enum-known-q-2
+    enum-known-q-3
+    enum-known-q-4
+    enum-known-q-5
+    returns
+    returns-2
+    returns-3
+    returns-4
+    returns-5
+    returns-6)

@@ -1,0 +1,53 @@
+use Rattle.spans.proofs.Reading.{printable-end, plain-part, plain-taken, plain-left}
+use borrow.Author.Needs.{needs}
+use Rattle.spans.proofs.reader.plain_end.Statement.{statement}
+use Rattle.spans.proofs.reader.plain_end.Tie as tie
+
+byte-at-requires : tie.Need-byte-at-requires
+byte-at-requires c κs = search needs
+
+add-byte-at : tie.Need-add-byte-at
+add-byte-at c = search needs
+
+byte-at-requires-2 : tie.Need-byte-at-requires-2
+byte-at-requires-2 c κs = search needs
+
+is-printable-requires : tie.Need-is-printable-requires
+is-printable-requires c κs = search needs
+
+is-printable-requires-2 : tie.Need-is-printable-requires-2
+is-printable-requires-2 c κs = search needs
+
+add-result : tie.Need-add-result
+add-result c = search needs
+
+returns : tie.Need-returns
+returns c = search printable-end
+
+first-end-requires : tie.Need-first-end-requires
+first-end-requires c κs = search needs
+
+is-plain-requires : tie.Need-is-plain-requires
+is-plain-requires c κs = search plain-part
+
+returns-2 : tie.Need-returns-2
+returns-2 c = search plain-taken
+
+returns-3 : tie.Need-returns-3
+returns-3 c = search plain-left
+
+pub plain-end-spec : {M : Type 1} → statement M
+plain-end-spec =
+    tie.close
+    (tie.spec
+    byte-at-requires
+    add-byte-at
+    byte-at-requires-2
+    is-printable-requires
+    is-printable-requires-2
+    add-result
+    returns
+    first-end-requires
+    is-plain-requires
+    returns-2
+    returns-3)

@@ -1,0 +1,234 @@
+// parse_spans: the spans of a stretch of a line, one after the other. A stretch ends where the slice ends.
+use super::Span;
+use super::sequence::Sequence;
+use super::sequence::byte_at;
+use super::sequence::sequence_at;
+use text::BytePlace;
+use text::class::Profile;
+use text::cluster::first_end;
+use text::utf8::run_end;
+use text::width::text_width;
+ghost use mathlib.Core.Path.{_≡_};
+ghost use Prim.Native.Nat.{_+_, _-_, _≤_, _<_};
+ghost use lib.ListN.{length, getD, drop};
+ghost use lib.Seq.{slice};
+ghost use Rattle.text.specs.Utf8.{decode, runOf};
+ghost use Rattle.text.specs.Width.{widthOf};
+ghost use Rattle.text.specs.Code.{profileOf};
+ghost use Rattle.spans.specs.Sequence.{parse};
+ghost use Rattle.spans.specs.Spans.{aRecord};
+ghost use Rattle.spans.specs.Spans.Steps.{plainSize};
+ghost use Rattle.spans.specs.Contracts.{printable, plainBytes, clustersAt, plainFirst, escapeLook, lookBytes, Part, Looked, Ahead, Skip, runAt, textRecord, Special, SpecialStep, Ready, Stepped};
+
+// What a cluster that is no part of a text is: a kind of span, and its length.
+pub struct Look {
+    pub kind: usize,
+    pub len: usize,
+}
+
+// Where a reading stands: a place, and the end of the run that it lies in, where that is known; else nothing beyond the place.
+pub struct Place {
+    pub at: usize,
+    pub run: usize,
+}
+
+// The match that a stretch is, if it is one.
+pub struct Matched {
+    pub inside: bool,
+    pub number: usize,
+}
+
+// A span, and where the reading stands behind it.
+pub struct NextSpan {
+    pub span: Span,
+    pub place: Place,
+}
+
+fn is_printable(b: u8) -> bool
+    ensures { λ r. ⌜ r ≡ printable b ⌝ }
+{
+    (0x20 <= b) & (b <= 0x7E)
+}
+
+// Is the cluster from `at` to `end` a part of a text?
+fn is_plain(profile: Profile, t: &[u8], at: usize, end: usize) -> bool
+    requires { ⌜ Part (now t) at end ⌝ }
+    ensures { λ r. ⌜ r ≡ plainBytes (end - at) (getD (now (t .entry)) at 0) (getD (now (t .entry)) (at + 1) 0) (widthOf (profileOf profile) (runOf (decode (slice at end (now (t .entry)))))) ⌝ }
+{
+    let n = end - at;
+    let a = byte_at(t, at);
+    let b = byte_at(t, at + 1);
+    if (n == 1) & ((a <= 0x1F) | (a == 0x7F)) {
+        return false;
+    }
+    if (n == 2) & ((a == 0x0D) & (b == 0x0A)) {
+        return false;
+    }
+    text_width(profile, t, at, end) != 0
+}
+
+// The end of the cluster at a place if it is a part of a text, else the place. A printable byte before another is a cluster by itself.
+fn plain_end(profile: Profile, t: &[u8], at: usize) -> usize
+    requires { ⌜ at < length (now t) ⌝ }
+    ensures { λ r. ⌜ r ≡ at + plainFirst (profileOf profile) (clustersAt (profileOf profile) (drop at (now (t .entry)))) ⌝ }
+{
+    let a = byte_at(t, at);
+    let b = byte_at(t, at + 1);
+    if is_printable(a) {
+        if is_printable(b) {
+            return at + 1;
+        }
+    }
+    let end = first_end(profile, t, at);
+    if is_plain(profile, t, at, end) {
+        return end;
+    }
+    at
+}
+
+// The end of the text that begins at a place, which is the place where none does.
+fn text_end(profile: Profile, t: &[u8], at: usize) -> usize
+    requires { ⌜ at ≤ length (now t) ⌝ }
+    ensures { λ r. ⌜ r ≡ at + plainSize (profileOf profile) (clustersAt (profileOf profile) (drop at (now (t .entry)))) ⌝ }
+{
+    let mut i = at;
+    while i < t.len() {
+        let end = plain_end(profile, t, i);
+        if end == i {
+            return i;
+        }
+        i = end;
+    }
+    i
+}
+
+// The span that a sequence is; without one, ESC is Control.
+fn escape_look(q: Sequence) -> Look
+    ensures { λ r. ⌜ r ≡ escapeLook q ⌝ }
+{
+    match q {
+        Sequence::Missing => Look { kind: 3, len: 1 },
+        Sequence::Sgr(n) => Look { kind: 6, len: n },
+        Sequence::Hyperlink(p, k, n) => Look { kind: 7, len: n },
+        Sequence::LineDrawing(b, n) => Look { kind: 8, len: n },
+        Sequence::Ignored(n) => Look { kind: 9, len: n },
+        Sequence::EraseToEnd(n) => Look { kind: 13, len: n },
+    }
+}
+
+// What the cluster from `at` to `end` is that is no part of a text, in a run that ends at `run`.
+fn look_at(t: &[u8], at: usize, end: usize, run: usize) -> Look
+    requires { ⌜ Looked (now t) at end run ⌝ }
+    ensures { λ r. ⌜ r ≡ lookBytes (end - at) (getD (now (t .entry)) at 0) (getD (now (t .entry)) (at + 1) 0) (parse (slice (at + 1) run (now (t .entry)))) ⌝ }
+{
+    let n = end - at;
+    let a = byte_at(t, at);
+    if n == 1 {
+        if a == 0x1B {
+            return escape_look(sequence_at(t, at, run));
+        }
+        if a == 0x0A {
+            return Look { kind: 12, len: 1 };
+        }
+        if a == 0x09 {
+            return Look { kind: 10, len: 1 };
+        }
+        if (a <= 0x1F) | (a == 0x7F) {
+            return Look { kind: 3, len: 1 };
+        }
+        return Look { kind: 5, len: 1 };
+    }
+    let b = byte_at(t, at + 1);
+    if (n == 2) & ((a == 0x0D) & (b == 0x0A)) {
+        return Look { kind: 11, len: 2 };
+    }
+    Look { kind: 5, len: n }
+}
+
+// Past the clusters that begin before `stop`, which lies in the run.
+fn skip_to(profile: Profile, t: &[u8], at: usize, stop: usize) -> usize
+    requires { ⌜ Ahead (now t) at stop ⌝ }
+    ensures { λ r. ⌜ Skip (profileOf profile) (now (t .entry)) at stop r ⌝ }
+{
+    let mut i = at;
+    while i < stop {
+        i = first_end(profile, t, i);
+    }
+    i
+}
+
+// The end of the run at the place.
+fn run_at(t: &[u8], c: Place) -> usize
+    requires { ⌜ Ready (now t) c ⌝ }
+    ensures { λ r. ⌜ r ≡ runAt (now (t .entry)) (c .at) ⌝ }
+{
+    if c.at < c.run {
+        return c.run;
+    }
+    run_end(t, c.at)
+}
+
+fn span_of(kind: usize, at: usize, len: usize, matched: usize) -> Span
+    ensures { λ r. ⌜ r ≡ aRecord kind at len matched ⌝ }
+{
+    Span {
+        kind: kind,
+        place: BytePlace(at),
+        len: len,
+        matched: matched,
+    }
+}
+
+// The text from `at` to `end`: Text, or Match.
+fn text_span(at: usize, end: usize, m: Matched) -> Span
+    requires { ⌜ at ≤ end ⌝ }
+    ensures { λ r. ⌜ r ≡ textRecord m at (end - at) ⌝ }
+{
+    if m.inside {
+        return span_of(2, at, end - at, m.number);
+    }
+    span_of(1, at, end - at, 0)
+}
+
+// The span of the cluster at a place that is no part of a text, in a run that ends at `run`, and the place behind what is dropped.
+fn special_span(profile: Profile, t: &[u8], at: usize, run: usize) -> NextSpan
+    requires { ⌜ Special (profileOf profile) (now t) at run ⌝ }
+    ensures { λ r. ⌜ SpecialStep (profileOf profile) (now (t .entry)) at run r ⌝ }
+{
+    let end = first_end(profile, t, at);
+    let l = look_at(t, at, end, run);
+    let next = skip_to(profile, t, end, at + l.len);
+    let span = span_of(l.kind, at, l.len, 0);
+    NextSpan {
+        span: span,
+        place: Place { at: next, run: run },
+    }
+}
+
+// The next span of a stretch that is match m or none.
+pub fn next_span(profile: Profile, t: &[u8], c: Place, m: Matched) -> NextSpan
+    requires { ⌜ Ready (now t) c ⌝ }
+    ensures { λ r. ⌜ Stepped (profileOf profile) (now (t .entry)) m (c .at) r ⌝ }
+{
+    let at = c.at;
+    let run = run_at(t, c);
+    if run == at {
+        let span = span_of(4, at, 1, 0);
+        return NextSpan {
+            span: span,
+            place: Place {
+                at: at + 1,
+                run: run,
+            },
+        };
+    }
+    let end = text_end(profile, t, at);
+    if at < end {
+        let span = text_span(at, end, m);
+        return NextSpan {
+            span: span,
+            place: Place { at: end, run: run },
+        };
+    }
+    special_span(profile, t, at, run)
+}

@@ -1,0 +1,197 @@
+// Line::new and Line::new_search: each match, and each stretch before, between and after matches, read by itself.
+use super::Span;
+use super::reader::Matched;
+use super::reader::Place;
+use super::reader::next_span;
+use super::search::Offsets;
+use super::search::first_offsets;
+use super::search::offset_at;
+use super::search::trimmed_len;
+use text::BytePlace;
+use text::class::Profile;
+ghost use mathlib.Core.Path.{_≡_};
+ghost use lib.ListN.{length};
+ghost use Rattle.text.specs.Code.{profileOf};
+ghost use Rattle.spans.specs.Contracts.{clipped, spent, Opening, Waiting, Sound, Opened, Moved, Going, Settled, Counting, Nexted, Begun, Started};
+
+// Where a reading of a line stands: a place in a stretch, the stretch's end, the match that it is or that follows it, the next number
+// of the match ranges, and the conversion of offsets. `count` spans stand before it.
+pub struct Cursor {
+    pub place: Place,
+    pub end: usize,
+    pub matched: Matched,
+    pub index: usize,
+    pub offsets: Offsets,
+    pub count: usize,
+}
+
+// A record of the span list, and where the reading stands behind it.
+pub struct NextRecord {
+    pub span: Span,
+    pub cursor: Cursor,
+}
+
+fn smaller(a: usize, b: usize) -> usize
+    ensures { λ r. ⌜ r ≡ clipped a b ⌝ }
+{
+    if a <= b {
+        return a;
+    }
+    b
+}
+
+// The stretch from `start` to match `number`, or to the line's end where there is none.
+fn outside(line: &[u8], matches: &[usize], start: usize, number: usize, c: Cursor) -> Cursor
+    requires { ⌜ Opening (now line) (now matches) number c ⌝ }
+    ensures { λ r. ⌜ Opened (now (line .entry)) (now (matches .entry)) start number c r ⌝ }
+{
+    let index = c.index;
+    let offsets = c.offsets;
+    if index < matches.len() {
+        let n = trimmed_len(line);
+        let o = offset_at(&line[..n], offsets, matches[index]);
+        let after = o.offsets;
+        return Cursor {
+            place: Place { at: start, run: 0 },
+            end: o.value,
+            matched: Matched {
+                inside: false,
+                number: number,
+            },
+            index: index + 1,
+            offsets: after,
+            count: c.count,
+        };
+    }
+    Cursor {
+        place: Place { at: start, run: 0 },
+        end: line.len(),
+        matched: Matched {
+            inside: false,
+            number: number,
+        },
+        index: index,
+        offsets: offsets,
+        count: c.count,
+    }
+}
+
+// Match `number` behind the stretch that ends where it begins.
+fn inside(line: &[u8], matches: &[usize], c: Cursor) -> Cursor
+    requires { ⌜ Waiting (now line) (now matches) c ⌝ }
+    ensures { λ r. ⌜ Moved (now (line .entry)) (now (matches .entry)) c r ⌝ }
+{
+    let index = c.index;
+    let offsets = c.offsets;
+    let m = c.matched;
+    let n = trimmed_len(line);
+    let o = offset_at(&line[..n], offsets, matches[index]);
+    let after = o.offsets;
+    Cursor {
+        place: Place { at: c.end, run: 0 },
+        end: o.value,
+        matched: Matched {
+            inside: true,
+            number: m.number,
+        },
+        index: index + 1,
+        offsets: after,
+        count: c.count,
+    }
+}
+
+// Has the stretch no bytes left, and does another follow?
+fn is_spent(line: &[u8], matches: &[usize], c: Cursor) -> bool
+    ensures { λ r. ⌜ r ≡ spent (length (now (line .entry))) (length (now (matches .entry))) c ⌝ }
+{
+    let p = c.place;
+    let m = c.matched;
+    ((c.end <= p.at) | (line.len() <= p.at)) & (m.inside | (c.index < matches.len()))
+}
+
+// The stretch behind one that has no bytes left.
+fn advance(line: &[u8], matches: &[usize], c: Cursor) -> Cursor
+    requires { ⌜ Going (now line) (now matches) c ⌝ }
+    ensures { λ r. ⌜ Moved (now (line .entry)) (now (matches .entry)) c r ⌝ }
+{
+    let m = c.matched;
+    if m.inside {
+        return outside(line, matches, c.end, m.number + 1, c);
+    }
+    inside(line, matches, c)
+}
+
+// The first stretch from here on that has bytes left, if there is one.
+fn settle(line: &[u8], matches: &[usize], c: Cursor) -> Cursor
+    requires { ⌜ Sound (now line) (now matches) c ⌝ }
+    ensures { λ r. ⌜ Settled (now (line .entry)) (now (matches .entry)) c r ⌝ }
+{
+    let mut d = c;
+    while is_spent(line, matches, d) {
+        d = advance(line, matches, d);
+    }
+    d
+}
+
+// The next record; behind the last span a record of zeros.
+pub fn next_record(profile: Profile, line: &[u8], matches: &[usize], c: Cursor) -> NextRecord
+    requires { ⌜ Counting (now line) (now matches) c ⌝ }
+    ensures { λ r. ⌜ Nexted (profileOf profile) (now (line .entry)) (now (matches .entry)) c r ⌝ }
+{
+    let d = settle(line, matches, c);
+    let end = smaller(d.end, line.len());
+    let place = d.place;
+    let offsets = d.offsets;
+    let m = d.matched;
+    if place.at < end {
+        let n = next_span(profile, &line[..end], place, m);
+        let span = n.span;
+        let after = n.place;
+        return NextRecord {
+            span: span,
+            cursor: Cursor {
+                place: after,
+                end: d.end,
+                matched: m,
+                index: d.index,
+                offsets: offsets,
+                count: d.count + 1,
+            },
+        };
+    }
+    NextRecord {
+        span: Span {
+            kind: 0,
+            place: BytePlace(0),
+            len: 0,
+            matched: 0,
+        },
+        cursor: d,
+    }
+}
+
+// The beginning of a line, where the match ranges pass question 3.
+pub fn begin(line: &[u8], matches: &[usize]) -> Cursor
+    requires { ⌜ Begun (now line) (now matches) ⌝ }
+    ensures { λ r. ⌜ Started (now (line .entry)) (now (matches .entry)) r ⌝ }
+{
+    let n = trimmed_len(line);
+    let offsets = first_offsets(&line[..n]);
+    outside(
+        line,
+        matches,
+        0,
+        0,
+        Cursor {
+            place: Place { at: 0, run: 0 },
+            end: 0,
+            matched: Matched {
+                inside: true,
+                number: 0,
+            },
+            index: 0,
+            offsets: offsets,
+            count: 0,
+        },
+    )
+}
