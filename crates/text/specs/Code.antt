@@ -12,6 +12,7 @@ unfoldable pub use Rattle.text.specs.Utf8.{runOf}
 use Rattle.text.specs.declared.cluster.Seen.{Seen}
 use Rattle.text.specs.declared.utf8.Sequence.{Sequence}
 use Rattle.text.specs.declared.class.Profile as code
+pub mod Laws
 
 -- document 01's profile, whatever the version: other versions join it as cases
 unfoldable pub profileOf : code.Profile → Profile
