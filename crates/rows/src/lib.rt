@@ -1,1 +1,2 @@
 // Layer 3, rows: words and wrapping.
+pub mod wrap;

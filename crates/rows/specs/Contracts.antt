@@ -1,0 +1,95 @@
+-- What the code's state and the lent row list say of the rows pushed.
+use mathlib.Core.Path.{_≡_}
+use Prim.Native.Nat.{ℕ, _+_, _*_, _/_, _≤_, _<_, _^_}
+use mathlib.Core.Bool.{Bool, cond, _||_}
+use mathlib.Core.List.{List, [], _∷_}
+use lib.ListN.{length, set}
+use lib.Dec.{eqb, ltb}
+use Rattle.text.specs.declared.Column.{Column}
+use Rattle.rows.specs.Rows.{Row, row, Wrap, wrap, unit}
+use Rattle.rows.specs.declared.wrap.Tally.{Tally}
+use Rattle.rows.specs.declared.wrap.WrapState.{WrapState}
+
+-- ---- the rows pushed
+
+abbrev pub column : ℕ → Column
+column n = record { 0 = n }
+
+-- one more, up to the largest usize
+unfoldable pub nextCount : ℕ → ℕ
+nextCount n = cond (ltb n 0xFFFF_FFFF_FFFF_FFFF) (n + 1) n
+
+unfoldable pub tallied : Tally → Row → Tally
+unfolding nextCount
+tallied t r =
+    record {
+      count = nextCount (t .count);
+      first = t .first;
+      last = t .last;
+      start = cond (eqb (t .count) (t .first)) (column (r .start)) (t .start);
+      end = cond (eqb (t .count) (t .last)) (column (r .end)) (t .end);
+      ended = column (r .end);
+    }
+
+-- row number n in a list of numbers, where it has a pair for it
+unfoldable pub pairAt : List ℕ → ℕ → Row → List ℕ
+pairAt l n r = cond (ltb n (length l / 2)) (set (set l (2 * n) (r .start)) (2 * n + 1) (r .end)) l
+
+-- the lent row list and the tally
+pub record Kept : Type 0 where
+  pub numbers : List ℕ
+  pub tally : Tally
+
+abbrev pub kept : List ℕ → Tally → Kept
+kept l t = record { numbers = l; tally = t }
+
+-- one more row
+unfoldable pub keep : Kept → Row → Kept
+unfolding pairAt tallied
+keep k r = kept (pairAt (k .numbers) (k .tally .count) r) (tallied (k .tally) r)
+
+-- more rows, the last one first
+unfoldable pub keeps : Kept → List Row → Kept
+unfolding keep
+keeps k [] = k
+keeps k (r ∷ rs) = keep (keeps k rs) r
+
+-- ---- a step of wrapping
+
+-- what is kept, where the present row starts, and the position
+pub record Held : Type 0 where
+  pub kept : Kept
+  pub start : ℕ
+  pub position : ℕ
+
+abbrev pub held : List ℕ → WrapState → Held
+held l t = record { kept = kept l (t .tally); start = t .start .0; position = t .position .0 }
+
+-- wrapping goes on: the rows that it pushes are kept behind those kept before
+unfoldable pub on : (Wrap → Wrap) → Held → Held
+unfolding keeps
+on f h =
+    let t : Wrap = f (wrap [] (h .start) (h .position)) in
+    record { kept = keeps (h .kept) (t .rows); start = t .start; position = t .position }
+
+-- the steps, with the state last
+unfoldable pub unitOf : ℕ → ℕ → Wrap → Wrap
+unfolding unit
+unitOf width n t = unit width t n
+
+-- n more columns fit a usize
+pub record Room (t : WrapState) (n : ℕ) : Type 0 where
+  pub low : t .start .0 ≤ t .position .0
+  pub room : t .position .0 + n < 2 ^ 64
+
+-- a step of at most n columns and m rows
+pub record Stepped (l : List ℕ) (t : WrapState) (f : Wrap → Wrap) (n m : ℕ) (l′ : List ℕ) (t′ : WrapState) : Type 0 where
+  pub same : held l′ t′ ≡ on f (held l t)
+  pub low : t′ .start .0 ≤ t′ .position .0
+  pub near : t′ .position .0 ≤ t .position .0 + n
+  pub more : t′ .tally .count ≤ t .tally .count + m
+
+-- the last row, unless it is empty and not the only one
+unfoldable pub lastKept : Held → Kept
+unfolding keep
+lastKept h = cond (ltb (h .start) (h .position) || eqb (h .kept .tally .count) 0) (keep (h .kept) (row (h .start) (h .position))) (h .kept)

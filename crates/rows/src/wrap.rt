@@ -1,0 +1,132 @@
+// Wrapping: src/line.rs, Span::split and make_wrap.
+use text::Column;
+ghost use mathlib.Core.Path.{_≡_};
+ghost use mathlib.Core.Bool.{cond};
+ghost use Rattle.rows.specs.Rows.{row, tabbed, pushed};
+ghost use Rattle.rows.specs.Contracts.{kept, keep, nextCount, tallied, Room, Stepped, unitOf};
+
+// What is kept of the rows pushed: their number, the start of the row `first`, the end of the row `last`, the end of the row pushed last.
+pub struct Tally {
+    pub count: usize,
+    pub first: usize,
+    pub last: usize,
+    pub start: Column,
+    pub end: Column,
+    pub ended: Column,
+}
+
+// Where the present row starts, and the position.
+pub struct WrapState {
+    pub start: Column,
+    pub position: Column,
+    pub tally: Tally,
+}
+
+fn choose(first: bool, a: Column, b: Column) -> Column
+    ensures { λ r. ⌜ r ≡ cond first a b ⌝ }
+{
+    if first { a } else { b }
+}
+
+fn next_count(n: usize) -> usize
+    ensures { λ r. ⌜ r ≡ nextCount n ⌝ }
+{
+    if n < usize::MAX { n + 1 } else { n }
+}
+
+// The tally with one more row.
+fn tally_row(t: Tally, start: Column, end: Column) -> Tally
+    ensures { λ r. ⌜ r ≡ tallied t (row (start .0) (end .0)) ⌝ }
+{
+    let count = next_count(t.count);
+    let from = choose(t.count == t.first, start, t.start);
+    let to = choose(t.count == t.last, end, t.end);
+    Tally {
+        count: count,
+        first: t.first,
+        last: t.last,
+        start: from,
+        end: to,
+        ended: end,
+    }
+}
+
+// Pushes a row: its pair is written where it fits.
+pub fn push_row(rows: &mut [usize], tally: Tally, start: Column, end: Column) -> Tally
+    ensures { λ r. ⌜ kept (now (rows .exit)) r ≡ keep (kept (now (rows .entry)) tally) (row (start .0) (end .0)) ⌝ }
+{
+    let n = tally.count;
+    if n < rows.len() / 2 {
+        rows[2 * n] = start.0;
+        rows[2 * n + 1] = end.0;
+        return tally_row(tally, start, end);
+    }
+    tally_row(tally, start, end)
+}
+
+// Columns that are not broken.
+pub fn unit(rows: &mut [usize], width: Column, state: WrapState, columns: Column) -> WrapState
+    requires { ⌜ Room state (columns .0) ⌝ }
+    ensures { λ r. ⌜ Stepped (now (rows .entry)) state (unitOf (width .0) (columns .0)) (columns .0) 1 (now (rows .exit)) r ⌝ }
+{
+    let start = state.start;
+    let position = state.position;
+    let tally = state.tally;
+    let end = Column(position.0 + columns.0);
+    if end.0 - start.0 <= width.0 {
+        return WrapState {
+            start: start,
+            position: end,
+            tally: tally,
+        };
+    }
+    let more = push_row(rows, tally, start, position);
+    WrapState {
+        start: position,
+        position: end,
+        tally: more,
+    }
+}
+
+// A tab, up to the next multiple of 8 of the line's column.
+pub fn tab(rows: &mut [usize], width: Column, state: WrapState) -> WrapState
+    requires { ⌜ Room state 8 ⌝ }
+    ensures { λ r. ⌜ Stepped (now (rows .entry)) state (tabbed (width .0)) 8 1 (now (rows .exit)) r ⌝ }
+{
+    let start = state.start;
+    let position = state.position;
+    let tally = state.tally;
+    let end = Column(position.0 + (8 - position.0 % 8));
+    if end.0 - start.0 <= width.0 {
+        return WrapState {
+            start: start,
+            position: end,
+            tally: tally,
+        };
+    }
+    let more = push_row(rows, tally, start, end);
+    WrapState {
+        start: end,
+        position: end,
+        tally: more,
+    }
+}
+
+// What the present row holds is pushed, if it holds anything.
+pub fn push_held(rows: &mut [usize], state: WrapState) -> WrapState
+    requires { ⌜ Room state 0 ⌝ }
+    ensures { λ r. ⌜ Stepped (now (rows .entry)) state pushed 0 1 (now (rows .exit)) r ⌝ }
+{
+    let start = state.start;
+    let position = state.position;
+    let tally = state.tally;
+    if start.0 == position.0 {
+        return state;
+    }
+    let more = push_row(rows, tally, start, position);
+    WrapState {
+        start: position,
+        position: position,
+        tally: more,
+    }
+}
