@@ -1,14 +1,56 @@
--- What the code's state and the lent row list say of the rows pushed.
+-- What the code's values say: stretches and words of a text; the state of wrapping and the lent row list, of the rows pushed.
 use mathlib.Core.Path.{_≡_}
-use Prim.Native.Nat.{ℕ, _+_, _*_, _/_, _≤_, _<_, _^_}
-use mathlib.Core.Bool.{Bool, cond, _||_}
+use Prim.Native.Nat.{ℕ, _+_, _-_, _*_, _/_, _≤_, _<_, _^_}
+use mathlib.Core.Bool.{Bool, cond, _&&_, _||_}
 use mathlib.Core.List.{List, [], _∷_}
-use lib.ListN.{length, set}
-use lib.Dec.{eqb, ltb}
+use lib.ListN.{length, set, drop}
+use lib.Dec.{eqb, leb, ltb}
 use Rattle.text.specs.declared.Column.{Column}
+use Rattle.text.specs.Utf8.{Scalar, decode}
+use Rattle.text.specs.Class.{Profile}
+use Rattle.text.specs.Width.{widthOf}
+use Rattle.text.specs.Code.{runOf, size}
+use Rattle.rows.specs.Words.{Word}
+use Rattle.rows.specs.Words.Laws.{firstWord}
+use Rattle.rows.specs.declared.words.Stretch.{Stretch}
+use Rattle.rows.specs.declared.words.Word as code
 use Rattle.rows.specs.Rows.{Row, row, Wrap, wrap, unit}
 use Rattle.rows.specs.declared.wrap.Tally.{Tally}
 use Rattle.rows.specs.declared.wrap.WrapState.{WrapState}
+
+-- ---- parts of a text
+
+-- an ASCII scalar that is no control
+abbrev pub printable : ℕ → Bool
+printable v = leb 0x20 v && leb v 0x7E
+
+-- the text from a place on, up to a damaged byte
+abbrev pub textAt : List ℕ → ℕ → List Scalar
+textAt s p = runOf (decode (drop p s))
+
+-- a stretch from a place on that holds these scalars
+pub record Measured (P : Profile) (s : List ℕ) (at : ℕ) (front : List Scalar) (r : Stretch) : Type 0 where
+  pub end : r .end .0 ≡ at + size front
+  pub width : r .width .0 ≡ widthOf P front
+  pub inside : r .end .0 ≤ length s
+  pub small : r .width .0 ≤ 2 * (r .end .0 - at)
+
+-- the bytes of the `-` that a text begins with
+unfoldable pub hyphenSize : List Scalar → ℕ
+hyphenSize [] = 0
+hyphenSize (c ∷ s) = cond (eqb (c .code) 0x2D) (length (c .bytes)) 0
+
+pub record HyphenAt (s : List ℕ) (at r : ℕ) : Type 0 where
+  pub size : r ≡ hyphenSize (textAt s at)
+  pub inside : at + r ≤ length s
+
+-- the first word from a place on, with its separator
+pub record WordAt (P : Profile) (s : List ℕ) (at : ℕ) (r : code.Word) : Type 0 where
+  pub word : r .word .0 ≡ at + size (firstWord (textAt s at) .word)
+  pub sep : r .sep .0 ≡ r .word .0 + size (firstWord (textAt s at) .sep)
+  pub width : r .width .0 ≡ widthOf P (firstWord (textAt s at) .word) + widthOf P (firstWord (textAt s at) .sep)
+  pub inside : r .sep .0 ≤ length s
+  pub small : r .width .0 ≤ 2 * (r .sep .0 - at)
 
 -- ---- the rows pushed
 
