@@ -47,9 +47,9 @@ row-counted l t r a b h e = rw (le-ltb (t .count) (length l / 2) h, e)
 -- ---- a step that pushes nothing, and one that pushes a row
 
 module _ (l : List ℕ) (st : WrapState) (f : Wrap → Wrap) (n : ℕ) (s p : Column) (low : s .0 ≤ p .0) (near : p .0 ≤ st .position .0 + n) where
-  stays : f (wrap [] (st .start .0) (st .position .0)) ≡ wrap [] (s .0) (p .0) → Stepped l st f n 1 l (record { start = s; position = p; tally = st .tally })
+  pub stays : (m : ℕ) → f (wrap [] (st .start .0) (st .position .0)) ≡ wrap [] (s .0) (p .0) → Stepped l st f n m l (record { start = s; position = p; tally = st .tally })
   unfolding on keeps
-  stays e = record { same = rw e; low = low; near = near; more = omega arith }
+  stays m e = record { same = rw e; low = low; near = near; more = omega arith }
 
   pushes : (l′ : List ℕ) (r : Tally) (a b : ℕ) → f (wrap [] (st .start .0) (st .position .0)) ≡ wrap (row a b ∷ []) (s .0) (p .0) → kept l′ r ≡ keep (kept l (st .tally)) (row a b)
       → Stepped l st f n 1 l′ (record { start = s; position = p; tally = r })
@@ -66,7 +66,7 @@ module _ (l : List ℕ) (st : WrapState) (width n : ℕ) (room : Room st n) wher
   pub unit-stays : st .position .0 + n - st .start .0 ≤ width
       → Stepped l st (unitOf width n) n 1 l (record { start = st .start; position = column (st .position .0 + n); tally = st .tally })
   unfolding unitOf unit
-  unit-stays h = stays l st (unitOf width n) n (st .start) (column (st .position .0 + n)) (omega arith) (omega arith) (rw (le-leb (st .position .0 + n - st .start .0) width h))
+  unit-stays h = stays l st (unitOf width n) n (st .start) (column (st .position .0 + n)) (omega arith) (omega arith) 1 (rw (le-leb (st .position .0 + n - st .start .0) width h))
 
   pub unit-wraps : (l′ : List ℕ) (r : Tally) → width < st .position .0 + n - st .start .0 → kept l′ r ≡ keep (kept l (st .tally)) (row (st .start .0) (st .position .0))
       → Stepped l st (unitOf width n) n 1 l′ (record { start = st .position; position = column (st .position .0 + n); tally = r })
@@ -81,7 +81,7 @@ module _ (l : List ℕ) (st : WrapState) (width : Column) (room : Room st 8) whe
 
   pub tab-stays : stop - st .start .0 ≤ width .0 → Stepped l st (tabbed (width .0)) 8 1 l (record { start = st .start; position = column stop; tally = st .tally })
   unfolding tabbed
-  tab-stays h = stays l st (tabbed (width .0)) 8 (st .start) (column stop) (omega arith) (omega arith) (rw (le-leb (stop - st .start .0) (width .0) h))
+  tab-stays h = stays l st (tabbed (width .0)) 8 (st .start) (column stop) (omega arith) (omega arith) 1 (rw (le-leb (stop - st .start .0) (width .0) h))
 
   pub tab-wraps : (l′ : List ℕ) (r : Tally) → width .0 < stop - st .start .0 → kept l′ r ≡ keep (kept l (st .tally)) (row (st .start .0) stop)
       → Stepped l st (tabbed (width .0)) 8 1 l′ (record { start = column stop; position = column stop; tally = r })
@@ -93,7 +93,7 @@ module _ (l : List ℕ) (st : WrapState) (width : Column) (room : Room st 8) whe
 module _ (l : List ℕ) (st : WrapState) (room : Room st 0) where
   pub held-none : st .start .0 ≡ st .position .0 → Stepped l st pushed 0 1 l st
   unfolding pushed
-  held-none h = stays l st pushed 0 (st .start) (st .position) (omega arith) (omega arith) (rw (eq-eqb (st .start .0) (st .position .0) h))
+  held-none h = stays l st pushed 0 (st .start) (st .position) (omega arith) (omega arith) 1 (rw (eq-eqb (st .start .0) (st .position .0) h))
 
   pub held-pushed : (l′ : List ℕ) (r : Tally) → (st .start .0 ≢ st .position .0) → kept l′ r ≡ keep (kept l (st .tally)) (row (st .start .0) (st .position .0))
       → Stepped l st pushed 0 1 l′ (record { start = st .position; position = st .position; tally = r })

@@ -10,11 +10,12 @@ use Rattle.text.specs.Utf8.{Scalar, decode}
 use Rattle.text.specs.Class.{Profile}
 use Rattle.text.specs.Width.{widthOf}
 use Rattle.text.specs.Code.{runOf, size}
-use Rattle.rows.specs.Words.{Word}
+use Rattle.text.specs.Cluster.{clusters}
+use Rattle.rows.specs.Words.{Word, words}
 use Rattle.rows.specs.Words.Laws.{firstWord}
 use Rattle.rows.specs.declared.words.Stretch.{Stretch}
 use Rattle.rows.specs.declared.words.Word as code
-use Rattle.rows.specs.Rows.{Row, row, Wrap, wrap, unit}
+use Rattle.rows.specs.Rows.{Row, row, Wrap, wrap, unit, byClusters, longWord, oneWord, byWords, splitText}
 use Rattle.rows.specs.declared.wrap.Tally.{Tally}
 use Rattle.rows.specs.declared.wrap.WrapState.{WrapState}
 
@@ -119,10 +120,36 @@ unfoldable pub unitOf : ℕ → ℕ → Wrap → Wrap
 unfolding unit
 unitOf width n t = unit width t n
 
+module _ (P : Profile) (width : ℕ) where
+  unfoldable pub clustersOf : List Scalar → Wrap → Wrap
+  unfolding byClusters clusters
+  clustersOf s t = byClusters P width t (clusters P s)
+
+  unfoldable pub longWordOf : Word → Wrap → Wrap
+  unfolding longWord
+  longWordOf v t = longWord P width t v
+
+  unfoldable pub oneWordOf : Word → Wrap → Wrap
+  unfolding oneWord
+  oneWordOf v t = oneWord P width t v
+
+  unfoldable pub wordsOf : List Scalar → Wrap → Wrap
+  unfolding byWords words
+  wordsOf s t = byWords P width t (words s)
+
+  unfoldable pub textOf : Bool → List Scalar → Wrap → Wrap
+  unfolding splitText
+  textOf w s t = splitText P width w t s
+
 -- n more columns fit a usize
 pub record Room (t : WrapState) (n : ℕ) : Type 0 where
   pub low : t .start .0 ≤ t .position .0
   pub room : t .position .0 + n < 2 ^ 64
+
+-- a word of a text, with room for it
+pub record WordRoom (P : Profile) (s : List ℕ) (at : ℕ) (v : code.Word) (t : WrapState) : Type 0 where
+  pub there : WordAt P s at v
+  pub room : Room t (2 * (v .sep .0 - at))
 
 -- a step of at most n columns and m rows
 pub record Stepped (l : List ℕ) (t : WrapState) (f : Wrap → Wrap) (n m : ℕ) (l′ : List ℕ) (t′ : WrapState) : Type 0 where

@@ -1,9 +1,19 @@
 // Wrapping: src/line.rs, Span::split and make_wrap.
+use super::words::Word;
+use super::words::cluster;
+use super::words::next_word;
+use text::BytePlace;
 use text::Column;
+use text::class::Profile;
 ghost use mathlib.Core.Path.{_≡_};
+ghost use Prim.Native.Nat.{_+_, _-_, _*_, _<_};
+ghost use lib.Dec.{eqb};
+ghost use lib.ListN.{length};
+ghost use Rattle.text.specs.Code.{profileOf};
+ghost use Rattle.rows.specs.Words.Laws.{firstWord};
 ghost use mathlib.Core.Bool.{cond};
 ghost use Rattle.rows.specs.Rows.{row, tabbed, pushed};
-ghost use Rattle.rows.specs.Contracts.{kept, keep, nextCount, tallied, Room, Stepped, unitOf};
+ghost use Rattle.rows.specs.Contracts.{kept, keep, nextCount, tallied, Room, Stepped, unitOf, textAt, WordRoom, clustersOf, longWordOf, oneWordOf, wordsOf, textOf};
 
 // What is kept of the rows pushed: their number, the start of the row `first`, the end of the row `last`, the end of the row pushed last.
 pub struct Tally {
@@ -20,6 +30,13 @@ pub struct WrapState {
     pub start: Column,
     pub position: Column,
     pub tally: Tally,
+}
+
+// How to wrap: the text profile, the width, and the mode (1 GraphemeBoundary, 2 WordBoundary).
+pub struct Wrapping {
+    pub profile: Profile,
+    pub width: Column,
+    pub mode: usize,
 }
 
 fn choose(first: bool, a: Column, b: Column) -> Column
@@ -129,4 +146,118 @@ pub fn push_held(rows: &mut [usize], state: WrapState) -> WrapState
         position: position,
         tally: more,
     }
+}
+
+// A text broken between clusters.
+fn by_clusters(text: &[u8], rows: &mut [usize], wrapping: Wrapping, state: WrapState) -> WrapState
+    requires { ⌜ Room state (2 * length (now text)) ⌝ }
+    ensures { λ r. ⌜ Stepped (now (rows .entry)) state (clustersOf (profileOf (wrapping .profile)) (wrapping .width .0) (textAt (now (text .entry)) 0)) (2 * length (now (text .entry))) (length (now (text .entry))) (now (rows .exit)) r ⌝ }
+{
+    let profile = wrapping.profile;
+    let width = wrapping.width;
+    let mut t = state;
+    let mut p = BytePlace(0);
+    while p.0 < text.len() {
+        let g = cluster(profile, text, p);
+        let end = g.end;
+        let columns = g.width;
+        if end.0 == p.0 {
+            return t;
+        }
+        t = unit(rows, width, t, columns);
+        p = end;
+    }
+    t
+}
+
+// A word at the start of a row: it fits, or is broken between clusters.
+fn long_word(
+    text: &[u8],
+    rows: &mut [usize],
+    wrapping: Wrapping,
+    state: WrapState,
+    at: BytePlace,
+    word: Word,
+) -> WrapState
+    requires { ⌜ WordRoom (profileOf (wrapping .profile)) (now text) (at .0) word state ⌝ }
+    ensures { λ r. ⌜ Stepped (now (rows .entry)) state (longWordOf (profileOf (wrapping .profile)) (wrapping .width .0) (firstWord (textAt (now (text .entry)) (at .0)))) (2 * (word .sep .0 - at .0)) (word .sep .0 - at .0) (now (rows .exit)) r ⌝ }
+{
+    let width = wrapping.width;
+    let start = state.start;
+    let position = state.position;
+    let tally = state.tally;
+    let columns = word.width;
+    let end = Column(position.0 + columns.0);
+    if end.0 - start.0 <= width.0 {
+        return WrapState {
+            start: start,
+            position: end,
+            tally: tally,
+        };
+    }
+    let a = at.0;
+    let b = word.word.0;
+    let e = word.sep.0;
+    let t = by_clusters(&text[a..b], rows, wrapping, state);
+    by_clusters(&text[b..e], rows, wrapping, t)
+}
+
+// A word that fits within the row, or wraps to the next.
+fn one_word(
+    text: &[u8],
+    rows: &mut [usize],
+    wrapping: Wrapping,
+    state: WrapState,
+    at: BytePlace,
+    word: Word,
+) -> WrapState
+    requires { ⌜ WordRoom (profileOf (wrapping .profile)) (now text) (at .0) word state ⌝ }
+    ensures { λ r. ⌜ Stepped (now (rows .entry)) state (oneWordOf (profileOf (wrapping .profile)) (wrapping .width .0) (firstWord (textAt (now (text .entry)) (at .0)))) (2 * (word .sep .0 - at .0)) (word .sep .0 - at .0 + 1) (now (rows .exit)) r ⌝ }
+{
+    let width = wrapping.width;
+    let start = state.start;
+    let position = state.position;
+    let tally = state.tally;
+    let columns = word.width;
+    let end = Column(position.0 + columns.0);
+    if end.0 - start.0 <= width.0 {
+        return WrapState {
+            start: start,
+            position: end,
+            tally: tally,
+        };
+    }
+    let t = push_held(rows, state);
+    long_word(text, rows, wrapping, t, at, word)
+}
+
+// A text broken between words.
+fn by_words(text: &[u8], rows: &mut [usize], wrapping: Wrapping, state: WrapState) -> WrapState
+    requires { ⌜ Room state (2 * length (now text)) ⌝ }
+    ensures { λ r. ⌜ Stepped (now (rows .entry)) state (wordsOf (profileOf (wrapping .profile)) (wrapping .width .0) (textAt (now (text .entry)) 0)) (2 * length (now (text .entry))) (2 * length (now (text .entry))) (now (rows .exit)) r ⌝ }
+{
+    let profile = wrapping.profile;
+    let mut t = state;
+    let mut p = BytePlace(0);
+    while p.0 < text.len() {
+        let v = next_word(profile, text, p);
+        let end = v.sep;
+        if end.0 == p.0 {
+            return t;
+        }
+        t = one_word(text, rows, wrapping, t, p, v);
+        p = end;
+    }
+    t
+}
+
+// The text of a span, by the mode.
+fn split_text(text: &[u8], rows: &mut [usize], wrapping: Wrapping, state: WrapState) -> WrapState
+    requires { ⌜ Room state (2 * length (now text)) ⌝ }
+    ensures { λ r. ⌜ Stepped (now (rows .entry)) state (textOf (profileOf (wrapping .profile)) (wrapping .width .0) (eqb (wrapping .mode) 2) (textAt (now (text .entry)) 0)) (2 * length (now (text .entry))) (2 * length (now (text .entry))) (now (rows .exit)) r ⌝ }
+{
+    if wrapping.mode == 2 {
+        return by_words(text, rows, wrapping, state);
+    }
+    by_clusters(text, rows, wrapping, state)
 }

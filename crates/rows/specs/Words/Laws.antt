@@ -158,3 +158,12 @@ words-one c s ih =
 pub words-first : (s : List Scalar) (c : Scalar) (t : List Scalar) → s ≡ c ∷ t → words s ≡ firstWord s ∷ words (restWords s)
 words-first [] c t e = let z : _≡_ {A = ℕ} 0 1 = cc in absurd (omega arith)
 words-first (d ∷ s) c t e = words-one d s (words-first s)
+
+-- it holds the first scalar
+pub first-word-some : (c : Scalar) (s : List Scalar) → (l : List Scalar) × (firstWord (c ∷ s) .word ++ firstWord (c ∷ s) .sep ≡ c ∷ l)
+first-word-some c s =
+    cases (whitespace (c .code))
+    (λ e. (leading true s, rw (space-first c s e .0)))
+    (λ e. cases (eqb (c .code) 0x2D)
+    (λ h. ([], rw (hyphen-first c s e h .0)))
+    (λ h. (firstWord s .word ++ firstWord s .sep, rw (letter-first c s e h .0))))
