@@ -12,7 +12,7 @@ use borrow.Author.Tests.{le-leb, lt-leb, lt-ltb, le-ltb, eq-eqb, ne-eqb}
 use Rattle.text.specs.Tests.{cases}
 use Rattle.text.specs.declared.Column.{Column}
 use Rattle.rows.specs.Rows.{Row, row, Wrap, wrap, unit, tabbed, pushed}
-use Rattle.rows.specs.Contracts.{column, nextCount, tallied, pairAt, Kept, kept, keep, keeps, Held, held, on, Room, Stepped, unitOf}
+use Rattle.rows.specs.Contracts.{column, nextCount, tallied, pairAt, Kept, kept, keep, keeps, Held, held, on, Room, Stepped, unitOf, lastKept, LastRow}
 use Rattle.rows.specs.declared.wrap.Tally.{Tally}
 use Rattle.rows.specs.declared.wrap.WrapState.{WrapState}
 
@@ -101,3 +101,29 @@ module _ (l : List ℕ) (st : WrapState) (room : Room st 0) where
   held-pushed l′ r h k =
       pushes l st pushed 0 (st .position) (st .position) (omega arith) (omega arith) l′ r (st .start .0) (st .position .0)
       (rw (ne-eqb (st .start .0) (st .position .0) h)) k
+
+-- ---- the last row
+
+keep-more : (l l′ : List ℕ) (t r : Tally) (w : Row) → kept l′ r ≡ keep (kept l t) w → r .count ≤ t .count + 1
+unfolding keep tallied
+keep-more l l′ t r w k = omega (arith, ap (λ (x : Kept). x .tally .count) k, next-le (t .count))
+
+module _ (l : List ℕ) (st : WrapState) (mode : ℕ) where
+  pub last-unwrapped : (l′ : List ℕ) (r : Tally) → mode ≡ 0 → kept l′ r ≡ keep (kept l (st .tally)) (row 0 0xFFFF_FFFF_FFFF_FFFF) → LastRow l st mode l′ r
+  unfolding lastKept
+  last-unwrapped l′ r e k = record { same = rw (eq-eqb mode 0 e) k; more = keep-more l l′ (st .tally) r (row 0 0xFFFF_FFFF_FFFF_FFFF) k }
+
+  module _ (e : mode ≢ 0) where
+    pub last-some : (l′ : List ℕ) (r : Tally) → st .start .0 < st .position .0 → kept l′ r ≡ keep (kept l (st .tally)) (row (st .start .0) (st .position .0)) → LastRow l st mode l′ r
+    unfolding lastKept
+    last-some l′ r h k = record { same = rw (ne-eqb mode 0 e, lt-ltb (st .start .0) (st .position .0) h) k; more = keep-more l l′ (st .tally) r (row (st .start .0) (st .position .0)) k }
+
+    module _ (h : st .position .0 ≤ st .start .0) where
+      pub last-only : (l′ : List ℕ) (r : Tally) → st .tally .count ≡ 0 → kept l′ r ≡ keep (kept l (st .tally)) (row (st .start .0) (st .position .0)) → LastRow l st mode l′ r
+      unfolding lastKept
+      last-only l′ r z k =
+          record { same = rw (ne-eqb mode 0 e, le-ltb (st .start .0) (st .position .0) h, eq-eqb (st .tally .count) 0 z) k; more = keep-more l l′ (st .tally) r (row (st .start .0) (st .position .0)) k }
+
+      pub last-none : (st .tally .count ≢ 0) → LastRow l st mode l (st .tally)
+      unfolding lastKept
+      last-none z = record { same = rw (ne-eqb mode 0 e, le-ltb (st .start .0) (st .position .0) h, ne-eqb (st .tally .count) 0 z); more = omega arith }

@@ -56,7 +56,7 @@ on-then f g h n =
     let t : Wrap = f (wrap [] (h .start) (h .position)) in
     sym (ap (holding (h .kept)) (n (t .rows) (wrap [] (t .start) (t .position))) ∙ holding-over (h .kept) (t .rows) (g (wrap [] (t .start) (t .position))))
 
-on-id : (f : Wrap → Wrap) (h : Held) → ((t : Wrap) → f t ≡ t) → on f h ≡ h
+pub on-id : (f : Wrap → Wrap) (h : Held) → ((t : Wrap) → f t ≡ t) → on f h ≡ h
 unfolding on holding keeps
 on-id f h e = ap (holding (h .kept)) (e (wrap [] (h .start) (h .position)))
 
@@ -73,8 +73,9 @@ then-same : (f g F : Wrap → Wrap) (h h₁ h₂ : Held) → h₁ ≡ on f h →
 then-same f g F h h₁ h₂ p q n e = q ∙ ap (on g) p ∙ on-then f g h n ∙ sym (on-at F (λ (t : Wrap). g (f t)) h e)
 
 -- the same step under another name
-renamed : (l l′ : List ℕ) (t t′ : WrapState) (f g : Wrap → Wrap) (n m k : ℕ) → ((w : Wrap) → f w ≡ g w) → m ≤ k → Stepped l t f n m l′ t′ → Stepped l t g n k l′ t′
-renamed l l′ t t′ f g n m k e h s = record { same = s .same ∙ on-at f g (held l t) (e (wrap [] (t .start .0) (t .position .0))); low = s .low; near = s .near; more = omega (arith, s .more) }
+pub renamed : (l l′ : List ℕ) (t t′ : WrapState) (f g : Wrap → Wrap) (n m j k : ℕ) → ((w : Wrap) → f w ≡ g w) → n ≤ j → m ≤ k → Stepped l t f n m l′ t′ → Stepped l t g j k l′ t′
+renamed l l′ t t′ f g n m j k e h i s =
+    record { same = s .same ∙ on-at f g (held l t) (e (wrap [] (t .start .0) (t .position .0))); low = s .low; near = omega (arith, s .near); more = omega (arith, s .more) }
 
 pub record Stepping (F : List Scalar → Wrap → Wrap) (text l₀ : List ℕ) (t₀ : WrapState) (p : BytePlace) (l : List ℕ) (t : WrapState) : Type 0 where
   pub inside : p .0 ≤ length text
@@ -308,8 +309,8 @@ module _ (P : Profile) (width : ℕ) (text l₀ : List ℕ) (t₀ : WrapState) (
 module _ (P : Profile) (width mode : ℕ) (s : List Scalar) (l l′ : List ℕ) (t t′ : WrapState) (n m : ℕ) where
   pub text-words : mode ≡ 2 → Stepped l t (wordsOf P width s) n (2 * m) l′ t′ → Stepped l t (textOf P width (eqb mode 2) s) n (2 * m) l′ t′
   unfolding textOf splitText wordsOf
-  text-words e k = renamed l l′ t t′ (wordsOf P width s) (textOf P width (eqb mode 2) s) n (2 * m) (2 * m) (λ w. rw (eq-eqb mode 2 e)) (omega arith) k
+  text-words e k = renamed l l′ t t′ (wordsOf P width s) (textOf P width (eqb mode 2) s) n (2 * m) n (2 * m) (λ w. rw (eq-eqb mode 2 e)) (omega arith) (omega arith) k
 
   pub text-clusters : (mode ≢ 2) → Stepped l t (clustersOf P width s) n m l′ t′ → Stepped l t (textOf P width (eqb mode 2) s) n (2 * m) l′ t′
   unfolding textOf splitText clustersOf
-  text-clusters e k = renamed l l′ t t′ (clustersOf P width s) (textOf P width (eqb mode 2) s) n m (2 * m) (λ w. rw (ne-eqb mode 2 e)) (omega arith) k
+  text-clusters e k = renamed l l′ t t′ (clustersOf P width s) (textOf P width (eqb mode 2) s) n m n (2 * m) (λ w. rw (ne-eqb mode 2 e)) (omega arith) (omega arith) k

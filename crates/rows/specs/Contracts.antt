@@ -11,11 +11,13 @@ use Rattle.text.specs.Class.{Profile}
 use Rattle.text.specs.Width.{widthOf}
 use Rattle.text.specs.Code.{runOf, size}
 use Rattle.text.specs.Cluster.{clusters}
+use Rattle.spans.specs.Spans.{Record}
+use Rattle.spans.specs.Spans.ContentLaw.{textIn}
 use Rattle.rows.specs.Words.{Word, words}
 use Rattle.rows.specs.Words.Laws.{firstWord}
 use Rattle.rows.specs.declared.words.Stretch.{Stretch}
 use Rattle.rows.specs.declared.words.Word as code
-use Rattle.rows.specs.Rows.{Row, row, Wrap, wrap, unit, byClusters, longWord, oneWord, byWords, splitText}
+use Rattle.rows.specs.Rows.{Row, row, Wrap, wrap, unit, byClusters, longWord, oneWord, byWords, splitText, tabbed}
 use Rattle.rows.specs.declared.wrap.Tally.{Tally}
 use Rattle.rows.specs.declared.wrap.WrapState.{WrapState}
 
@@ -158,7 +160,60 @@ pub record Stepped (l : List ℕ) (t : WrapState) (f : Wrap → Wrap) (n m : ℕ
   pub near : t′ .position .0 ≤ t .position .0 + n
   pub more : t′ .tally .count ≤ t .tally .count + m
 
+-- ---- spans
+
+module _ (P : Profile) (width : ℕ) where
+  -- what a record of the line does
+  unfoldable pub recordIn : Bool → List ℕ → Record → Wrap → Wrap
+  unfolding splitText unit tabbed textIn
+  recordIn w line r t =
+      cond (eqb (r .kind) 1 || eqb (r .kind) 2) (splitText P width w t (textIn (r .len) (drop (r .place .0) line)))
+      (cond (eqb (r .kind) 3 || eqb (r .kind) 4) (unit width t 4)
+      (cond (eqb (r .kind) 5) (unit width t 8)
+      (cond (eqb (r .kind) 10) (tabbed width t) t)))
+
+  -- the same by the mode's number
+  unfoldable pub spanOf : ℕ → List ℕ → Record → Wrap → Wrap
+  unfolding recordIn
+  spanOf mode line r t = cond (eqb mode 0) t (recordIn (eqb mode 2) line r t)
+
+  unfoldable pub spansOf : ℕ → List ℕ → List Record → Wrap → Wrap
+  unfolding spanOf
+  spansOf mode line [] t = t
+  spansOf mode line (r ∷ rs) t = spansOf mode line rs (spanOf mode line r t)
+
 -- the last row, unless it is empty and not the only one
-unfoldable pub lastKept : Held → Kept
+unfoldable pub lastKept : ℕ → Held → Kept
 unfolding keep
-lastKept h = cond (ltb (h .start) (h .position) || eqb (h .kept .tally .count) 0) (keep (h .kept) (row (h .start) (h .position))) (h .kept)
+lastKept mode h =
+    cond (eqb mode 0) (keep (h .kept) (row 0 0xFFFF_FFFF_FFFF_FFFF))
+    (cond (ltb (h .start) (h .position)) (keep (h .kept) (row (h .start) (h .position)))
+    (cond (eqb (h .kept .tally .count) 0) (keep (h .kept) (row (h .start) (h .position))) (h .kept)))
+
+pub record LastRow (l : List ℕ) (t : WrapState) (mode : ℕ) (l′ : List ℕ) (r : Tally) : Type 0 where
+  pub same : kept l′ r ≡ lastKept mode (held l t)
+  pub more : r .count ≤ t .tally .count + 1
+
+-- ---- all spans
+
+-- nothing pushed yet
+abbrev pub beginning : ℕ → ℕ → WrapState
+beginning first last =
+    record {
+      start = column 0;
+      position = column 0;
+      tally = record { count = 0; first = first; last = last; start = column 0; end = column 0; ended = column 0 };
+    }
+
+-- the first n spans of a converted line, few enough that all columns and rows fit a usize
+pub record SpansRoom (spans : List Record) (line : List ℕ) (t : WrapState) (n : ℕ) : Type 0 where
+  pub there : n ≤ length spans
+  pub few : n ≤ 32768
+  pub short : length line ≤ 32768
+  pub low : t .start .0 ≤ t .position .0
+  pub near : t .position .0 ≤ 4294967296
+  pub more : t .tally .count ≤ 4294967296
+
+pub record MadeWrap (P : Profile) (width mode : ℕ) (line : List ℕ) (rs : List Record) (l : List ℕ) (t : WrapState) (l′ : List ℕ) (r : Tally) : Type 0 where
+  pub same : kept l′ r ≡ lastKept mode (on (spansOf P width mode line rs) (held l t))
+  pub more : r .count < 0xFFFF_FFFF_FFFF_FFFF

@@ -2,18 +2,19 @@
 use super::words::Word;
 use super::words::cluster;
 use super::words::next_word;
+use spans::Span;
 use text::BytePlace;
 use text::Column;
 use text::class::Profile;
 ghost use mathlib.Core.Path.{_≡_};
 ghost use Prim.Native.Nat.{_+_, _-_, _*_, _<_};
 ghost use lib.Dec.{eqb};
-ghost use lib.ListN.{length};
+ghost use lib.ListN.{length, take, drop};
 ghost use Rattle.text.specs.Code.{profileOf};
 ghost use Rattle.rows.specs.Words.Laws.{firstWord};
 ghost use mathlib.Core.Bool.{cond};
 ghost use Rattle.rows.specs.Rows.{row, tabbed, pushed};
-ghost use Rattle.rows.specs.Contracts.{kept, keep, nextCount, tallied, Room, Stepped, unitOf, textAt, WordRoom, clustersOf, longWordOf, oneWordOf, wordsOf, textOf};
+ghost use Rattle.rows.specs.Contracts.{kept, keep, nextCount, tallied, Room, Stepped, unitOf, textAt, WordRoom, clustersOf, longWordOf, oneWordOf, wordsOf, textOf, spanOf, LastRow, beginning};
 
 // What is kept of the rows pushed: their number, the start of the row `first`, the end of the row `last`, the end of the row pushed last.
 pub struct Tally {
@@ -260,4 +261,82 @@ fn split_text(text: &[u8], rows: &mut [usize], wrapping: Wrapping, state: WrapSt
         return by_words(text, rows, wrapping, state);
     }
     by_clusters(text, rows, wrapping, state)
+}
+
+// The bytes that a record stands for, as far as the line has them.
+pub fn text_of<'a>(line: &'a [u8], place: BytePlace, len: usize) -> &'a [u8]
+    ensures { λ r. ⌜ now r ≡ take len (drop (place .0) (now (line .entry))) ⌝ }
+{
+    let at = place.0;
+    if line.len() <= at {
+        return &line[..0];
+    }
+    if line.len() - at <= len {
+        return &line[at..];
+    }
+    let end = at + len;
+    &line[at..end]
+}
+
+// One span.
+pub fn split_span(
+    line: &[u8],
+    rows: &mut [usize],
+    wrapping: Wrapping,
+    state: WrapState,
+    span: Span,
+) -> WrapState
+    requires { ⌜ Room state (2 * length (now line) + 8) ⌝ }
+    ensures { λ r. ⌜ Stepped (now (rows .entry)) state (spanOf (profileOf (wrapping .profile)) (wrapping .width .0) (wrapping .mode) (now (line .entry)) span) (2 * length (now (line .entry)) + 8) (2 * length (now (line .entry)) + 1) (now (rows .exit)) r ⌝ }
+{
+    let width = wrapping.width;
+    let kind = span.kind;
+    let place = span.place;
+    if wrapping.mode == 0 {
+        return state;
+    }
+    match kind {
+        1 | 2 => split_text(text_of(line, place, span.len), rows, wrapping, state),
+        3 | 4 => unit(rows, width, state, Column(4)),
+        5 => unit(rows, width, state, Column(8)),
+        10 => tab(rows, width, state),
+        _ => state,
+    }
+}
+
+// The last row, unless it is empty and not the only one.
+pub fn last_row(rows: &mut [usize], wrapping: Wrapping, state: WrapState) -> Tally
+    ensures { λ r. ⌜ LastRow (now (rows .entry)) state (wrapping .mode) (now (rows .exit)) r ⌝ }
+{
+    let start = state.start;
+    let position = state.position;
+    let tally = state.tally;
+    if wrapping.mode == 0 {
+        return push_row(rows, tally, Column(0), Column(usize::MAX));
+    }
+    if start.0 < position.0 {
+        return push_row(rows, tally, start, position);
+    }
+    if tally.count == 0 {
+        return push_row(rows, tally, start, position);
+    }
+    tally
+}
+
+// Nothing pushed yet, with the rows whose bounds are asked for.
+pub fn begin(first: usize, last: usize) -> WrapState
+    ensures { λ r. ⌜ r ≡ beginning first last ⌝ }
+{
+    WrapState {
+        start: Column(0),
+        position: Column(0),
+        tally: Tally {
+            count: 0,
+            first: first,
+            last: last,
+            start: Column(0),
+            end: Column(0),
+            ended: Column(0),
+        },
+    }
 }
