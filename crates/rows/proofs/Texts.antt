@@ -62,10 +62,10 @@ on-id f h e = ap (holding (h .kept)) (e (wrap [] (h .start) (h .position)))
 
 -- what is left to do: a turn, and the end
 module _ (run : Wrap → Wrap) (h : Held) {e : Held} (work : on run h ≡ e) where
-  turn : (step rest : Wrap → Wrap) (h′ : Held) → ((t : Wrap) → run t ≡ rest (step t)) → Natural rest → h′ ≡ on step h → on rest h′ ≡ e
+  pub turn : (step rest : Wrap → Wrap) (h′ : Held) → ((t : Wrap) → run t ≡ rest (step t)) → Natural rest → h′ ≡ on step h → on rest h′ ≡ e
   turn step rest h′ q n s = ap (on rest) s ∙ on-then step rest h n ∙ sym (on-at run (λ (t : Wrap). rest (step t)) h (q (wrap [] (h .start) (h .position)))) ∙ work
 
-  done : ((t : Wrap) → run t ≡ t) → h ≡ e
+  pub done : ((t : Wrap) → run t ≡ t) → h ≡ e
   done q = sym (on-id run h q) ∙ work
 
 -- two steps are one

@@ -14,7 +14,7 @@ ghost use Rattle.text.specs.Code.{profileOf};
 ghost use Rattle.rows.specs.Words.Laws.{firstWord};
 ghost use mathlib.Core.Bool.{cond};
 ghost use Rattle.rows.specs.Rows.{row, tabbed, pushed};
-ghost use Rattle.rows.specs.Contracts.{kept, keep, nextCount, tallied, Room, Stepped, unitOf, textAt, WordRoom, clustersOf, longWordOf, oneWordOf, wordsOf, textOf, spanOf, LastRow, beginning};
+ghost use Rattle.rows.specs.Contracts.{kept, keep, nextCount, tallied, Room, Stepped, unitOf, textAt, WordRoom, clustersOf, longWordOf, oneWordOf, wordsOf, textOf, spanOf, LastRow, beginning, SpansRoom, MadeWrap};
 
 // What is kept of the rows pushed: their number, the start of the row `first`, the end of the row `last`, the end of the row pushed last.
 pub struct Tally {
@@ -339,4 +339,25 @@ pub fn begin(first: usize, last: usize) -> WrapState
             ended: Column(0),
         },
     }
+}
+
+// The rows of the first `count` spans of a line.
+pub fn make_wrap(
+    spans: &[Span],
+    line: &[u8],
+    rows: &mut [usize],
+    wrapping: Wrapping,
+    state: WrapState,
+    count: usize,
+) -> Tally
+    requires { ⌜ SpansRoom (now spans) (now line) state count ⌝ }
+    ensures { λ r. ⌜ MadeWrap (profileOf (wrapping .profile)) (wrapping .width .0) (wrapping .mode) (now (line .entry)) (take count (now (spans .entry))) (now (rows .entry)) state (now (rows .exit)) r ⌝ }
+{
+    let mut t = state;
+    let mut i = 0;
+    while i < count {
+        t = split_span(line, rows, wrapping, t, spans[i]);
+        i += 1;
+    }
+    last_row(rows, wrapping, t)
 }
