@@ -20,6 +20,7 @@ use Rattle.rows.specs.declared.words.Word as code
 use Rattle.rows.specs.Rows.{Row, row, Wrap, wrap, unit, byClusters, longWord, oneWord, byWords, splitText, tabbed}
 use Rattle.rows.specs.declared.wrap.Tally.{Tally}
 use Rattle.rows.specs.declared.wrap.WrapState.{WrapState}
+pub mod Laws
 
 -- ---- parts of a text
 
@@ -162,6 +163,11 @@ pub record Stepped (l : List ℕ) (t : WrapState) (f : Wrap → Wrap) (n m : ℕ
 
 -- ---- spans
 
+-- room for a span of a line of len bytes, which a buffer holds
+pub record SpanRoom (buffer : List ℕ) (len : ℕ) (t : WrapState) : Type 0 where
+  pub held : len ≤ length buffer
+  pub room : Room t (2 * len + 8)
+
 module _ (P : Profile) (width : ℕ) where
   -- what a record of the line does
   unfoldable pub recordIn : Bool → List ℕ → Record → Wrap → Wrap
@@ -206,10 +212,11 @@ beginning first last =
     }
 
 -- the first n spans of a converted line, few enough that all columns and rows fit a usize
-pub record SpansRoom (spans : List Record) (line : List ℕ) (t : WrapState) (n : ℕ) : Type 0 where
+pub record SpansRoom (spans : List Record) (buffer : List ℕ) (len : ℕ) (t : WrapState) (n : ℕ) : Type 0 where
   pub there : n ≤ length spans
   pub few : n ≤ 32768
-  pub short : length line ≤ 32768
+  pub short : len ≤ 32768
+  pub held : len ≤ length buffer
   pub low : t .start .0 ≤ t .position .0
   pub near : t .position .0 ≤ 4294967296
   pub more : t .tally .count ≤ 4294967296

@@ -14,7 +14,7 @@ ghost use Rattle.text.specs.Code.{profileOf};
 ghost use Rattle.rows.specs.Words.Laws.{firstWord};
 ghost use mathlib.Core.Bool.{cond};
 ghost use Rattle.rows.specs.Rows.{row, tabbed, pushed};
-ghost use Rattle.rows.specs.Contracts.{kept, keep, nextCount, tallied, Room, Stepped, unitOf, textAt, WordRoom, clustersOf, longWordOf, oneWordOf, wordsOf, textOf, spanOf, LastRow, beginning, SpansRoom, MadeWrap};
+ghost use Rattle.rows.specs.Contracts.{kept, keep, nextCount, tallied, Room, Stepped, unitOf, textAt, WordRoom, clustersOf, longWordOf, oneWordOf, wordsOf, textOf, spanOf, LastRow, beginning, SpanRoom, SpansRoom, MadeWrap};
 
 // What is kept of the rows pushed: their number, the start of the row `first`, the end of the row `last`, the end of the row pushed last.
 pub struct Tally {
@@ -33,11 +33,13 @@ pub struct WrapState {
     pub tally: Tally,
 }
 
-// How to wrap: the text profile, the width, and the mode (1 GraphemeBoundary, 2 WordBoundary).
+// How to wrap: the text profile, the width, the mode (0 Unwrapped, 1 GraphemeBoundary, 2 WordBoundary), and the length of the line in the
+// buffer that holds it.
 pub struct Wrapping {
     pub profile: Profile,
     pub width: Column,
     pub mode: usize,
+    pub len: usize,
 }
 
 fn choose(first: bool, a: Column, b: Column) -> Column
@@ -286,17 +288,23 @@ pub fn split_span(
     state: WrapState,
     span: Span,
 ) -> WrapState
-    requires { ⌜ Room state (2 * length (now line) + 8) ⌝ }
-    ensures { λ r. ⌜ Stepped (now (rows .entry)) state (spanOf (profileOf (wrapping .profile)) (wrapping .width .0) (wrapping .mode) (now (line .entry)) span) (2 * length (now (line .entry)) + 8) (2 * length (now (line .entry)) + 1) (now (rows .exit)) r ⌝ }
+    requires { ⌜ SpanRoom (now line) (wrapping .len) state ⌝ }
+    ensures { λ r. ⌜ Stepped (now (rows .entry)) state (spanOf (profileOf (wrapping .profile)) (wrapping .width .0) (wrapping .mode) (take (wrapping .len) (now (line .entry))) span) (2 * wrapping .len + 8) (2 * wrapping .len + 1) (now (rows .exit)) r ⌝ }
 {
     let width = wrapping.width;
     let kind = span.kind;
     let place = span.place;
+    let len = wrapping.len;
     if wrapping.mode == 0 {
         return state;
     }
     match kind {
-        1 | 2 => split_text(text_of(line, place, span.len), rows, wrapping, state),
+        1 | 2 => split_text(
+            text_of(&line[..len], place, span.len),
+            rows,
+            wrapping,
+            state,
+        ),
         3 | 4 => unit(rows, width, state, Column(4)),
         5 => unit(rows, width, state, Column(8)),
         10 => tab(rows, width, state),
@@ -350,8 +358,8 @@ pub fn make_wrap(
     state: WrapState,
     count: usize,
 ) -> Tally
-    requires { ⌜ SpansRoom (now spans) (now line) state count ⌝ }
-    ensures { λ r. ⌜ MadeWrap (profileOf (wrapping .profile)) (wrapping .width .0) (wrapping .mode) (now (line .entry)) (take count (now (spans .entry))) (now (rows .entry)) state (now (rows .exit)) r ⌝ }
+    requires { ⌜ SpansRoom (now spans) (now line) (wrapping .len) state count ⌝ }
+    ensures { λ r. ⌜ MadeWrap (profileOf (wrapping .profile)) (wrapping .width .0) (wrapping .mode) (take (wrapping .len) (now (line .entry))) (take count (now (spans .entry))) (now (rows .entry)) state (now (rows .exit)) r ⌝ }
 {
     let mut t = state;
     let mut i = 0;

@@ -57,7 +57,7 @@ use Rattle.spans.specs.declared.Span.{Span}
 use Rattle.spans.specs.Calls.{noRecord}
 use Rattle.spans.proofs.Span as T
 use Rattle.spans.proofs.Span.Laws as T′
-use Rattle.rows.specs.Contracts.{Room as Room′, Stepped, spanOf, LastRow, SpansRoom, MadeWrap}
+use Rattle.rows.specs.Contracts.{Stepped, spanOf, LastRow, SpanRoom, SpansRoom, MadeWrap}
 use Rattle.rows.specs.declared.wrap.Tally.{Tally}
 use Rattle.rows.specs.declared.wrap.WrapState.{WrapState}
 use Rattle.rows.specs.declared.wrap.Wrapping.{Wrapping}
@@ -136,7 +136,7 @@ Numbers = RefT (List ℕ)
 
 -- what `split_span` says of its result and of the row list's last numbers
 abbrev Said : Wrapping → List ℕ → WrapState → List ℕ → Span → WrapState → List ℕ → Type 0
-Said w l p bs x r zs = Stepped bs p (spanOf (profileOf (w .profile)) (w .width .0) (w .mode) l x) (2 * length l + 8) (2 * length l + 1) zs r
+Said w l p bs x r zs = Stepped bs p (spanOf (profileOf (w .profile)) (w .width .0) (w .mode) (take (w .len) l) x) (2 * w .len + 8) (2 * w .len + 1) zs r
 
 abbrev StepC : {M : Type 1} (𝓤 : URA M) (H : Heap 𝓤) (A : Atoms 𝓤) (mem : Memory → SProp 𝓤) (run : Routine → Fun 𝓤) → Contract 𝓤
 StepC 𝓤 H A mem run = tripleOf 𝓤 H A step.signature (step.spec 𝓤 H A mem run)
@@ -146,7 +146,7 @@ LastC 𝓤 H A mem run = tripleOf 𝓤 H A last.signature (last.spec 𝓤 H A me
 
 module _ {M : Type 1} (𝓤 : URA M) (H : Heap 𝓤) (A : Atoms 𝓤) (W : Given 𝓤 H A) (mem : Memory → SProp 𝓤) (run : Routine → Fun 𝓤) (κ κ′ κ″ : Lft) (q q′ q″ : Share) (b o : ℕ) (γ : GName) (ys : List Span) (line : Numbers) (bo oo : ℕ) (γ″ : GName) (bs : List ℕ) (w₀ : Wrapping) (p₀ : WrapState) (cnt : ℕ)
     (room : Room T.the-row (length ys)) (line-room : Room u8 (length (line .now))) (out-room : Room usize (length bs)) (w-is : Is G.the-row w₀ (vvals w₀)) (p-is : Is S.the-row p₀ (svals p₀)) (cnt-fits : cnt < 2 ^ 64)
-    (within : SpansRoom ys (line .now) p₀ cnt) where
+    (within : SpansRoom ys (line .now) (w₀ .len) p₀ cnt) where
   abbrev n : ℕ
   n = length ys
 
@@ -200,9 +200,9 @@ module _ {M : Type 1} (𝓤 : URA M) (H : Heap 𝓤) (A : Atoms 𝓤) (W : Given
   t-typed y is = LL.lawful T.the-type T′.the-laws 𝓤 H A W .typed y _ is .0
 
   abbrev So : ℕ → List ℕ → WrapState → Type 0
-  So i l t = Spanning (profileOf (w₀ .profile)) (w₀ .width .0) (w₀ .mode) (line .now) ys cnt bs p₀ i l t
+  So i l t = Spanning (profileOf (w₀ .profile)) (w₀ .width .0) (w₀ .mode) (take (w₀ .len) (line .now)) ys cnt bs p₀ i l t
 
-  exits : (r : Tally) (zs : List ℕ) → MadeWrap (profileOf (w₀ .profile)) (w₀ .width .0) (w₀ .mode) (line .now) (take cnt ys) bs p₀ zs r → length zs ≡ m → Is R.the-row r (rvals r)
+  exits : (r : Tally) (zs : List ℕ) → MadeWrap (profileOf (w₀ .profile)) (w₀ .width .0) (w₀ .mode) (take (w₀ .len) (line .now)) (take cnt ys) bs p₀ zs r → length zs ≡ m → Is R.the-row r (rvals r)
       → ent 𝓤 (⋆ 𝓤 H A (‵ (flft κ q) ∷ SpansOwn ∷ ‵ (flft κ′ q′) ∷ LineOwn ∷ ‵ (flft κ″ q″) ∷ OutOwn zs m ∷ [])) (Post (rmach r))
   exits r zs e len is =
       qed W (‵ (flft κ q) ∷ SpansOwn ∷ ‵ (flft κ′ q′) ∷ LineOwn ∷ ‵ (flft κ″ q″) ∷ OutOwn zs m ∷ []) ∵
@@ -245,7 +245,7 @@ module _ {M : Type 1} (𝓤 : URA M) (H : Heap 𝓤) (A : Atoms 𝓤) (W : Given
       omega (arith, less),
       subst (Is S.the-row r) (LL.tells S.the-type S′.the-laws r _ is) is,
       l ∙ t .5,
-      spans-turn (profileOf (w₀ .profile)) (w₀ .width .0) (w₀ .mode) (line .now) ys cnt bs p₀ within (t .0) (t .2) (t .1) (t .6) zs r less e,
+      spans-turn (profileOf (w₀ .profile)) (w₀ .width .0) (w₀ .mode) (line .now) (w₀ .len) ys cnt bs p₀ within (t .0) (t .2) (t .1) (t .6) zs r less e,
     )
 
   module _ (𝓣 : Tables 𝓤 H) (fm : FmC 𝓤 H (W .laws) (𝓣 .C)) (known : Triple 𝓤 (𝓣 .C #rows·split-span) (StepC 𝓤 H A mem run)) (known-last : Triple 𝓤 (𝓣 .C #rows·last-row) (LastC 𝓤 H A mem run)) where
@@ -260,7 +260,7 @@ module _ {M : Type 1} (𝓤 : URA M) (H : Heap 𝓤) (A : Atoms 𝓤) (W : Given
     to-step ν δ zs p y = (((κ′, (ν ∷ [], tt)), (q′, (fullShare, tt)), tt, (line, (x δ zs, (w₀, (p, (y, tt))))), (lv ∷ [], (ov m ∷ [], (vmach w₀ ∷ [], (smach p ∷ [], (tmach y ∷ [], tt)))))), tt)
 
     -- what `split_span` asks
-    goes-step : (ν : ℕ) (δ : GName) (zs : List ℕ) (p : WrapState) (y : Span) → Room′ p (2 * length (line .now) + 8) → Is S.the-row p (svals p) → Is T.the-row y (tvals y)
+    goes-step : (ν : ℕ) (δ : GName) (zs : List ℕ) (p : WrapState) (y : Span) → SpanRoom (line .now) (w₀ .len) p → Is S.the-row p (svals p) → Is T.the-row y (tvals y)
         → ent 𝓤 (sep 𝓤 (sep 𝓤 (A .lft κ′ q′) (A .lft (ν ∷ []) fullShare)) (sep 𝓤 (sem 𝓤 H A (ShrSlice (named 1) κ′ u8 .own line (lv ∷ []))) (sem 𝓤 H A (MutSlice (named 1) (ν ∷ []) usize .own (x δ zs) (ov m ∷ []))))) (StepC 𝓤 H A mem run .pre (to-step ν δ zs p y))
     goes-step ν δ zs p y asked is is′ = qed W ((‵ (flft κ′ q′) ⊛ ‵ (flft (ν ∷ []) fullShare)) ∷ LineOwn ∷ ‵ (MutSlice (named 1) (ν ∷ []) usize .own (x δ zs) (ov m ∷ [])) ∷ []) ∵
         says ! asked $ split ! $ nothing ! $ move ! (2 ∷ 0 ∷ []) $ join ! $ move ! (1 ∷ 0 ∷ []) $ join ! $
@@ -335,7 +335,7 @@ module _ {M : Type 1} (𝓤 : URA M) (H : Heap 𝓤) (A : Atoms 𝓤) (W : Given
           rewrite ! 0 (λ (k : ℕ). ‵ (MutSlice (named 1) (ν ∷ []) usize .own (x δ (t .2)) (ov k ∷ []))) (t .5) refl $
           -- [the new slice; the lender's part; ν's token; spans' token; what spans owns; line's token; what line owns; _16; …]
           move ! (6 ∷ []) $ use1 W (LineOwn ⊛ LineOwn) (shr-slice-copy 𝓤 H A W (named 1) κ′ u8 .twice line (lv ∷ [])) $ split ! $
-          move ! (7 ∷ 4 ∷ 0 ∷ 2 ∷ []) $ join ! $ use3 W (raw (StepC 𝓤 H A mem run .pre (to-step ν δ (t .2) (t .1) (elem t less)))) (goes-step ν δ (t .2) (t .1) (elem t less) (turn-room (profileOf (w₀ .profile)) (w₀ .width .0) (w₀ .mode) (line .now) ys cnt bs p₀ within (t .0) (t .2) (t .1) (t .6) less) (t .4) el-is) $
+          move ! (7 ∷ 4 ∷ 0 ∷ 2 ∷ []) $ join ! $ use3 W (raw (StepC 𝓤 H A mem run .pre (to-step ν δ (t .2) (t .1) (elem t less)))) (goes-step ν δ (t .2) (t .1) (elem t less) (turn-room (profileOf (w₀ .profile)) (w₀ .width .0) (w₀ .mode) (line .now) (w₀ .len) ys cnt bs p₀ within (t .0) (t .2) (t .1) (t .6) less) (t .4) el-is) $
           calls-at ! fm (StepC 𝓤 H A mem run) known (to-step ν δ (t .2) (t .1) (elem t less)) (and-then ! (load ! (from ! (stop !)) (look ! 33 refl)) (and-then ! (load ! (from ! (stop !)) (look ! 15 refl)) (and-then ! (load ! (from ! (stop !)) (look ! 29 refl)) (and-then ! (load ! (from ! (stop !)) (look ! 23 refl)) (and-then ! (load ! (from ! (stop !)) (look ! 9 refl)) (no-more !)))))) (λ v.
           use1 W (later (some (λ (r : WrapState). ((‵ (flft κ′ q′) ⊛ ‵ (flft (ν ∷ []) fullShare) ⊛ ‵ ftrue) ⊛ ‵ (S.the-row .own r (v ∷ []))) ⊛ raw (ensured 𝓤 H A step.ended (step.clauses 𝓤 H A mem run) (κ′, (ν ∷ [], tt)) (line, (x δ (t .2), (w₀, (t .1, (elem t less, tt))))) tt r)))) (id⊢ 𝓤 _) $ await ! tt $ pick ! (λ r.
           -- what `split_span` ensures, at some last numbers
@@ -384,13 +384,13 @@ module _ {M : Type 1} (𝓤 : URA M) (H : Heap 𝓤) (A : Atoms 𝓤) (W : Given
           move ! (2 ∷ []) $ drop ! $ move ! (2 ∷ []) $ drop ! $ move ! (2 ∷ 3 ∷ 4 ∷ 5 ∷ 1 ∷ 0 ∷ []) $
           returns ! (look ! 38 refl) $ forget ! 6 refl $ forget ! 8 refl $ forget ! 20 refl $ forget ! 22 refl $ forget ! 24 refl $ forget ! 26 refl $ forget ! 28 refl $ forget ! 30 refl $ forget ! 32 refl $ forget ! 34 refl $ forget ! 36 refl $ forget ! 38 refl $
           move ! (38 ∷ 39 ∷ []) $ free1 ! $ move ! (36 ∷ 37 ∷ []) $ free1 ! $ move ! (34 ∷ 35 ∷ []) $ free1 ! $ move ! (32 ∷ 33 ∷ []) $ free1 ! $ move ! (30 ∷ 31 ∷ []) $ free1 ! $ move ! (28 ∷ 29 ∷ []) $ free1 ! $ move ! (26 ∷ 27 ∷ []) $ free1 ! $ move ! (24 ∷ 25 ∷ []) $ free1 ! $ move ! (22 ∷ 23 ∷ []) $ free1 ! $ move ! (20 ∷ 21 ∷ []) $ free1 ! $ move ! (18 ∷ 19 ∷ []) $ free1 ! $ move ! (16 ∷ 17 ∷ []) $ free1 ! $ move ! (14 ∷ 15 ∷ []) $ free1 ! $ move ! (12 ∷ 13 ∷ []) $ free1 ! $ move ! (10 ∷ 11 ∷ []) $ free1 ! $ move ! (8 ∷ 9 ∷ []) $ free1 ! $ move ! (6 ∷ 7 ∷ []) $ free1 ! $ free0 ! $
-          by ! (exits r (zs .0) (spans-end (profileOf (w₀ .profile)) (w₀ .width .0) (w₀ .mode) (line .now) ys cnt bs p₀ within (t .0) (t .2) (t .1) (t .6) (zs .0) r same e) (l ∙ t .5) (subst (Is R.the-row r) (LL.tells R.the-type R′.the-laws r _ r-is) r-is))))))))))
+          by ! (exits r (zs .0) (spans-end (profileOf (w₀ .profile)) (w₀ .width .0) (w₀ .mode) (line .now) (w₀ .len) ys cnt bs p₀ within (t .0) (t .2) (t .1) (t .6) (zs .0) r same e) (l ∙ t .5) (subst (Is R.the-row r) (LL.tells R.the-type R′.the-laws r _ r-is) r-is))))))))))
 
       turns : (t : Turn) → Sq W (At t) (runs C Λ En mir.turn-1 (anyQ (Turned t)))
       turns t = elim (eq-or-lt-of-le (t .3)) [ inl e ↦ ends t e | inr less ↦ more t less ]
 
       abbrev begun : Turn
-      begun = (0, p₀, bs, omega arith, p-is, refl, spans-begin (profileOf (w₀ .profile)) (w₀ .width .0) (w₀ .mode) (line .now) ys cnt bs p₀ within)
+      begun = (0, p₀, bs, omega arith, p-is, refl, spans-begin (profileOf (w₀ .profile)) (w₀ .width .0) (w₀ .mode) (line .now) (w₀ .len) ys cnt bs p₀ within)
 
       looped : Sq W (At begun) (runs C Λ En mir.t-3 (atRet En Post))
       looped = first ! $ blocks ! $ loops ! 𝓣 Nearer Nearer-wf At turns begun
@@ -414,7 +414,7 @@ module _ {M : Type 1} (𝓤 : URA M) (H : Heap 𝓤) (A : Atoms 𝓤) (W : Given
   fold-walks = walked 𝓤 H A fold.ended stayed (fold.clauses 𝓤 H A mem run) (WpFn 𝓤 H (𝓣 .C) (𝓣 .Λ) code.function)
       (λ κs. (slice-vals, (slice-vals, (slice-vals, (vvals, (svals, (uint-vals w64, tt)))))))
       (λ κs. (shr-slice-tells (named 0) (κs .0) T.the-row, (shr-slice-tells (named 1) (κs .1 .0) u8, (mut-slice-tells (named 2) (κs .1 .1 .0) usize, (LL.tells G.the-type G′.the-laws, (LL.tells S.the-type S′.the-laws, (uint-tells w64, tt)))))))
-      (λ κs qs bounds a g are. needs 𝓤 (SpansRoom (a .0 .now) (a .1 .0 .now) (a .1 .1 .1 .1 .0) (a .1 .1 .1 .1 .1 .0)) _ (λ within.
+      (λ κs qs bounds a g are. needs 𝓤 (SpansRoom (a .0 .now) (a .1 .0 .now) (a .1 .1 .1 .0 .len) (a .1 .1 .1 .1 .0) (a .1 .1 .1 .1 .1 .0)) _ (λ within.
       walk 𝓤 H A W mem run (κs .0) (κs .1 .0) (κs .1 .1 .0) (qs .0) (qs .1 .0) (qs .1 .1 .0) (a .0 .ptr .0) (a .0 .ptr .1) (a .0 .name) (a .0 .now) (a .1 .0) (a .1 .1 .0 .ptr .0) (a .1 .1 .0 .ptr .1) (a .1 .1 .0 .name) (a .1 .1 .0 .now) (a .1 .1 .1 .0) (a .1 .1 .1 .1 .0) (a .1 .1 .1 .1 .1 .0)
       (are .0 .0 .1) (are .1 .0 .0 .1) (are .1 .1 .0 .0 .1) (are .1 .1 .1 .0) (are .1 .1 .1 .1 .0) (are .1 .1 .1 .1 .1 .0 .1) within 𝓣 (fmOf 𝓤 H (W .laws) 𝓣) known known-last))
 
