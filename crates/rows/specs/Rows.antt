@@ -9,6 +9,7 @@ use Rattle.text.specs.Width.{widthOf}
 use Rattle.text.specs.Cluster.{clusters}
 use Rattle.spans.specs.Spans.{Content, text, control, invalid, unprintable, escape, tab, crlf, lf, Span}
 use Rattle.rows.specs.Words.{Word, words}
+pub mod Laws
 pub mod Noise
 
 pub record Row : Type 0 where

@@ -4,6 +4,7 @@ use mathlib.Core.List.{List, [], _∷_}
 use lib.Dec.{eqb}
 use Rattle.text.specs.Utf8.{Scalar}
 use Rattle.text.specs.Class.{whitespace}
+pub mod Laws
 
 pub record Word : Type 0 where
   pub word : List Scalar

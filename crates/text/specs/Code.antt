@@ -23,6 +23,7 @@ use Rattle.text.specs.declared.overstrike.Overstrike.{Overstrike}
 use Rattle.text.specs.declared.overstrike.Progress.{Progress}
 use Rattle.text.specs.declared.utf8.Sequence.{Sequence}
 use Rattle.text.specs.declared.class.Profile as code
+pub mod Laws
 
 -- document 01's profile, whatever the version: other versions join it as cases
 unfoldable pub profileOf : code.Profile → Profile

@@ -127,10 +127,14 @@ runsOf-valid all-nil = all-nil
 runsOf-valid (all-cons (ValidDecoded.valid {c = c} h) e) = addToRun-valid c h (runsOf-valid e)
 runsOf-valid (all-cons ValidDecoded.ill e) = all-cons ill (runsOf-valid e)
 
+-- what is decoded holds valid scalars
+pub decode-valid : (s : List ℕ) → All ValidDecoded (decode s)
+unfolding decode
+decode-valid s = decodeFrom-valid zero s
+
 -- the runs of a line hold valid scalars
 pub runs-valid : (s : List ℕ) → All ValidPiece (runs (decode s))
-unfolding decode
-runs-valid s = runsOf-valid (decodeFrom-valid zero s)
+runs-valid s = runsOf-valid (decode-valid s)
 
 -- a valid text is decoded again from its bytes
 pub decode-text : {s : List Scalar} → All Valid s → (t : List ℕ) → decode (bytesOf s ++ t) ≡ map wellFormed s ++ decode t

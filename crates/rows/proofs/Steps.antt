@@ -1,0 +1,129 @@
+-- The ends of the functions that push a row or none.
+use mathlib.Core.Path.{_≡_, refl, sym, ap, _∙_}
+use Prim.Native.Nat.{ℕ, _+_, _-_, _*_, _/_, _%_, _≤_, _<_, _^_}
+use native.Mathlib.Nat.{add-zero}
+use native.Mathlib.Omega.{arith}
+use mathlib.Core.Bool.{Bool, cond, _||_}
+use mathlib.Core.List.{List, [], _∷_}
+use mathlib.Core.Logic.{_≢_}
+use lib.ListN.{length, set}
+use lib.Dec.{leb, ltb, eqb}
+use borrow.Author.Tests.{le-leb, lt-leb, lt-ltb, le-ltb, eq-eqb, ne-eqb}
+use Rattle.text.specs.Tests.{cases}
+use Rattle.text.specs.declared.Column.{Column}
+use Rattle.rows.specs.Rows.{Row, row, Wrap, wrap, unit, tabbed, pushed}
+use Rattle.rows.specs.Contracts.{column, nextCount, tallied, pairAt, Kept, kept, keep, keeps, Held, held, on, Room, Stepped, unitOf, lastKept, LastRow}
+use Rattle.rows.specs.declared.wrap.Tally.{Tally}
+use Rattle.rows.specs.declared.wrap.WrapState.{WrapState}
+
+pub count-on : (n : ℕ) → n < 0xFFFF_FFFF_FFFF_FFFF → n + 1 ≡ nextCount n
+unfolding nextCount
+count-on n h = rw (lt-ltb n 0xFFFF_FFFF_FFFF_FFFF h)
+
+pub count-full : (n : ℕ) → 0xFFFF_FFFF_FFFF_FFFF ≤ n → n ≡ nextCount n
+unfolding nextCount
+count-full n h = rw (le-ltb n 0xFFFF_FFFF_FFFF_FFFF h)
+
+next-le : (n : ℕ) → nextCount n ≤ n + 1
+unfolding nextCount
+next-le n = cases (ltb n 0xFFFF_FFFF_FFFF_FFFF) (λ e. rw e (omega arith)) (λ e. rw e (omega arith))
+
+-- ---- push_row
+
+pub tally-is : (t : Tally) (a b from to : Column) (n : ℕ) → n ≡ nextCount (t .count) → from ≡ cond (eqb (t .count) (t .first)) a (t .start) → to ≡ cond (eqb (t .count) (t .last)) b (t .end)
+    → record { count = n; first = t .first; last = t .last; start = from; end = to; ended = b } ≡ tallied t (row (a .0) (b .0))
+unfolding tallied
+tally-is t a b from to n e f g = rw (e, f, g)
+
+pub row-written : (l : List ℕ) (t r : Tally) (a b : Column) → t .count < length l / 2 → r ≡ tallied t (row (a .0) (b .0))
+    → kept (set (set l (2 * t .count) (a .0)) (2 * t .count + 1) (b .0)) r ≡ keep (kept l t) (row (a .0) (b .0))
+unfolding keep pairAt
+row-written l t r a b h e = rw (lt-ltb (t .count) (length l / 2) h, e)
+
+pub row-counted : (l : List ℕ) (t r : Tally) (a b : Column) → length l / 2 ≤ t .count → r ≡ tallied t (row (a .0) (b .0)) → kept l r ≡ keep (kept l t) (row (a .0) (b .0))
+unfolding keep pairAt
+row-counted l t r a b h e = rw (le-ltb (t .count) (length l / 2) h, e)
+
+-- ---- a step that pushes nothing, and one that pushes a row
+
+module _ (l : List ℕ) (st : WrapState) (f : Wrap → Wrap) (n : ℕ) (s p : Column) (low : s .0 ≤ p .0) (near : p .0 ≤ st .position .0 + n) where
+  pub stays : (m : ℕ) → f (wrap [] (st .start .0) (st .position .0)) ≡ wrap [] (s .0) (p .0) → Stepped l st f n m l (record { start = s; position = p; tally = st .tally })
+  unfolding on keeps
+  stays m e = record { same = rw e; low = low; near = near; more = omega arith }
+
+  pushes : (l′ : List ℕ) (r : Tally) (a b : ℕ) → f (wrap [] (st .start .0) (st .position .0)) ≡ wrap (row a b ∷ []) (s .0) (p .0) → kept l′ r ≡ keep (kept l (st .tally)) (row a b)
+      → Stepped l st f n 1 l′ (record { start = s; position = p; tally = r })
+  unfolding on keeps keep tallied
+  pushes l′ r a b e k =
+      record {
+        same = rw e (ap (λ (x : Kept). record { kept = x; start = s .0; position = p .0 }) k);
+        low = low;
+        near = near;
+        more = omega (arith, ap (λ (x : Kept). x .tally .count) k, next-le (st .tally .count));
+      }
+
+module _ (l : List ℕ) (st : WrapState) (width n : ℕ) (room : Room st n) where
+  pub unit-stays : st .position .0 + n - st .start .0 ≤ width
+      → Stepped l st (unitOf width n) n 1 l (record { start = st .start; position = column (st .position .0 + n); tally = st .tally })
+  unfolding unitOf unit
+  unit-stays h = stays l st (unitOf width n) n (st .start) (column (st .position .0 + n)) (omega arith) (omega arith) 1 (rw (le-leb (st .position .0 + n - st .start .0) width h))
+
+  pub unit-wraps : (l′ : List ℕ) (r : Tally) → width < st .position .0 + n - st .start .0 → kept l′ r ≡ keep (kept l (st .tally)) (row (st .start .0) (st .position .0))
+      → Stepped l st (unitOf width n) n 1 l′ (record { start = st .position; position = column (st .position .0 + n); tally = r })
+  unfolding unitOf unit
+  unit-wraps l′ r h k =
+      pushes l st (unitOf width n) n (st .position) (column (st .position .0 + n)) (omega arith) (omega arith) l′ r (st .start .0) (st .position .0)
+      (rw (lt-leb (st .position .0 + n - st .start .0) width h)) k
+
+module _ (l : List ℕ) (st : WrapState) (width : Column) (room : Room st 8) where
+  abbrev stop : ℕ
+  stop = st .position .0 + (8 - st .position .0 % 8)
+
+  pub tab-stays : stop - st .start .0 ≤ width .0 → Stepped l st (tabbed (width .0)) 8 1 l (record { start = st .start; position = column stop; tally = st .tally })
+  unfolding tabbed
+  tab-stays h = stays l st (tabbed (width .0)) 8 (st .start) (column stop) (omega arith) (omega arith) 1 (rw (le-leb (stop - st .start .0) (width .0) h))
+
+  pub tab-wraps : (l′ : List ℕ) (r : Tally) → width .0 < stop - st .start .0 → kept l′ r ≡ keep (kept l (st .tally)) (row (st .start .0) stop)
+      → Stepped l st (tabbed (width .0)) 8 1 l′ (record { start = column stop; position = column stop; tally = r })
+  unfolding tabbed
+  tab-wraps l′ r h k =
+      pushes l st (tabbed (width .0)) 8 (column stop) (column stop) (omega arith) (omega arith) l′ r (st .start .0) stop
+      (rw (lt-leb (stop - st .start .0) (width .0) h)) k
+
+module _ (l : List ℕ) (st : WrapState) (room : Room st 0) where
+  pub held-none : st .start .0 ≡ st .position .0 → Stepped l st pushed 0 1 l st
+  unfolding pushed
+  held-none h = stays l st pushed 0 (st .start) (st .position) (omega arith) (omega arith) 1 (rw (eq-eqb (st .start .0) (st .position .0) h))
+
+  pub held-pushed : (l′ : List ℕ) (r : Tally) → (st .start .0 ≢ st .position .0) → kept l′ r ≡ keep (kept l (st .tally)) (row (st .start .0) (st .position .0))
+      → Stepped l st pushed 0 1 l′ (record { start = st .position; position = st .position; tally = r })
+  unfolding pushed
+  held-pushed l′ r h k =
+      pushes l st pushed 0 (st .position) (st .position) (omega arith) (omega arith) l′ r (st .start .0) (st .position .0)
+      (rw (ne-eqb (st .start .0) (st .position .0) h)) k
+
+-- ---- the last row
+
+keep-more : (l l′ : List ℕ) (t r : Tally) (w : Row) → kept l′ r ≡ keep (kept l t) w → r .count ≤ t .count + 1
+unfolding keep tallied
+keep-more l l′ t r w k = omega (arith, ap (λ (x : Kept). x .tally .count) k, next-le (t .count))
+
+module _ (l : List ℕ) (st : WrapState) (mode : ℕ) where
+  pub last-unwrapped : (l′ : List ℕ) (r : Tally) → mode ≡ 0 → kept l′ r ≡ keep (kept l (st .tally)) (row 0 0xFFFF_FFFF_FFFF_FFFF) → LastRow l st mode l′ r
+  unfolding lastKept
+  last-unwrapped l′ r e k = record { same = rw (eq-eqb mode 0 e) k; more = keep-more l l′ (st .tally) r (row 0 0xFFFF_FFFF_FFFF_FFFF) k }
+
+  module _ (e : mode ≢ 0) where
+    pub last-some : (l′ : List ℕ) (r : Tally) → st .start .0 < st .position .0 → kept l′ r ≡ keep (kept l (st .tally)) (row (st .start .0) (st .position .0)) → LastRow l st mode l′ r
+    unfolding lastKept
+    last-some l′ r h k = record { same = rw (ne-eqb mode 0 e, lt-ltb (st .start .0) (st .position .0) h) k; more = keep-more l l′ (st .tally) r (row (st .start .0) (st .position .0)) k }
+
+    module _ (h : st .position .0 ≤ st .start .0) where
+      pub last-only : (l′ : List ℕ) (r : Tally) → st .tally .count ≡ 0 → kept l′ r ≡ keep (kept l (st .tally)) (row (st .start .0) (st .position .0)) → LastRow l st mode l′ r
+      unfolding lastKept
+      last-only l′ r z k =
+          record { same = rw (ne-eqb mode 0 e, le-ltb (st .start .0) (st .position .0) h, eq-eqb (st .tally .count) 0 z) k; more = keep-more l l′ (st .tally) r (row (st .start .0) (st .position .0)) k }
+
+      pub last-none : (st .tally .count ≢ 0) → LastRow l st mode l (st .tally)
+      unfolding lastKept
+      last-none z = record { same = rw (ne-eqb mode 0 e, le-ltb (st .start .0) (st .position .0) h, ne-eqb (st .tally .count) 0 z); more = omega arith }

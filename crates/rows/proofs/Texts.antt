@@ -1,0 +1,316 @@
+-- Texts wrapped by clusters and by words: steps one after the other, and the loops.
+use mathlib.Core.Path.{_≡_, refl, sym, ap, _∙_}
+use Prim.Native.Nat.{ℕ, _+_, _-_, _*_, _≤_, _<_}
+use native.Mathlib.Nat.{add-zero}
+use native.Mathlib.Omega.{arith}
+use mathlib.Core.Bool.{Bool, true, false, cond}
+use mathlib.Core.List.{List, [], _∷_, _++_, append-assoc}
+use mathlib.Core.Logic.{_≢_}
+use lib.ListN.{length, drop, take, length-take}
+use lib.Seq.{drop-drop}
+use lib.Dec.{eqb, leb}
+use borrow.Author.Tests.{le-leb, lt-leb, eq-eqb, ne-eqb}
+use Rattle.text.specs.Each.{All, all-nil, all-cons}
+use Rattle.text.specs.Utf8.{Scalar, decode}
+use Rattle.text.specs.Utf8.Valid.{Valid}
+use Rattle.text.specs.Class.{Profile}
+use Rattle.text.specs.Width.{widthOf}
+use Rattle.text.specs.Cluster.{clusters}
+use Rattle.text.specs.Code.{runOf, size, firstOf, profileOf}
+use Rattle.text.specs.Code.Laws.{none-past, run-valid, run-front, run-behind, size-append, FirstCluster, first-cluster}
+use Rattle.text.specs.Cluster.Laws.{clusters-first, further}
+use Rattle.text.specs.declared.BytePlace.{BytePlace}
+use Rattle.text.specs.declared.Column.{Column}
+use Rattle.rows.specs.Words.{Word, aWord, words}
+use Rattle.rows.specs.Words.Laws.{firstWord, restWords, first-word-all, first-word-some, words-first}
+use Rattle.rows.specs.Rows.{Row, row, Wrap, wrap, unit, pushed, byClusters, byWords, longWord, oneWord, splitText}
+use Rattle.rows.specs.Rows.Laws.{over, Natural, byClusters-over, longWord-over, byWords-over}
+use Rattle.rows.specs.Contracts.{column, textAt, Measured, WordAt, WordRoom, Kept, kept, keep, keeps, Held, held, on, Room, Stepped, unitOf, clustersOf, longWordOf, oneWordOf, wordsOf, textOf}
+use Rattle.rows.specs.declared.words.Stretch.{Stretch}
+use Rattle.rows.specs.declared.words.Word as code
+use Rattle.rows.specs.declared.wrap.WrapState.{WrapState}
+use Rattle.rows.proofs.Parts.{behind-stretch}
+use Rattle.rows.proofs.Steps.{stays}
+
+-- ---- one after the other
+
+keeps-append : (k : Kept) (a b : List Row) → keeps k (a ++ b) ≡ keeps (keeps k b) a
+unfolding keeps
+keeps-append k [] b = refl
+keeps-append k (r ∷ a) b = ap (λ (x : Kept). keep x r) (keeps-append k a b)
+
+holding : Kept → Wrap → Held
+holding k t = record { kept = keeps k (t .rows); start = t .start; position = t .position }
+
+holding-over : (k : Kept) (rs : List Row) (t : Wrap) → holding k (over rs t) ≡ holding (keeps k rs) t
+unfolding holding over
+holding-over k rs t = ap (λ (x : Kept). record { kept = x; start = t .start; position = t .position }) (keeps-append k (t .rows) rs)
+
+on-at : (f g : Wrap → Wrap) (h : Held) → f (wrap [] (h .start) (h .position)) ≡ g (wrap [] (h .start) (h .position)) → on f h ≡ on g h
+unfolding on holding
+on-at f g h e = ap (holding (h .kept)) e
+
+pub on-then : (f g : Wrap → Wrap) (h : Held) → Natural g → on g (on f h) ≡ on (λ (t : Wrap). g (f t)) h
+unfolding on holding over
+on-then f g h n =
+    let t : Wrap = f (wrap [] (h .start) (h .position)) in
+    sym (ap (holding (h .kept)) (n (t .rows) (wrap [] (t .start) (t .position))) ∙ holding-over (h .kept) (t .rows) (g (wrap [] (t .start) (t .position))))
+
+pub on-id : (f : Wrap → Wrap) (h : Held) → ((t : Wrap) → f t ≡ t) → on f h ≡ h
+unfolding on holding keeps
+on-id f h e = ap (holding (h .kept)) (e (wrap [] (h .start) (h .position)))
+
+-- what is left to do: a turn, and the end
+module _ (run : Wrap → Wrap) (h : Held) {e : Held} (work : on run h ≡ e) where
+  pub turn : (step rest : Wrap → Wrap) (h′ : Held) → ((t : Wrap) → run t ≡ rest (step t)) → Natural rest → h′ ≡ on step h → on rest h′ ≡ e
+  turn step rest h′ q n s = ap (on rest) s ∙ on-then step rest h n ∙ sym (on-at run (λ (t : Wrap). rest (step t)) h (q (wrap [] (h .start) (h .position)))) ∙ work
+
+  pub done : ((t : Wrap) → run t ≡ t) → h ≡ e
+  done q = sym (on-id run h q) ∙ work
+
+-- two steps are one
+then-same : (f g F : Wrap → Wrap) (h h₁ h₂ : Held) → h₁ ≡ on f h → h₂ ≡ on g h₁ → Natural g → F (wrap [] (h .start) (h .position)) ≡ g (f (wrap [] (h .start) (h .position))) → h₂ ≡ on F h
+then-same f g F h h₁ h₂ p q n e = q ∙ ap (on g) p ∙ on-then f g h n ∙ sym (on-at F (λ (t : Wrap). g (f t)) h e)
+
+-- the same step under another name
+pub renamed : (l l′ : List ℕ) (t t′ : WrapState) (f g : Wrap → Wrap) (n m j k : ℕ) → ((w : Wrap) → f w ≡ g w) → n ≤ j → m ≤ k → Stepped l t f n m l′ t′ → Stepped l t g j k l′ t′
+renamed l l′ t t′ f g n m j k e h i s =
+    record { same = s .same ∙ on-at f g (held l t) (e (wrap [] (t .start .0) (t .position .0))); low = s .low; near = omega (arith, s .near); more = omega (arith, s .more) }
+
+pub record Stepping (F : List Scalar → Wrap → Wrap) (text l₀ : List ℕ) (t₀ : WrapState) (p : BytePlace) (l : List ℕ) (t : WrapState) : Type 0 where
+  pub inside : p .0 ≤ length text
+  pub long : length l ≡ length l₀
+  pub work : on (F (textAt text (p .0))) (held l t) ≡ on (F (textAt text 0)) (held l₀ t₀)
+  pub low : t .start .0 ≤ t .position .0
+  pub near : t .position .0 ≤ t₀ .position .0 + 2 * p .0
+
+-- ---- by clusters
+
+module _ (P : Profile) (width : ℕ) where
+  clusters-none : (s : List Scalar) → s ≡ [] → (t : Wrap) → clustersOf P width s t ≡ t
+  unfolding clustersOf byClusters clusters
+  clusters-none s e t = rw e
+
+  clusters-natural : (s : List Scalar) → Natural (clustersOf P width s)
+  unfolding clustersOf
+  clusters-natural s = byClusters-over P width (clusters P s)
+
+  clusters-more : (s rest : List Scalar) (n : ℕ) → clusters P s ≡ firstOf (clusters P s) ∷ clusters P rest → n ≡ widthOf P (firstOf (clusters P s))
+      → (t : Wrap) → clustersOf P width s t ≡ clustersOf P width rest (unitOf width n t)
+  unfolding clustersOf byClusters unitOf
+  clusters-more s rest n e v t = rw v (ap (byClusters P width t) e)
+
+-- a first cluster of no bytes is none
+first-there : (P : Profile) (s : List Scalar) → (size (firstOf (clusters P s)) ≢ 0) → FirstCluster P s
+unfolding size firstOf clusters
+first-there P [] z = absurd (z refl)
+first-there P (c ∷ s) z = first-cluster P c s
+
+first-none : (P : Profile) {s : List Scalar} → All Valid s → size (firstOf (clusters P s)) ≡ 0 → s ≡ []
+unfolding size firstOf
+first-none P all-nil z = refl
+first-none P (all-cons {a = c} {s = s} v a) z =
+    let e : size (c ∷ take (further P (c ∷ []) s) s) ≡ 0 = ap (λ (gs : List (List Scalar)). size (firstOf gs)) (sym (clusters-first P c s)) ∙ z in
+    absurd (omega (arith, v .some))
+
+pub record Breaking (P : Profile) (width : ℕ) (text l₀ : List ℕ) (t₀ : WrapState) (p : BytePlace) (l : List ℕ) (t : WrapState) : Type 0 where
+  pub so : Stepping (clustersOf P width) text l₀ t₀ p l t
+  pub more : t .tally .count ≤ t₀ .tally .count + p .0
+
+pub break-begin : (P : Profile) (width n : ℕ) (text l : List ℕ) (t : WrapState) → Room t n → Breaking P width text l t (record { 0 = 0 }) l t
+break-begin P width n text l t r = record { so = record { inside = omega arith; long = refl; work = refl; low = r .low; near = omega arith }; more = omega arith }
+
+module _ (P : Profile) (width : ℕ) (text l₀ : List ℕ) (t₀ : WrapState) (p : BytePlace) (l : List ℕ) (t : WrapState) (b : Breaking P width text l₀ t₀ p l t) where
+  abbrev now-text : List Scalar
+  now-text = textAt text (p .0)
+
+  break-done : now-text ≡ [] → Stepped l₀ t₀ (clustersOf P width (textAt text 0)) (2 * length text) (length text) l t
+  break-done e =
+      record {
+        same = done (clustersOf P width now-text) (held l t) (b .so .work) (clusters-none P width now-text e);
+        low = b .so .low;
+        near = omega (arith, b .so .near, b .so .inside);
+        more = omega (arith, b .more, b .so .inside);
+      }
+
+  pub break-end : length text ≤ p .0 → Stepped l₀ t₀ (clustersOf P width (textAt text 0)) (2 * length text) (length text) l t
+  break-end h = break-done (none-past text (p .0) h)
+
+  module _ (g : Stretch) (m : Measured P text (p .0) (firstOf (clusters P now-text)) g) where
+    pub break-stop : g .end .0 ≡ p .0 → Stepped l₀ t₀ (clustersOf P width (textAt text 0)) (2 * length text) (length text) l t
+    break-stop h = break-done (first-none P (run-valid (drop (p .0) text)) (omega (arith, m .end)))
+
+    pub break-turn : (l′ : List ℕ) (t′ : WrapState) → (g .end .0 ≢ p .0) → Stepped l t (unitOf width (g .width .0)) (g .width .0) 1 l′ t′ → length l′ ≡ length l
+        → Breaking P width text l₀ t₀ (g .end) l′ t′
+    break-turn l′ t′ z s k =
+        let f = first-there P now-text (λ o. z (m .end ∙ rw o (add-zero (p .0)))) in
+        let r : textAt text (g .end .0) ≡ f .rest = behind-stretch P text (p .0) (firstOf (clusters P now-text)) (f .rest) g m (f .text) in
+        record {
+          so = record {
+            inside = m .inside;
+            long = k ∙ b .so .long;
+            work = ap (λ (x : List Scalar). on (clustersOf P width x) (held l′ t′)) r
+                ∙ turn (clustersOf P width now-text) (held l t) (b .so .work) (unitOf width (g .width .0)) (clustersOf P width (f .rest)) (held l′ t′) (clusters-more P width now-text (f .rest) (g .width .0) (f .clusters) (m .width)) (clusters-natural P width (f .rest)) (s .same);
+            low = s .low;
+            near = omega (arith, s .near, b .so .near, m .small, m .end);
+          };
+          more = omega (arith, s .more, b .more, m .end, z);
+        }
+
+-- ---- a word
+
+-- its parts, and the text behind it
+module _ (P : Profile) (text : List ℕ) (at : ℕ) (v : code.Word) (w : WordAt P text at v) where
+  all-of : textAt text (at) ≡ firstWord (textAt text at) .word ++ (firstWord (textAt text at) .sep ++ restWords (textAt text (at)))
+  all-of = first-word-all (textAt text (at)) ∙ append-assoc (firstWord (textAt text at) .word) (firstWord (textAt text at) .sep) (restWords (textAt text (at)))
+
+  behind-word : textAt text (v .word .0) ≡ firstWord (textAt text at) .sep ++ restWords (textAt text (at))
+  behind-word = rw (w .word, ← drop-drop (size (firstWord (textAt text at) .word)) (at) text) (run-behind (drop (at) text) (firstWord (textAt text at) .word) _ all-of)
+
+  word-part : textAt (take (v .word .0 - at) (drop (at) text)) 0 ≡ firstWord (textAt text at) .word
+  word-part =
+      let n : v .word .0 - at ≡ size (firstWord (textAt text at) .word) = omega (arith, w .word) in
+      rw n (run-front (drop (at) text) (firstWord (textAt text at) .word) _ all-of)
+
+  sep-part : textAt (take (v .sep .0 - v .word .0) (drop (v .word .0) text)) 0 ≡ firstWord (textAt text at) .sep
+  sep-part =
+      let n : v .sep .0 - v .word .0 ≡ size (firstWord (textAt text at) .sep) = omega (arith, w .sep) in
+      rw n (run-front (drop (v .word .0) text) (firstWord (textAt text at) .sep) _ behind-word)
+
+  pub behind-all : textAt text (v .sep .0) ≡ restWords (textAt text (at))
+  behind-all = rw (w .sep, ← drop-drop (size (firstWord (textAt text at) .sep)) (v .word .0) text) (run-behind (drop (v .word .0) text) (firstWord (textAt text at) .sep) _ behind-word)
+
+module _ (P : Profile) (width : ℕ) (text : List ℕ) (at : BytePlace) (v : code.Word) (t : WrapState) (w : WordRoom P text (at .0) v t) where
+  abbrev theWord : Word
+  theWord = firstWord (textAt text (at .0))
+
+  word-end : t .position .0 + v .width .0 ≡ t .position .0 + widthOf P (theWord .word) + widthOf P (theWord .sep)
+  word-end = omega (arith, w .there .width)
+
+  pub long-fits : (l : List ℕ) → t .position .0 + v .width .0 - t .start .0 ≤ width
+      → Stepped l t (longWordOf P width theWord) (2 * (v .sep .0 - at .0)) (v .sep .0 - at .0) l (record { start = t .start; position = column (t .position .0 + v .width .0); tally = t .tally })
+  unfolding longWordOf longWord
+  long-fits l h =
+      stays l t (longWordOf P width theWord) (2 * (v .sep .0 - at .0)) (t .start) (column (t .position .0 + v .width .0)) (omega (arith, w .room .low)) (omega (arith, w .there .small)) (v .sep .0 - at .0)
+      (rw (← word-end, le-leb (t .position .0 + v .width .0 - t .start .0) width h))
+
+  pub one-fits : (l : List ℕ) → t .position .0 + v .width .0 - t .start .0 ≤ width
+      → Stepped l t (oneWordOf P width theWord) (2 * (v .sep .0 - at .0)) (v .sep .0 - at .0 + 1) l (record { start = t .start; position = column (t .position .0 + v .width .0); tally = t .tally })
+  unfolding oneWordOf oneWord
+  one-fits l h =
+      stays l t (oneWordOf P width theWord) (2 * (v .sep .0 - at .0)) (t .start) (column (t .position .0 + v .width .0)) (omega (arith, w .room .low)) (omega (arith, w .there .small)) (v .sep .0 - at .0 + 1)
+      (rw (← word-end, le-leb (t .position .0 + v .width .0 - t .start .0) width h))
+
+  pub one-wraps : (l l₁ l₂ : List ℕ) (t₁ t₂ : WrapState) → width < t .position .0 + v .width .0 - t .start .0 → Stepped l t pushed 0 1 l₁ t₁
+      → Stepped l₁ t₁ (longWordOf P width theWord) (2 * (v .sep .0 - at .0)) (v .sep .0 - at .0) l₂ t₂
+      → Stepped l t (oneWordOf P width theWord) (2 * (v .sep .0 - at .0)) (v .sep .0 - at .0 + 1) l₂ t₂
+  unfolding oneWordOf oneWord longWordOf
+  one-wraps l l₁ l₂ t₁ t₂ h a b =
+      record {
+        same = then-same pushed (longWordOf P width theWord) (oneWordOf P width theWord) (held l t) (held l₁ t₁) (held l₂ t₂) (a .same) (b .same) (longWord-over P width theWord)
+            (rw (← word-end, lt-leb (t .position .0 + v .width .0 - t .start .0) width h));
+        low = b .low;
+        near = omega (arith, a .near, b .near);
+        more = omega (arith, a .more, b .more);
+      }
+
+  pub sep-room : (f : Wrap → Wrap) (m : ℕ) (l l₁ : List ℕ) (t₁ : WrapState) → Stepped l t f (2 * length (take (v .word .0 - at .0) (drop (at .0) text))) m l₁ t₁
+      → Room t₁ (2 * length (take (v .sep .0 - v .word .0) (drop (v .word .0) text)))
+  sep-room f m l l₁ t₁ a =
+      let x : length (take (v .word .0 - at .0) (drop (at .0) text)) ≤ v .word .0 - at .0 = rw length-take (omega arith) in
+      let y : length (take (v .sep .0 - v .word .0) (drop (v .word .0) text)) ≤ v .sep .0 - v .word .0 = rw length-take (omega arith) in
+      record { low = a .low; room = omega (arith, a .near, x, y, w .there .word, w .there .sep, w .room .room) }
+
+  pub long-breaks : (l l₁ l₂ : List ℕ) (t₁ t₂ : WrapState) → width < t .position .0 + v .width .0 - t .start .0
+      → Stepped l t (clustersOf P width (textAt (take (v .word .0 - at .0) (drop (at .0) text)) 0)) (2 * length (take (v .word .0 - at .0) (drop (at .0) text))) (length (take (v .word .0 - at .0) (drop (at .0) text))) l₁ t₁
+      → Stepped l₁ t₁ (clustersOf P width (textAt (take (v .sep .0 - v .word .0) (drop (v .word .0) text)) 0)) (2 * length (take (v .sep .0 - v .word .0) (drop (v .word .0) text))) (length (take (v .sep .0 - v .word .0) (drop (v .word .0) text))) l₂ t₂
+      → Stepped l t (longWordOf P width theWord) (2 * (v .sep .0 - at .0)) (v .sep .0 - at .0) l₂ t₂
+  unfolding longWordOf longWord clustersOf
+  long-breaks l l₁ l₂ t₁ t₂ h a b =
+      let x : length (take (v .word .0 - at .0) (drop (at .0) text)) ≤ v .word .0 - at .0 = rw length-take (omega arith) in
+      let y : length (take (v .sep .0 - v .word .0) (drop (v .word .0) text)) ≤ v .sep .0 - v .word .0 = rw length-take (omega arith) in
+      record {
+        same = then-same (clustersOf P width (theWord .word)) (clustersOf P width (theWord .sep)) (longWordOf P width theWord) (held l t) (held l₁ t₁) (held l₂ t₂)
+            (rw (word-part P text (at .0) v (w .there)) at (a .same)) (rw (sep-part P text (at .0) v (w .there)) at (b .same)) (clusters-natural P width (theWord .sep))
+            (rw (← word-end, lt-leb (t .position .0 + v .width .0 - t .start .0) width h));
+        low = b .low;
+        near = omega (arith, a .near, b .near, x, y, w .there .word, w .there .sep);
+        more = omega (arith, a .more, b .more, x, y, w .there .word, w .there .sep);
+      }
+
+-- ---- by words
+
+module _ (P : Profile) (width : ℕ) where
+  words-none : (s : List Scalar) → s ≡ [] → (t : Wrap) → wordsOf P width s t ≡ t
+  unfolding wordsOf byWords words
+  words-none s e t = rw e
+
+  words-natural : (s : List Scalar) → Natural (wordsOf P width s)
+  unfolding wordsOf
+  words-natural s = byWords-over P width (words s)
+
+  words-more : (s : List Scalar) (c : Scalar) (r : List Scalar) → s ≡ c ∷ r → (t : Wrap) → wordsOf P width s t ≡ wordsOf P width (restWords s) (oneWordOf P width (firstWord s) t)
+  unfolding wordsOf byWords oneWordOf
+  words-more s c r e t = ap (byWords P width t) (words-first s c r e)
+
+pub record Wording (P : Profile) (width : ℕ) (text l₀ : List ℕ) (t₀ : WrapState) (p : BytePlace) (l : List ℕ) (t : WrapState) : Type 0 where
+  pub so : Stepping (wordsOf P width) text l₀ t₀ p l t
+  pub more : t .tally .count ≤ t₀ .tally .count + 2 * p .0
+
+pub word-begin : (P : Profile) (width n : ℕ) (text l : List ℕ) (t : WrapState) → Room t n → Wording P width text l t (record { 0 = 0 }) l t
+word-begin P width n text l t r = record { so = record { inside = omega arith; long = refl; work = refl; low = r .low; near = omega arith }; more = omega arith }
+
+module _ (P : Profile) (width : ℕ) (text l₀ : List ℕ) (t₀ : WrapState) (p : BytePlace) (l : List ℕ) (t : WrapState) (b : Wording P width text l₀ t₀ p l t) where
+  word-done : textAt text (p .0) ≡ [] → Stepped l₀ t₀ (wordsOf P width (textAt text 0)) (2 * length text) (2 * length text) l t
+  word-done e =
+      record {
+        same = done (wordsOf P width (textAt text (p .0))) (held l t) (b .so .work) (words-none P width (textAt text (p .0)) e);
+        low = b .so .low;
+        near = omega (arith, b .so .near, b .so .inside);
+        more = omega (arith, b .more, b .so .inside);
+      }
+
+  pub words-end : length text ≤ p .0 → Stepped l₀ t₀ (wordsOf P width (textAt text 0)) (2 * length text) (2 * length text) l t
+  words-end h = word-done (none-past text (p .0) h)
+
+  module _ (v : code.Word) (w : WordAt P text (p .0) v) where
+    no-word : (s : List Scalar) → All Valid s → v .sep .0 ≡ p .0 + size (firstWord s .word ++ firstWord s .sep) → v .sep .0 ≡ p .0 → s ≡ []
+    unfolding size
+    no-word [] a e h = refl
+    no-word (c ∷ s) (all-cons x a) e h = let k = first-word-some c s in absurd (omega (arith, x .some, rw (k .1) at e))
+
+    pub words-stop : v .sep .0 ≡ p .0 → Stepped l₀ t₀ (wordsOf P width (textAt text 0)) (2 * length text) (2 * length text) l t
+    words-stop h = word-done (no-word (textAt text (p .0)) (run-valid (drop (p .0) text)) (rw size-append (omega (arith, w .word, w .sep))) h)
+
+    some-word : (s : List Scalar) → (v .sep .0 ≢ p .0) → v .word .0 ≡ p .0 + size (firstWord s .word) → v .sep .0 ≡ v .word .0 + size (firstWord s .sep) → (c : Scalar) × (r : List Scalar) × (s ≡ c ∷ r)
+    unfolding size firstWord
+    some-word [] z e h = absurd (z (omega arith))
+    some-word (c ∷ s) z e h = (c, s, refl)
+
+    pub words-turn : (l′ : List ℕ) (t′ : WrapState) → (v .sep .0 ≢ p .0)
+        → Stepped l t (oneWordOf P width (firstWord (textAt text (p .0)))) (2 * (v .sep .0 - p .0)) (v .sep .0 - p .0 + 1) l′ t′ → length l′ ≡ length l
+        → Wording P width text l₀ t₀ (v .sep) l′ t′
+    words-turn l′ t′ z s k =
+        let f = some-word (textAt text (p .0)) z (w .word) (w .sep) in
+        record {
+          so = record {
+            inside = w .inside;
+            long = k ∙ b .so .long;
+            work = ap (λ (x : List Scalar). on (wordsOf P width x) (held l′ t′)) (behind-all P text (p .0) v w)
+                ∙ turn (wordsOf P width (textAt text (p .0))) (held l t) (b .so .work) (oneWordOf P width (firstWord (textAt text (p .0)))) (wordsOf P width (restWords (textAt text (p .0)))) (held l′ t′) (words-more P width (textAt text (p .0)) (f .0) (f .1) (f .2)) (words-natural P width (restWords (textAt text (p .0)))) (s .same);
+            low = s .low;
+            near = omega (arith, s .near, b .so .near, w .word, w .sep);
+          };
+          more = omega (arith, s .more, b .more, w .word, w .sep, z);
+        }
+
+-- ---- by the mode
+
+module _ (P : Profile) (width mode : ℕ) (s : List Scalar) (l l′ : List ℕ) (t t′ : WrapState) (n m : ℕ) where
+  pub text-words : mode ≡ 2 → Stepped l t (wordsOf P width s) n (2 * m) l′ t′ → Stepped l t (textOf P width (eqb mode 2) s) n (2 * m) l′ t′
+  unfolding textOf splitText wordsOf
+  text-words e k = renamed l l′ t t′ (wordsOf P width s) (textOf P width (eqb mode 2) s) n (2 * m) n (2 * m) (λ w. rw (eq-eqb mode 2 e)) (omega arith) (omega arith) k
+
+  pub text-clusters : (mode ≢ 2) → Stepped l t (clustersOf P width s) n m l′ t′ → Stepped l t (textOf P width (eqb mode 2) s) n (2 * m) l′ t′
+  unfolding textOf splitText clustersOf
+  text-clusters e k = renamed l l′ t t′ (clustersOf P width s) (textOf P width (eqb mode 2) s) n m n (2 * m) (λ w. rw (ne-eqb mode 2 e)) (omega arith) (omega arith) k

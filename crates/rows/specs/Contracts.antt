@@ -1,0 +1,226 @@
+-- What the code's values say: stretches and words of a text; the state of wrapping and the lent row list, of the rows pushed.
+use mathlib.Core.Path.{_≡_}
+use Prim.Native.Nat.{ℕ, _+_, _-_, _*_, _/_, _≤_, _<_, _^_}
+use mathlib.Core.Bool.{Bool, cond, _&&_, _||_}
+use mathlib.Core.List.{List, [], _∷_}
+use lib.ListN.{length, set, drop}
+use lib.Dec.{eqb, leb, ltb}
+use Rattle.text.specs.declared.Column.{Column}
+use Rattle.text.specs.Utf8.{Scalar, decode}
+use Rattle.text.specs.Class.{Profile}
+use Rattle.text.specs.Width.{widthOf}
+use Rattle.text.specs.Code.{runOf, size}
+use Rattle.text.specs.Cluster.{clusters}
+use Rattle.spans.specs.Spans.{Record}
+use Rattle.spans.specs.Spans.ContentLaw.{textIn}
+use Rattle.rows.specs.Words.{Word, words}
+use Rattle.rows.specs.Words.Laws.{firstWord}
+use Rattle.rows.specs.declared.words.Stretch.{Stretch}
+use Rattle.rows.specs.declared.words.Word as code
+use Rattle.rows.specs.Rows.{Row, row, Wrap, wrap, unit, byClusters, longWord, oneWord, byWords, splitText, tabbed}
+use Rattle.rows.specs.declared.wrap.Tally.{Tally}
+use Rattle.rows.specs.declared.wrap.WrapState.{WrapState}
+pub mod Laws
+
+-- ---- parts of a text
+
+-- an ASCII scalar that is no control
+abbrev pub printable : ℕ → Bool
+printable v = leb 0x20 v && leb v 0x7E
+
+-- the text from a place on, up to a damaged byte
+abbrev pub textAt : List ℕ → ℕ → List Scalar
+textAt s p = runOf (decode (drop p s))
+
+-- a stretch from a place on that holds these scalars
+pub record Measured (P : Profile) (s : List ℕ) (at : ℕ) (front : List Scalar) (r : Stretch) : Type 0 where
+  pub end : r .end .0 ≡ at + size front
+  pub width : r .width .0 ≡ widthOf P front
+  pub inside : r .end .0 ≤ length s
+  pub small : r .width .0 ≤ 2 * (r .end .0 - at)
+
+-- the bytes of the `-` that a text begins with
+unfoldable pub hyphenSize : List Scalar → ℕ
+hyphenSize [] = 0
+hyphenSize (c ∷ s) = cond (eqb (c .code) 0x2D) (length (c .bytes)) 0
+
+pub record HyphenAt (s : List ℕ) (at r : ℕ) : Type 0 where
+  pub size : r ≡ hyphenSize (textAt s at)
+  pub inside : at + r ≤ length s
+
+-- the first word from a place on, with its separator
+pub record WordAt (P : Profile) (s : List ℕ) (at : ℕ) (r : code.Word) : Type 0 where
+  pub word : r .word .0 ≡ at + size (firstWord (textAt s at) .word)
+  pub sep : r .sep .0 ≡ r .word .0 + size (firstWord (textAt s at) .sep)
+  pub width : r .width .0 ≡ widthOf P (firstWord (textAt s at) .word) + widthOf P (firstWord (textAt s at) .sep)
+  pub inside : r .sep .0 ≤ length s
+  pub small : r .width .0 ≤ 2 * (r .sep .0 - at)
+
+-- ---- the rows pushed
+
+abbrev pub column : ℕ → Column
+column n = record { 0 = n }
+
+-- one more, up to the largest usize
+unfoldable pub nextCount : ℕ → ℕ
+nextCount n = cond (ltb n 0xFFFF_FFFF_FFFF_FFFF) (n + 1) n
+
+unfoldable pub tallied : Tally → Row → Tally
+unfolding nextCount
+tallied t r =
+    record {
+      count = nextCount (t .count);
+      first = t .first;
+      last = t .last;
+      start = cond (eqb (t .count) (t .first)) (column (r .start)) (t .start);
+      end = cond (eqb (t .count) (t .last)) (column (r .end)) (t .end);
+      ended = column (r .end);
+    }
+
+-- row number n in a list of numbers, where it has a pair for it
+unfoldable pub pairAt : List ℕ → ℕ → Row → List ℕ
+pairAt l n r = cond (ltb n (length l / 2)) (set (set l (2 * n) (r .start)) (2 * n + 1) (r .end)) l
+
+-- the lent row list and the tally
+pub record Kept : Type 0 where
+  pub numbers : List ℕ
+  pub tally : Tally
+
+abbrev pub kept : List ℕ → Tally → Kept
+kept l t = record { numbers = l; tally = t }
+
+-- one more row
+unfoldable pub keep : Kept → Row → Kept
+unfolding pairAt tallied
+keep k r = kept (pairAt (k .numbers) (k .tally .count) r) (tallied (k .tally) r)
+
+-- more rows, the last one first
+unfoldable pub keeps : Kept → List Row → Kept
+unfolding keep
+keeps k [] = k
+keeps k (r ∷ rs) = keep (keeps k rs) r
+
+-- ---- a step of wrapping
+
+-- what is kept, where the present row starts, and the position
+pub record Held : Type 0 where
+  pub kept : Kept
+  pub start : ℕ
+  pub position : ℕ
+
+abbrev pub held : List ℕ → WrapState → Held
+held l t = record { kept = kept l (t .tally); start = t .start .0; position = t .position .0 }
+
+-- wrapping goes on: the rows that it pushes are kept behind those kept before
+unfoldable pub on : (Wrap → Wrap) → Held → Held
+unfolding keeps
+on f h =
+    let t : Wrap = f (wrap [] (h .start) (h .position)) in
+    record { kept = keeps (h .kept) (t .rows); start = t .start; position = t .position }
+
+-- the steps, with the state last
+unfoldable pub unitOf : ℕ → ℕ → Wrap → Wrap
+unfolding unit
+unitOf width n t = unit width t n
+
+module _ (P : Profile) (width : ℕ) where
+  unfoldable pub clustersOf : List Scalar → Wrap → Wrap
+  unfolding byClusters clusters
+  clustersOf s t = byClusters P width t (clusters P s)
+
+  unfoldable pub longWordOf : Word → Wrap → Wrap
+  unfolding longWord
+  longWordOf v t = longWord P width t v
+
+  unfoldable pub oneWordOf : Word → Wrap → Wrap
+  unfolding oneWord
+  oneWordOf v t = oneWord P width t v
+
+  unfoldable pub wordsOf : List Scalar → Wrap → Wrap
+  unfolding byWords words
+  wordsOf s t = byWords P width t (words s)
+
+  unfoldable pub textOf : Bool → List Scalar → Wrap → Wrap
+  unfolding splitText
+  textOf w s t = splitText P width w t s
+
+-- n more columns fit a usize
+pub record Room (t : WrapState) (n : ℕ) : Type 0 where
+  pub low : t .start .0 ≤ t .position .0
+  pub room : t .position .0 + n < 2 ^ 64
+
+-- a word of a text, with room for it
+pub record WordRoom (P : Profile) (s : List ℕ) (at : ℕ) (v : code.Word) (t : WrapState) : Type 0 where
+  pub there : WordAt P s at v
+  pub room : Room t (2 * (v .sep .0 - at))
+
+-- a step of at most n columns and m rows
+pub record Stepped (l : List ℕ) (t : WrapState) (f : Wrap → Wrap) (n m : ℕ) (l′ : List ℕ) (t′ : WrapState) : Type 0 where
+  pub same : held l′ t′ ≡ on f (held l t)
+  pub low : t′ .start .0 ≤ t′ .position .0
+  pub near : t′ .position .0 ≤ t .position .0 + n
+  pub more : t′ .tally .count ≤ t .tally .count + m
+
+-- ---- spans
+
+-- room for a span of a line of len bytes, which a buffer holds
+pub record SpanRoom (buffer : List ℕ) (len : ℕ) (t : WrapState) : Type 0 where
+  pub held : len ≤ length buffer
+  pub room : Room t (2 * len + 8)
+
+module _ (P : Profile) (width : ℕ) where
+  -- what a record of the line does
+  unfoldable pub recordIn : Bool → List ℕ → Record → Wrap → Wrap
+  unfolding splitText unit tabbed textIn
+  recordIn w line r t =
+      cond (eqb (r .kind) 1 || eqb (r .kind) 2) (splitText P width w t (textIn (r .len) (drop (r .place .0) line)))
+      (cond (eqb (r .kind) 3 || eqb (r .kind) 4) (unit width t 4)
+      (cond (eqb (r .kind) 5) (unit width t 8)
+      (cond (eqb (r .kind) 10) (tabbed width t) t)))
+
+  -- the same by the mode's number
+  unfoldable pub spanOf : ℕ → List ℕ → Record → Wrap → Wrap
+  unfolding recordIn
+  spanOf mode line r t = cond (eqb mode 0) t (recordIn (eqb mode 2) line r t)
+
+  unfoldable pub spansOf : ℕ → List ℕ → List Record → Wrap → Wrap
+  unfolding spanOf
+  spansOf mode line [] t = t
+  spansOf mode line (r ∷ rs) t = spansOf mode line rs (spanOf mode line r t)
+
+-- the last row, unless it is empty and not the only one
+unfoldable pub lastKept : ℕ → Held → Kept
+unfolding keep
+lastKept mode h =
+    cond (eqb mode 0) (keep (h .kept) (row 0 0xFFFF_FFFF_FFFF_FFFF))
+    (cond (ltb (h .start) (h .position)) (keep (h .kept) (row (h .start) (h .position)))
+    (cond (eqb (h .kept .tally .count) 0) (keep (h .kept) (row (h .start) (h .position))) (h .kept)))
+
+pub record LastRow (l : List ℕ) (t : WrapState) (mode : ℕ) (l′ : List ℕ) (r : Tally) : Type 0 where
+  pub same : kept l′ r ≡ lastKept mode (held l t)
+  pub more : r .count ≤ t .tally .count + 1
+
+-- ---- all spans
+
+-- nothing pushed yet
+abbrev pub beginning : ℕ → ℕ → WrapState
+beginning first last =
+    record {
+      start = column 0;
+      position = column 0;
+      tally = record { count = 0; first = first; last = last; start = column 0; end = column 0; ended = column 0 };
+    }
+
+-- the first n spans of a converted line, few enough that all columns and rows fit a usize
+pub record SpansRoom (spans : List Record) (buffer : List ℕ) (len : ℕ) (t : WrapState) (n : ℕ) : Type 0 where
+  pub there : n ≤ length spans
+  pub few : n ≤ 32768
+  pub short : len ≤ 32768
+  pub held : len ≤ length buffer
+  pub low : t .start .0 ≤ t .position .0
+  pub near : t .position .0 ≤ 4294967296
+  pub more : t .tally .count ≤ 4294967296
+
+pub record MadeWrap (P : Profile) (width mode : ℕ) (line : List ℕ) (rs : List Record) (l : List ℕ) (t : WrapState) (l′ : List ℕ) (r : Tally) : Type 0 where
+  pub same : kept l′ r ≡ lastKept mode (on (spansOf P width mode line rs) (held l t))
+  pub more : r .count < 0xFFFF_FFFF_FFFF_FFFF

@@ -1,0 +1,171 @@
+-- What is kept of a line's spans is kept of the definition's rows; the count is their number, and the list holds their pairs.
+use mathlib.Core.Path.{_≡_, refl, sym, ap, ap₂, _∙_}
+use mathlib.Core.Logic.{_≢_}
+use Prim.Native.Nat.{ℕ, zero, suc, _+_, _-_, _*_, _/_, _≤_, _<_}
+use native.Mathlib.Nat.{sub-zero}
+use native.Mathlib.Numerals.{add-one}
+use native.Mathlib.Omega.{arith}
+use mathlib.Core.Bool.{Bool, true, false, cond}
+use mathlib.Core.List.{List, [], _∷_, _++_, reverse, reverse-reverse, reverse-cons, append-assoc}
+use mathlib.Core.Option.{none, some}
+use lib.ListN.{length, drop, set, replicate, length-append, length-replicate, length-reverse}
+use lib.Seq.{set-append-seam}
+use lib.Dec.{eqb, ltb}
+use borrow.Author.Tests.{lt-ltb, le-ltb, eq-eqb, ne-eqb, ltb-true, ltb-false}
+use Rattle.text.specs.Tests.{cases}
+use Rattle.text.specs.Each.{All, all-nil, all-cons}
+use Rattle.text.specs.Utf8.{Scalar}
+use Rattle.text.specs.Class.{Profile}
+use Rattle.spans.specs.Sequence.{sgr, eraseToEnd, ignored, hyperlink, lineDrawing}
+use Rattle.spans.specs.Spans.{Content, text, control, invalid, unprintable, escape, tab, crlf, lf, Span, Record, aRecord, kindOf, matchOf, recordOf, records}
+use Rattle.spans.specs.Spans.ContentLaw.{textIn, contentIn, contentOf}
+use Rattle.rows.specs.Rows.{Row, row, Wrap, wrap, split, splits, splitText, lastRow, wrapped, rows}
+use Rattle.rows.specs.Calls.{modeOf, numbersOf}
+use Rattle.rows.specs.Contracts.{nextCount, tallied, pairAt, Kept, kept, keep, keeps, held, on, recordIn, spanOf, spansOf, lastKept, beginning}
+use Rattle.rows.specs.declared.wrap.Tally.{Tally}
+
+-- ---- what a record does is what its span does
+
+module _ (P : Profile) (width : ℕ) (w : Bool) (line : List ℕ) (t : Wrap) (p n : ℕ) where
+  content-split : (c : Content) → contentOf line (aRecord (kindOf c) p n (matchOf c)) ≡ c → recordIn P width w line (aRecord (kindOf c) p n (matchOf c)) t ≡ split P width w t c
+  unfolding recordIn split contentOf contentIn kindOf matchOf
+  content-split (text none s) e = let q : textIn n (drop p line) ≡ s = cc in ap (splitText P width w t) q
+  content-split (text (some k) s) e = let q : textIn n (drop p line) ≡ s = cc in ap (splitText P width w t) q
+  content-split (control b) e = refl
+  content-split (invalid b) e = refl
+  content-split (unprintable s) e = refl
+  content-split (escape (sgr os)) e = refl
+  content-split (escape (hyperlink a m)) e = refl
+  content-split (escape (lineDrawing b)) e = refl
+  content-split (escape ignored) e = refl
+  content-split (escape eraseToEnd) e = refl
+  content-split tab e = refl
+  content-split crlf e = refl
+  content-split lf e = refl
+
+module _ (P : Profile) (width mode : ℕ) (line : List ℕ) where
+  -- spans that hold what their records say of the line
+  abbrev pub Held-in : List Span → Type 0
+  Held-in ss = All (λ (s : Span). contentOf line (recordOf s) ≡ s .content) ss
+
+  records-split : (mode ≢ 0) → {ss : List Span} → Held-in ss → (t : Wrap) → spansOf P width mode line (records ss) t ≡ splits P width (eqb mode 2) t ss
+  unfolding spansOf spanOf splits records recordOf
+  records-split z all-nil t = refl
+  records-split z (all-cons {a = s} {s = ss} h a) t =
+      ap (spansOf P width mode line (records ss)) (rw (ne-eqb mode 0 z) (content-split P width (eqb mode 2) line t (s .place) (s .len) (s .content) h))
+      ∙ records-split z a (split P width (eqb mode 2) t (s .content))
+
+  records-unwrapped : mode ≡ 0 → (rs : List Record) (t : Wrap) → spansOf P width mode line rs t ≡ t
+  unfolding spansOf spanOf
+  records-unwrapped z [] t = refl
+  records-unwrapped z (r ∷ rs) t = rw (eq-eqb mode 0 z) (records-unwrapped z rs t)
+
+-- ---- counts
+
+count-some : (k : Kept) (r : Row) → (keep k r .tally .count ≢ 0)
+unfolding keep tallied nextCount
+count-some k r e =
+    cases (ltb (k .tally .count) 0xFFFF_FFFF_FFFF_FFFF)
+    (λ h. let z = rw h at e in omega arith)
+    (λ h. let z = rw h at e in let b = ltb-false (k .tally .count) 0xFFFF_FFFF_FFFF_FFFF h in omega arith)
+
+-- a count that has not reached the largest usize is the number of the rows
+pub keeps-count : (k : Kept) → k .tally .count ≡ 0 → (rs : List Row) → keeps k rs .tally .count < 0xFFFF_FFFF_FFFF_FFFF → keeps k rs .tally .count ≡ length rs
+unfolding keeps keep tallied nextCount
+keeps-count k z [] h = z
+keeps-count k z (r ∷ rs) h =
+    cases (ltb (keeps k rs .tally .count) 0xFFFF_FFFF_FFFF_FFFF)
+    (λ e. rw e (ap (λ (n : ℕ). n + 1) (keeps-count k z rs (ltb-true _ _ e)) ∙ add-one (length rs)))
+    (λ e. let b = ltb-false (keeps k rs .tally .count) 0xFFFF_FFFF_FFFF_FFFF e in let c = rw e at h in absurd (omega arith))
+
+-- ---- the rows of a line
+
+last-kept : (k : Kept) → k .tally .count ≡ 0 → (mode : ℕ) → (mode ≢ 0) → (s p : ℕ) (rs : List Row)
+    → lastKept mode (record { kept = keeps k rs; start = s; position = p }) ≡ keeps k (lastRow s p rs)
+unfolding lastKept lastRow keeps
+last-kept k z mode h s p [] = cases (ltb s p) (λ e. rw (ne-eqb mode 0 h, e)) (λ e. rw (ne-eqb mode 0 h, e, eq-eqb (k .tally .count) 0 z))
+last-kept k z mode h s p (r ∷ rs) =
+    cases (ltb s p) (λ e. rw (ne-eqb mode 0 h, e)) (λ e. rw (ne-eqb mode 0 h, e, ne-eqb (keep (keeps k rs) r .tally .count) 0 (count-some (keeps k rs) r)))
+
+abbrev none-yet : List ℕ → ℕ → ℕ → Kept
+none-yet l first last = kept l (beginning first last .tally)
+
+module _ (P : Profile) (width : ℕ) (line l : List ℕ) (first last : ℕ) (ss : List Span) where
+  wrapped-kept : (mode : ℕ) → (mode ≢ 0) → Held-in P width mode line ss
+      → lastKept mode (on (spansOf P width mode line (records ss)) (held l (beginning first last))) ≡ keeps (none-yet l first last) (reverse (wrapped P width (eqb mode 2) ss))
+  unfolding on wrapped
+  wrapped-kept mode z a =
+      let t : Wrap = splits P width (eqb mode 2) (wrap [] 0 0) ss in
+      ap (λ (x : Wrap). lastKept mode (record { kept = keeps (none-yet l first last) (x .rows); start = x .start; position = x .position })) (records-split P width mode line z a (wrap [] 0 0))
+      ∙ last-kept (none-yet l first last) refl mode z (t .start) (t .position) (t .rows)
+      ∙ ap (keeps (none-yet l first last)) (sym (reverse-reverse (lastRow (t .start) (t .position) (t .rows))))
+
+  -- what is kept of the spans of a line is kept of its rows
+  pub rows-kept : (mode : ℕ) → mode ≤ 2 → Held-in P width mode line ss
+      → lastKept mode (on (spansOf P width mode line (records ss)) (held l (beginning first last))) ≡ keeps (none-yet l first last) (reverse (rows P width (modeOf mode) ss))
+  unfolding rows modeOf on lastKept keeps
+  rows-kept zero h a =
+      ap (λ (x : Wrap). lastKept 0 (record { kept = keeps (none-yet l first last) (x .rows); start = x .start; position = x .position })) (records-unwrapped P width 0 line refl (records ss) (wrap [] 0 0))
+  rows-kept (suc zero) h a = wrapped-kept 1 (λ e. omega arith) a
+  rows-kept (suc (suc zero)) h a = wrapped-kept 2 (λ e. omega arith) a
+  rows-kept (suc (suc (suc n))) h a = absurd (omega arith)
+
+-- ---- the list of pairs
+
+numbersOf-append : (a b : List Row) → numbersOf (a ++ b) ≡ numbersOf a ++ numbersOf b
+unfolding numbersOf
+numbersOf-append [] b = refl
+numbersOf-append (r ∷ a) b = ap (λ (l : List ℕ). r .start ∷ r .end ∷ l) (numbersOf-append a b)
+
+pub numbersOf-length : (a : List Row) → length (numbersOf a) ≡ 2 * length a
+unfolding numbersOf
+numbersOf-length [] = refl
+numbersOf-length (r ∷ a) = omega (arith, numbersOf-length a)
+
+-- two numbers behind a, in the place of zeros
+two-set : (a z : List ℕ) (n x y : ℕ) → length a ≡ n → set (set (a ++ 0 ∷ 0 ∷ z) n x) (n + 1) y ≡ a ++ x ∷ y ∷ z
+two-set a z n x y e =
+    let p : set (a ++ 0 ∷ 0 ∷ z) n x ≡ a ++ x ∷ 0 ∷ z = rw (← e) (set-append-seam a 0 (0 ∷ z) x) in
+    let q : a ++ x ∷ 0 ∷ z ≡ (a ++ x ∷ []) ++ 0 ∷ z = sym (append-assoc a (x ∷ []) (0 ∷ z)) in
+    let m : n + 1 ≡ length (a ++ x ∷ []) = rw (length-append, e) in
+    ap (λ (l : List ℕ). set l (n + 1) y) (p ∙ q) ∙ rw m (set-append-seam (a ++ x ∷ []) 0 z y) ∙ append-assoc a (x ∷ []) (y ∷ z)
+
+abbrev twoZeros : List ℕ → List ℕ
+twoZeros l = 0 ∷ 0 ∷ l
+
+two-zeros : (n : ℕ) → 2 ≤ n → replicate n 0 ≡ twoZeros (replicate (n - 2) 0)
+two-zeros zero h = absurd (omega arith)
+two-zeros (suc zero) h = absurd (omega arith)
+two-zeros (suc (suc n)) h = ap (λ (m : ℕ). twoZeros (replicate m 0)) (let e : n ≡ suc (suc n) - 2 = omega arith in e)
+
+module _ (n : ℕ) (t : Tally) (z : t .count ≡ 0) where
+  abbrev zeros-yet : Kept
+  zeros-yet = kept (replicate n 0) t
+
+  fewer : (r : Row) (rs : List Row) → keeps zeros-yet (r ∷ rs) .tally .count < 0xFFFF_FFFF_FFFF_FFFF → keeps zeros-yet rs .tally .count < 0xFFFF_FFFF_FFFF_FFFF
+  unfolding keeps keep tallied nextCount
+  fewer r rs h = cases (ltb (keeps zeros-yet rs .tally .count) 0xFFFF_FFFF_FFFF_FFFF) (λ e. ltb-true _ _ e) (λ e. rw e at h)
+
+  pairs : (r : Row) (rs : List Row) (y : List ℕ) → keeps zeros-yet rs .tally .count ≡ length rs → keeps zeros-yet rs .numbers ≡ numbersOf (reverse rs) ++ 0 ∷ 0 ∷ y
+      → length (keeps zeros-yet rs .numbers) ≡ n → length rs < n / 2 → length (numbersOf (reverse rs)) ≡ 2 * length rs
+      → keeps zeros-yet (r ∷ rs) .numbers ≡ (numbersOf (reverse rs) ++ r .start ∷ r .end ∷ []) ++ y
+  unfolding keeps keep pairAt
+  pairs r rs y k f g lt a =
+      rw (k, g, lt-ltb (length rs) (n / 2) lt, f) (two-set (numbersOf (reverse rs)) y (2 * length rs) (r .start) (r .end) a ∙ sym (append-assoc (numbersOf (reverse rs)) (r .start ∷ r .end ∷ []) y))
+
+  -- the pairs of the rows, in their order, and zeros after them
+  pub keeps-numbers : (rs : List Row) → 2 * length rs ≤ n → keeps zeros-yet rs .tally .count < 0xFFFF_FFFF_FFFF_FFFF
+      → keeps zeros-yet rs .numbers ≡ numbersOf (reverse rs) ++ replicate (n - 2 * length rs) 0
+  unfolding keeps keep pairAt numbersOf
+  keeps-numbers [] h c = ap (λ (m : ℕ). replicate {A = ℕ} m 0) (sym (sub-zero n))
+  keeps-numbers (r ∷ rs) h c =
+      let d = fewer r rs c in
+      let k : keeps zeros-yet rs .tally .count ≡ length rs = keeps-count zeros-yet z rs d in
+      let l : keeps zeros-yet rs .numbers ≡ numbersOf (reverse rs) ++ replicate (n - 2 * length rs) 0 = keeps-numbers rs (omega arith) d in
+      let a : length (numbersOf (reverse rs)) ≡ 2 * length rs = numbersOf-length (reverse rs) ∙ ap (λ (m : ℕ). 2 * m) (length-reverse rs) in
+      let e : replicate {A = ℕ} (n - 2 * length rs) 0 ≡ 0 ∷ 0 ∷ replicate (n - 2 * suc (length rs)) 0 =
+      two-zeros (n - 2 * length rs) (omega arith) ∙ ap (λ (m : ℕ). twoZeros (replicate m 0)) (let q : n - 2 * length rs - 2 ≡ n - 2 * suc (length rs) = omega arith in q) in
+      let f : keeps zeros-yet rs .numbers ≡ numbersOf (reverse rs) ++ 0 ∷ 0 ∷ replicate (n - 2 * suc (length rs)) 0 = l ∙ ap (λ (x : List ℕ). numbersOf (reverse rs) ++ x) e in
+      let g : length (keeps zeros-yet rs .numbers) ≡ n = ap length l ∙ (rw (length-append, a, length-replicate {A = ℕ} (n - 2 * length rs) 0) (omega arith)) in
+      let lt : length rs < n / 2 = omega arith in
+      pairs r rs (replicate (n - 2 * suc (length rs)) 0) k f g lt a ∙ ap (λ (x : List ℕ). x ++ replicate (n - 2 * suc (length rs)) 0) (sym (ap numbersOf (reverse-cons r rs) ∙ numbersOf-append (reverse rs) (r ∷ [])))

@@ -1,0 +1,132 @@
+// Words and clusters of a text: src/line.rs, SplitWords.
+use text::BytePlace;
+use text::Column;
+use text::class::Profile;
+use text::class::is_whitespace;
+use text::cluster::first_end;
+use text::utf8::byte_at;
+use text::utf8::decode;
+use text::width::text_width;
+use text::width::width;
+ghost use mathlib.Core.Path.{_≡_};
+ghost use Prim.Native.Nat.{_≤_, _<_};
+ghost use lib.ListN.{length};
+ghost use Rattle.text.specs.Cluster.{clusters};
+ghost use Rattle.text.specs.Code.{profileOf, firstOf};
+ghost use Rattle.rows.specs.Words.Laws.{belongs, leading};
+ghost use Rattle.rows.specs.Contracts.{printable, textAt, Measured, HyphenAt, WordAt};
+
+// A part of a text from some place on: where it ends, and its width.
+pub struct Stretch {
+    pub end: BytePlace,
+    pub width: Column,
+}
+
+// A word and the separator behind it: where each ends, and the width of both.
+pub struct Word {
+    pub word: BytePlace,
+    pub sep: BytePlace,
+    pub width: Column,
+}
+
+// Is x a scalar of a separator, or else of a word before a `-`?
+fn belongs(sep: bool, x: u32) -> bool
+    ensures { λ r. ⌜ r ≡ belongs sep x ⌝ }
+{
+    let space = is_whitespace(x);
+    if sep {
+        return space;
+    }
+    !space & !(x == 0x2D)
+}
+
+// The leading scalars that belong.
+fn leading(profile: Profile, text: &[u8], at: BytePlace, sep: bool) -> Stretch
+    requires { ⌜ at .0 ≤ length (now text) ⌝ }
+    ensures { λ r. ⌜ Measured (profileOf profile) (now (text .entry)) (at .0) (leading sep (textAt (now (text .entry)) (at .0))) r ⌝ }
+{
+    let mut p = at;
+    let mut w = Column(0);
+    while p.0 < text.len() {
+        let u = decode(text, p.0);
+        if u.len == 0 {
+            return Stretch { end: p, width: w };
+        }
+        if belongs(sep, u.code) {
+            w = Column(w.0 + width(profile, u.code));
+            p = BytePlace(p.0 + u.len);
+        } else {
+            return Stretch { end: p, width: w };
+        }
+    }
+    Stretch { end: p, width: w }
+}
+
+// The number of bytes of the `-` at a place, or 0.
+fn hyphen_len(text: &[u8], at: BytePlace) -> usize
+    requires { ⌜ at .0 ≤ length (now text) ⌝ }
+    ensures { λ r. ⌜ HyphenAt (now (text .entry)) (at .0) r ⌝ }
+{
+    if at.0 < text.len() {
+        let u = decode(text, at.0);
+        if u.code == 0x2D {
+            return u.len;
+        }
+        return 0;
+    }
+    0
+}
+
+// The word at a place.
+pub fn next_word(profile: Profile, text: &[u8], at: BytePlace) -> Word
+    requires { ⌜ at .0 < length (now text) ⌝ }
+    ensures { λ r. ⌜ WordAt (profileOf profile) (now (text .entry)) (at .0) r ⌝ }
+{
+    let w = leading(profile, text, at, false);
+    let word = w.end;
+    let columns = w.width;
+    let n = hyphen_len(text, word);
+    if n != 0 {
+        let end = BytePlace(word.0 + n);
+        return Word {
+            word: end,
+            sep: end,
+            width: Column(columns.0 + 1),
+        };
+    }
+    let s = leading(profile, text, word, true);
+    let sep = s.end;
+    let more = s.width;
+    Word {
+        word: word,
+        sep: sep,
+        width: Column(columns.0 + more.0),
+    }
+}
+
+// 20 to 7E
+fn is_printable(x: u32) -> bool
+    ensures { λ r. ⌜ r ≡ printable x ⌝ }
+{
+    (0x20 <= x) & (x <= 0x7E)
+}
+
+// The cluster at a place; nothing where a damaged byte stands there.
+pub fn cluster(profile: Profile, text: &[u8], at: BytePlace) -> Stretch
+    requires { ⌜ at .0 < length (now text) ⌝ }
+    ensures { λ r. ⌜ Measured (profileOf profile) (now (text .entry)) (at .0) (firstOf (clusters (profileOf profile) (textAt (now (text .entry)) (at .0)))) r ⌝ }
+{
+    if is_printable(byte_at(text, at.0)) {
+        if is_printable(byte_at(text, at.0 + 1)) {
+            return Stretch {
+                end: BytePlace(at.0 + 1),
+                width: Column(1),
+            };
+        }
+    }
+    let end = BytePlace(first_end(profile, text, at.0));
+    Stretch {
+        end: end,
+        width: Column(text_width(profile, text, at.0, end.0)),
+    }
+}

@@ -1,0 +1,371 @@
+// Wrapping: src/line.rs, Span::split and make_wrap.
+use super::words::Word;
+use super::words::cluster;
+use super::words::next_word;
+use spans::Span;
+use text::BytePlace;
+use text::Column;
+use text::class::Profile;
+ghost use mathlib.Core.Path.{_≡_};
+ghost use Prim.Native.Nat.{_+_, _-_, _*_, _<_};
+ghost use lib.Dec.{eqb};
+ghost use lib.ListN.{length, take, drop};
+ghost use Rattle.text.specs.Code.{profileOf};
+ghost use Rattle.rows.specs.Words.Laws.{firstWord};
+ghost use mathlib.Core.Bool.{cond};
+ghost use Rattle.rows.specs.Rows.{row, tabbed, pushed};
+ghost use Rattle.rows.specs.Contracts.{kept, keep, nextCount, tallied, Room, Stepped, unitOf, textAt, WordRoom, clustersOf, longWordOf, oneWordOf, wordsOf, textOf, spanOf, LastRow, beginning, SpanRoom, SpansRoom, MadeWrap};
+
+// What is kept of the rows pushed: their number, the start of the row `first`, the end of the row `last`, the end of the row pushed last.
+pub struct Tally {
+    pub count: usize,
+    pub first: usize,
+    pub last: usize,
+    pub start: Column,
+    pub end: Column,
+    pub ended: Column,
+}
+
+// Where the present row starts, and the position.
+pub struct WrapState {
+    pub start: Column,
+    pub position: Column,
+    pub tally: Tally,
+}
+
+// How to wrap: the text profile, the width, the mode (0 Unwrapped, 1 GraphemeBoundary, 2 WordBoundary), and the length of the line in the
+// buffer that holds it.
+pub struct Wrapping {
+    pub profile: Profile,
+    pub width: Column,
+    pub mode: usize,
+    pub len: usize,
+}
+
+fn choose(first: bool, a: Column, b: Column) -> Column
+    ensures { λ r. ⌜ r ≡ cond first a b ⌝ }
+{
+    if first { a } else { b }
+}
+
+fn next_count(n: usize) -> usize
+    ensures { λ r. ⌜ r ≡ nextCount n ⌝ }
+{
+    if n < usize::MAX { n + 1 } else { n }
+}
+
+// The tally with one more row.
+fn tally_row(t: Tally, start: Column, end: Column) -> Tally
+    ensures { λ r. ⌜ r ≡ tallied t (row (start .0) (end .0)) ⌝ }
+{
+    let count = next_count(t.count);
+    let from = choose(t.count == t.first, start, t.start);
+    let to = choose(t.count == t.last, end, t.end);
+    Tally {
+        count: count,
+        first: t.first,
+        last: t.last,
+        start: from,
+        end: to,
+        ended: end,
+    }
+}
+
+// Pushes a row: its pair is written where it fits.
+pub fn push_row(rows: &mut [usize], tally: Tally, start: Column, end: Column) -> Tally
+    ensures { λ r. ⌜ kept (now (rows .exit)) r ≡ keep (kept (now (rows .entry)) tally) (row (start .0) (end .0)) ⌝ }
+{
+    let n = tally.count;
+    if n < rows.len() / 2 {
+        rows[2 * n] = start.0;
+        rows[2 * n + 1] = end.0;
+        return tally_row(tally, start, end);
+    }
+    tally_row(tally, start, end)
+}
+
+// Columns that are not broken.
+pub fn unit(rows: &mut [usize], width: Column, state: WrapState, columns: Column) -> WrapState
+    requires { ⌜ Room state (columns .0) ⌝ }
+    ensures { λ r. ⌜ Stepped (now (rows .entry)) state (unitOf (width .0) (columns .0)) (columns .0) 1 (now (rows .exit)) r ⌝ }
+{
+    let start = state.start;
+    let position = state.position;
+    let tally = state.tally;
+    let end = Column(position.0 + columns.0);
+    if end.0 - start.0 <= width.0 {
+        return WrapState {
+            start: start,
+            position: end,
+            tally: tally,
+        };
+    }
+    let more = push_row(rows, tally, start, position);
+    WrapState {
+        start: position,
+        position: end,
+        tally: more,
+    }
+}
+
+// A tab, up to the next multiple of 8 of the line's column.
+pub fn tab(rows: &mut [usize], width: Column, state: WrapState) -> WrapState
+    requires { ⌜ Room state 8 ⌝ }
+    ensures { λ r. ⌜ Stepped (now (rows .entry)) state (tabbed (width .0)) 8 1 (now (rows .exit)) r ⌝ }
+{
+    let start = state.start;
+    let position = state.position;
+    let tally = state.tally;
+    let end = Column(position.0 + (8 - position.0 % 8));
+    if end.0 - start.0 <= width.0 {
+        return WrapState {
+            start: start,
+            position: end,
+            tally: tally,
+        };
+    }
+    let more = push_row(rows, tally, start, end);
+    WrapState {
+        start: end,
+        position: end,
+        tally: more,
+    }
+}
+
+// What the present row holds is pushed, if it holds anything.
+pub fn push_held(rows: &mut [usize], state: WrapState) -> WrapState
+    requires { ⌜ Room state 0 ⌝ }
+    ensures { λ r. ⌜ Stepped (now (rows .entry)) state pushed 0 1 (now (rows .exit)) r ⌝ }
+{
+    let start = state.start;
+    let position = state.position;
+    let tally = state.tally;
+    if start.0 == position.0 {
+        return state;
+    }
+    let more = push_row(rows, tally, start, position);
+    WrapState {
+        start: position,
+        position: position,
+        tally: more,
+    }
+}
+
+// A text broken between clusters.
+fn by_clusters(text: &[u8], rows: &mut [usize], wrapping: Wrapping, state: WrapState) -> WrapState
+    requires { ⌜ Room state (2 * length (now text)) ⌝ }
+    ensures { λ r. ⌜ Stepped (now (rows .entry)) state (clustersOf (profileOf (wrapping .profile)) (wrapping .width .0) (textAt (now (text .entry)) 0)) (2 * length (now (text .entry))) (length (now (text .entry))) (now (rows .exit)) r ⌝ }
+{
+    let profile = wrapping.profile;
+    let width = wrapping.width;
+    let mut t = state;
+    let mut p = BytePlace(0);
+    while p.0 < text.len() {
+        let g = cluster(profile, text, p);
+        let end = g.end;
+        let columns = g.width;
+        if end.0 == p.0 {
+            return t;
+        }
+        t = unit(rows, width, t, columns);
+        p = end;
+    }
+    t
+}
+
+// A word at the start of a row: it fits, or is broken between clusters.
+fn long_word(
+    text: &[u8],
+    rows: &mut [usize],
+    wrapping: Wrapping,
+    state: WrapState,
+    at: BytePlace,
+    word: Word,
+) -> WrapState
+    requires { ⌜ WordRoom (profileOf (wrapping .profile)) (now text) (at .0) word state ⌝ }
+    ensures { λ r. ⌜ Stepped (now (rows .entry)) state (longWordOf (profileOf (wrapping .profile)) (wrapping .width .0) (firstWord (textAt (now (text .entry)) (at .0)))) (2 * (word .sep .0 - at .0)) (word .sep .0 - at .0) (now (rows .exit)) r ⌝ }
+{
+    let width = wrapping.width;
+    let start = state.start;
+    let position = state.position;
+    let tally = state.tally;
+    let columns = word.width;
+    let end = Column(position.0 + columns.0);
+    if end.0 - start.0 <= width.0 {
+        return WrapState {
+            start: start,
+            position: end,
+            tally: tally,
+        };
+    }
+    let a = at.0;
+    let b = word.word.0;
+    let e = word.sep.0;
+    let t = by_clusters(&text[a..b], rows, wrapping, state);
+    by_clusters(&text[b..e], rows, wrapping, t)
+}
+
+// A word that fits within the row, or wraps to the next.
+fn one_word(
+    text: &[u8],
+    rows: &mut [usize],
+    wrapping: Wrapping,
+    state: WrapState,
+    at: BytePlace,
+    word: Word,
+) -> WrapState
+    requires { ⌜ WordRoom (profileOf (wrapping .profile)) (now text) (at .0) word state ⌝ }
+    ensures { λ r. ⌜ Stepped (now (rows .entry)) state (oneWordOf (profileOf (wrapping .profile)) (wrapping .width .0) (firstWord (textAt (now (text .entry)) (at .0)))) (2 * (word .sep .0 - at .0)) (word .sep .0 - at .0 + 1) (now (rows .exit)) r ⌝ }
+{
+    let width = wrapping.width;
+    let start = state.start;
+    let position = state.position;
+    let tally = state.tally;
+    let columns = word.width;
+    let end = Column(position.0 + columns.0);
+    if end.0 - start.0 <= width.0 {
+        return WrapState {
+            start: start,
+            position: end,
+            tally: tally,
+        };
+    }
+    let t = push_held(rows, state);
+    long_word(text, rows, wrapping, t, at, word)
+}
+
+// A text broken between words.
+fn by_words(text: &[u8], rows: &mut [usize], wrapping: Wrapping, state: WrapState) -> WrapState
+    requires { ⌜ Room state (2 * length (now text)) ⌝ }
+    ensures { λ r. ⌜ Stepped (now (rows .entry)) state (wordsOf (profileOf (wrapping .profile)) (wrapping .width .0) (textAt (now (text .entry)) 0)) (2 * length (now (text .entry))) (2 * length (now (text .entry))) (now (rows .exit)) r ⌝ }
+{
+    let profile = wrapping.profile;
+    let mut t = state;
+    let mut p = BytePlace(0);
+    while p.0 < text.len() {
+        let v = next_word(profile, text, p);
+        let end = v.sep;
+        if end.0 == p.0 {
+            return t;
+        }
+        t = one_word(text, rows, wrapping, t, p, v);
+        p = end;
+    }
+    t
+}
+
+// The text of a span, by the mode.
+fn split_text(text: &[u8], rows: &mut [usize], wrapping: Wrapping, state: WrapState) -> WrapState
+    requires { ⌜ Room state (2 * length (now text)) ⌝ }
+    ensures { λ r. ⌜ Stepped (now (rows .entry)) state (textOf (profileOf (wrapping .profile)) (wrapping .width .0) (eqb (wrapping .mode) 2) (textAt (now (text .entry)) 0)) (2 * length (now (text .entry))) (2 * length (now (text .entry))) (now (rows .exit)) r ⌝ }
+{
+    if wrapping.mode == 2 {
+        return by_words(text, rows, wrapping, state);
+    }
+    by_clusters(text, rows, wrapping, state)
+}
+
+// The bytes that a record stands for, as far as the line has them.
+pub fn text_of<'a>(line: &'a [u8], place: BytePlace, len: usize) -> &'a [u8]
+    ensures { λ r. ⌜ now r ≡ take len (drop (place .0) (now (line .entry))) ⌝ }
+{
+    let at = place.0;
+    if line.len() <= at {
+        return &line[..0];
+    }
+    if line.len() - at <= len {
+        return &line[at..];
+    }
+    let end = at + len;
+    &line[at..end]
+}
+
+// One span.
+pub fn split_span(
+    line: &[u8],
+    rows: &mut [usize],
+    wrapping: Wrapping,
+    state: WrapState,
+    span: Span,
+) -> WrapState
+    requires { ⌜ SpanRoom (now line) (wrapping .len) state ⌝ }
+    ensures { λ r. ⌜ Stepped (now (rows .entry)) state (spanOf (profileOf (wrapping .profile)) (wrapping .width .0) (wrapping .mode) (take (wrapping .len) (now (line .entry))) span) (2 * wrapping .len + 8) (2 * wrapping .len + 1) (now (rows .exit)) r ⌝ }
+{
+    let width = wrapping.width;
+    let kind = span.kind;
+    let place = span.place;
+    let len = wrapping.len;
+    if wrapping.mode == 0 {
+        return state;
+    }
+    match kind {
+        1 | 2 => split_text(
+            text_of(&line[..len], place, span.len),
+            rows,
+            wrapping,
+            state,
+        ),
+        3 | 4 => unit(rows, width, state, Column(4)),
+        5 => unit(rows, width, state, Column(8)),
+        10 => tab(rows, width, state),
+        _ => state,
+    }
+}
+
+// The last row, unless it is empty and not the only one.
+pub fn last_row(rows: &mut [usize], wrapping: Wrapping, state: WrapState) -> Tally
+    ensures { λ r. ⌜ LastRow (now (rows .entry)) state (wrapping .mode) (now (rows .exit)) r ⌝ }
+{
+    let start = state.start;
+    let position = state.position;
+    let tally = state.tally;
+    if wrapping.mode == 0 {
+        return push_row(rows, tally, Column(0), Column(usize::MAX));
+    }
+    if start.0 < position.0 {
+        return push_row(rows, tally, start, position);
+    }
+    if tally.count == 0 {
+        return push_row(rows, tally, start, position);
+    }
+    tally
+}
+
+// Nothing pushed yet, with the rows whose bounds are asked for.
+pub fn begin(first: usize, last: usize) -> WrapState
+    ensures { λ r. ⌜ r ≡ beginning first last ⌝ }
+{
+    WrapState {
+        start: Column(0),
+        position: Column(0),
+        tally: Tally {
+            count: 0,
+            first: first,
+            last: last,
+            start: Column(0),
+            end: Column(0),
+            ended: Column(0),
+        },
+    }
+}
+
+// The rows of the first `count` spans of a line.
+pub fn make_wrap(
+    spans: &[Span],
+    line: &[u8],
+    rows: &mut [usize],
+    wrapping: Wrapping,
+    state: WrapState,
+    count: usize,
+) -> Tally
+    requires { ⌜ SpansRoom (now spans) (now line) (wrapping .len) state count ⌝ }
+    ensures { λ r. ⌜ MadeWrap (profileOf (wrapping .profile)) (wrapping .width .0) (wrapping .mode) (take (wrapping .len) (now (line .entry))) (take count (now (spans .entry))) (now (rows .entry)) state (now (rows .exit)) r ⌝ }
+{
+    let mut t = state;
+    let mut i = 0;
+    while i < count {
+        t = split_span(line, rows, wrapping, t, spans[i]);
+        i += 1;
+    }
+    last_row(rows, wrapping, t)
+}
