@@ -40,7 +40,7 @@ pub record At (P : Profile) (t : List ℕ) (q total : ℕ) : Type 0 where
 
 module _ (P : Profile) where
   -- the class at the start of a scalar
-  class-of : (t : List ℕ) (j k : ℕ) (d : Scalar) (rest es : List Scalar) → runOf (decode t) ≡ reverseAux rest (d ∷ es) → j ≡ size rest
+  pub class-of : (t : List ℕ) (j k : ℕ) (d : Scalar) (rest es : List Scalar) → runOf (decode t) ≡ reverseAux rest (d ∷ es) → j ≡ size rest
       → k ≡ number (P .class (firstSequence (decode (drop j t)) .code)) → k ≡ number (P .class (d .code))
   class-of t j k d rest es e p f =
       f ∙ ap (λ (i : ℕ). number (P .class (firstSequence (decode (drop i t)) .code))) p
@@ -50,11 +50,11 @@ module _ (P : Profile) where
   unfolding flip
   odd-begin t q rest es e p = record { rest = rest; es = es; parts = e; place = p; parity = refl }
 
-  odd-ri : (d : Scalar) (rest : List Scalar) → number (P .class (d .code)) ≡ 10 → context P (d ∷ rest) .odd ≡ not (context P rest .odd)
+  pub odd-ri : (d : Scalar) (rest : List Scalar) → number (P .class (d .code)) ≡ 10 → context P (d ∷ rest) .odd ≡ not (context P rest .odd)
   unfolding context after among
   odd-ri d rest e = rw e refl
 
-  odd-other : (d : Scalar) (rest : List Scalar) → (number (P .class (d .code)) ≢ 10) → context P (d ∷ rest) .odd ≡ false
+  pub odd-other : (d : Scalar) (rest : List Scalar) → (number (P .class (d .code)) ≢ 10) → context P (d ∷ rest) .odd ≡ false
   unfolding context after among
   odd-other d rest e = rw (ne-eqb (number (P .class (d .code))) 10 e) refl
 

@@ -156,7 +156,7 @@ fn class_at(profile: Profile, s: &[u8], at: usize) -> u8
 }
 
 // Do the bytes at a place stand for a regional indicator?
-fn is_regional(s: &[u8], at: usize) -> bool
+pub fn is_regional(s: &[u8], at: usize) -> bool
     requires { ⌜ at + 4 ≤ length (now s) ⌝ }
     ensures { λ r. ⌜ r ≡ regionalAt (now (s .entry)) at ⌝ }
 {
