@@ -214,7 +214,13 @@ choose-none t q i = record { choice = inr (inr refl) }
 pub choose-kept : (t : List ℕ) (q i : ℕ) → i ≤ q → EvenChoice t q i i
 choose-kept t q i h = record { choice = inr (inl (record { is = refl; low = h })) }
 
-pub choose-between : (t : List ℕ) (q i : ℕ) (a b : Bool) → 4 ≤ q → q + 4 ≤ length t → a ≡ regionalAt t q → b ≡ regionalAt t (q - 4) → (a && b) ≡ true → EvenChoice t q i q
-choose-between t q i a b l h f g z =
+pub choose-between : (t : List ℕ) (q i : ℕ) → EvenBetween t q q → EvenChoice t q i q
+choose-between t q i b = record { choice = inl b }
+
+pub between-no : (t : List ℕ) (q : ℕ) → false ≡ true → EvenBetween t q q
+between-no t q e = let z : _≡_ {A = ℕ} 0 1 = cc in absurd (omega arith)
+
+pub between-yes : (t : List ℕ) (q : ℕ) (a b : Bool) → 4 ≤ q → q + 4 ≤ length t → a ≡ regionalAt t q → b ≡ regionalAt t (q - 4) → (a && b) ≡ true → EvenBetween t q q
+between-yes t q a b l h f g z =
     let p = and-T a b (true-T z) in
-    record { choice = inl (record { is = refl; low = l; high = h; behind = sym f ∙ is-true a (p .0); before = sym g ∙ is-true b (p .1) }) }
+    record { is = refl; low = l; high = h; behind = sym f ∙ is-true a (p .0); before = sym g ∙ is-true b (p .1) }

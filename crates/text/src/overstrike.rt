@@ -13,7 +13,7 @@ ghost use mathlib.Core.List.{[], _∷_};
 ghost use lib.ListN.{length, take, drop};
 ghost use Rattle.text.specs.Utf8.{sameBytes, decode, runs, bytesOf};
 ghost use Rattle.text.specs.Overstrike.{bolded, underlined, ambiguous, backspace, step, convertRun, convertPieces, hasBackspace, convert};
-ghost use Rattle.text.specs.Code.{profileOf, runOf, whole, backward, EvenAt, KeptEven, Front, FrontEven, BackReady, PairEnd, EvenChoice, Pushed, styleOf, orderOf, partOf, stateOf, Sound, Stepped, clusterOn, finishOn, pushedOn, BackspaceStep, StruckStep, StepReady, FinishReady, PendingReady, Finished, conversion, plain, Strike, Wrote, changedStyle, SpanDone, PieceReady, PieceDone};
+ghost use Rattle.text.specs.Code.{profileOf, runOf, whole, backward, EvenAt, KeptEven, Front, FrontEven, BackReady, PairEnd, EvenBetween, EvenChoice, Pushed, styleOf, orderOf, partOf, stateOf, Sound, Stepped, clusterOn, finishOn, pushedOn, BackspaceStep, StruckStep, StepReady, FinishReady, PendingReady, Finished, conversion, plain, Strike, Wrote, changedStyle, SpanDone, PieceReady, PieceDone};
 
 // An overstrike style.
 pub struct Overstrike {
@@ -52,18 +52,26 @@ fn ends_in_pair(t: &[u8], even: usize) -> bool
     false
 }
 
+// Do regional indicators stand before q and behind it?
+fn is_between(t: &[u8], q: usize) -> bool
+    requires { ⌜ q < length (now t) ⌝ }
+    ensures { λ r. ⌜ (r ≡ true → EvenBetween (now (t .entry)) q q) ⌝ }
+{
+    if q < 4 {
+        return false;
+    }
+    if t.len() < q + 4 {
+        return false;
+    }
+    is_regional(t, q) & is_regional(t, q - 4)
+}
+
 // An even place of the text without its last cluster, which begins at q.
 fn even_before(t: &[u8], q: usize, even: usize) -> usize
     requires { ⌜ q < length (now t) ⌝ }
     ensures { λ r. ⌜ EvenChoice (now (t .entry)) q even r ⌝ }
 {
-    if q < 4 {
-        return 0;
-    }
-    if t.len() < q + 4 {
-        return 0;
-    }
-    if is_regional(t, q) & is_regional(t, q - 4) {
+    if is_between(t, q) {
         return q;
     }
     if even <= q {
