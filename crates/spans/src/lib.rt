@@ -215,3 +215,18 @@ fn answer_of(r: Reading) -> Answer
         count: r.count,
     }
 }
+
+// A record for each step, and zeros after the last.
+fn fill(spans: &mut [Span], conv: &[u8], matches: &[usize], start: Reading)
+    requires { ⌜ Holds (now conv) (now matches) start ⌝ }
+    ensures { λ _. ⌜ now (spans .exit) ≡ padded (length (now (spans .entry))) (recordsOf (now (conv .entry)) (now (matches .entry)) start) ⌝ }
+{
+    let mut c = start;
+    let mut i = 0;
+    while i < spans.len() {
+        let n = next_reading(conv, matches, c);
+        spans[i] = n.span;
+        c = n.reading;
+        i += 1;
+    }
+}
