@@ -230,3 +230,12 @@ fn fill(spans: &mut [Span], conv: &[u8], matches: &[usize], start: Reading)
         i += 1;
     }
 }
+
+// The call `read`: the converted line in conv, the records in spans, and zeros after each.
+pub fn read(line: &[u8], matches: &[usize], conv: &mut [u8], spans: &mut [Span]) -> Answer
+    ensures { λ r. ⌜ readAs r (now (conv .exit)) (now (spans .exit)) ≡ readCall profile01 (length (now (conv .entry))) (length (now (spans .entry))) (now (matches .entry)) (now (line .entry)) ⌝ }
+{
+    let r = prepare(line, matches, conv, spans.len());
+    fill(spans, conv, matches, r);
+    answer_of(r)
+}
