@@ -169,3 +169,22 @@ module _ (n : ℕ) (t : Tally) (z : t .count ≡ 0) where
       let g : length (keeps zeros-yet rs .numbers) ≡ n = ap length l ∙ (rw (length-append, a, length-replicate {A = ℕ} (n - 2 * length rs) 0) (omega arith)) in
       let lt : length rs < n / 2 = omega arith in
       pairs r rs (replicate (n - 2 * suc (length rs)) 0) k f g lt a ∙ ap (λ (x : List ℕ). x ++ replicate (n - 2 * suc (length rs)) 0) (sym (ap numbersOf (reverse-cons r rs) ∙ numbersOf-append (reverse rs) (r ∷ [])))
+
+-- ---- rows in their order
+
+-- more rows, the first one first
+unfoldable pub keepAll : Kept → List Row → Kept
+unfolding keep
+keepAll k [] = k
+keepAll k (r ∷ rs) = keepAll (keep k r) rs
+
+keeps-last : (k : Kept) (rs : List Row) (r : Row) → keeps k (rs ++ r ∷ []) ≡ keeps (keep k r) rs
+unfolding keeps
+keeps-last k [] r = refl
+keeps-last k (x ∷ rs) r = ap (λ (y : Kept). keep y x) (keeps-last k rs r)
+
+-- what is kept of the rows pushed, the last one first, is kept of them in their order
+pub keeps-all : (k : Kept) (rs : List Row) → keeps k (reverse rs) ≡ keepAll k rs
+unfolding keeps keepAll
+keeps-all k [] = refl
+keeps-all k (r ∷ rs) = ap (keeps k) (reverse-cons r rs) ∙ keeps-last k (reverse rs) r ∙ keeps-all (keep k r) rs
