@@ -3,7 +3,7 @@ use mathlib.Core.Path.{_≡_, refl, sym, ap, _∙_}
 use Prim.Native.Nat.{ℕ, _+_, _-_, _*_, _/_, _%_, _≤_, _<_, _^_}
 use native.Mathlib.Nat.{add-zero}
 use native.Mathlib.Omega.{arith}
-use mathlib.Core.Bool.{Bool, cond, _||_}
+use mathlib.Core.Bool.{Bool, true, false, cond, _||_}
 use mathlib.Core.List.{List, [], _∷_}
 use mathlib.Core.Logic.{_≢_}
 use lib.ListN.{length, set}
@@ -12,7 +12,7 @@ use borrow.Author.Tests.{le-leb, lt-leb, lt-ltb, le-ltb, eq-eqb, ne-eqb}
 use Rattle.text.specs.Tests.{cases}
 use Rattle.text.specs.declared.Column.{Column}
 use Rattle.rows.specs.Rows.{Row, row, Wrap, wrap, unit, tabbed, pushed}
-use Rattle.rows.specs.Contracts.{column, nextCount, tallied, pairAt, Kept, kept, keep, keeps, Held, held, on, Room, Stepped, unitOf, lastKept, LastRow}
+use Rattle.rows.specs.Contracts.{column, nextCount, tallied, pairAt, Kept, kept, keep, keeps, Held, held, on, Room, Stepped, advanced, unitOf, lastKept, LastRow}
 use Rattle.rows.specs.declared.wrap.Tally.{Tally}
 use Rattle.rows.specs.declared.wrap.WrapState.{WrapState}
 
@@ -62,33 +62,29 @@ module _ (l : List ℕ) (st : WrapState) (f : Wrap → Wrap) (n : ℕ) (s p : Co
         more = omega (arith, ap (λ (x : Kept). x .tally .count) k, next-le (st .tally .count));
       }
 
-module _ (l : List ℕ) (st : WrapState) (width n : ℕ) (room : Room st n) where
-  pub unit-stays : st .position .0 + n - st .start .0 ≤ width
-      → Stepped l st (unitOf width n) n 1 l (record { start = st .start; position = column (st .position .0 + n); tally = st .tally })
+module _ (l : List ℕ) (st : WrapState) (width n : ℕ) (room : Room st n) (b : Bool) (test : b ≡ leb (st .position .0 + n - st .start .0) width) where
+  pub unit-stays : (t : WrapState) → b ≡ true → t ≡ advanced st n → Stepped l st (unitOf width n) n 1 l t
   unfolding unitOf unit
-  unit-stays h = stays l st (unitOf width n) n (st .start) (column (st .position .0 + n)) (omega arith) (omega arith) 1 (rw (le-leb (st .position .0 + n - st .start .0) width h))
+  unit-stays t h e = rw e (stays l st (unitOf width n) n (st .start) (column (st .position .0 + n)) (omega arith) (omega arith) 1 (rw (sym test ∙ h)))
 
-  pub unit-wraps : (l′ : List ℕ) (r : Tally) → width < st .position .0 + n - st .start .0 → kept l′ r ≡ keep (kept l (st .tally)) (row (st .start .0) (st .position .0))
+  pub unit-wraps : (l′ : List ℕ) (r : Tally) → b ≡ false → kept l′ r ≡ keep (kept l (st .tally)) (row (st .start .0) (st .position .0))
       → Stepped l st (unitOf width n) n 1 l′ (record { start = st .position; position = column (st .position .0 + n); tally = r })
   unfolding unitOf unit
   unit-wraps l′ r h k =
-      pushes l st (unitOf width n) n (st .position) (column (st .position .0 + n)) (omega arith) (omega arith) l′ r (st .start .0) (st .position .0)
-      (rw (lt-leb (st .position .0 + n - st .start .0) width h)) k
+      pushes l st (unitOf width n) n (st .position) (column (st .position .0 + n)) (omega arith) (omega arith) l′ r (st .start .0) (st .position .0) (rw (sym test ∙ h)) k
 
-module _ (l : List ℕ) (st : WrapState) (width : Column) (room : Room st 8) where
+module _ (l : List ℕ) (st : WrapState) (width : ℕ) (room : Room st 8) (b : Bool) (test : b ≡ leb (st .position .0 + (8 - st .position .0 % 8) - st .start .0) width) where
   abbrev stop : ℕ
   stop = st .position .0 + (8 - st .position .0 % 8)
 
-  pub tab-stays : stop - st .start .0 ≤ width .0 → Stepped l st (tabbed (width .0)) 8 1 l (record { start = st .start; position = column stop; tally = st .tally })
+  pub tab-stays : (t : WrapState) → b ≡ true → t ≡ advanced st (8 - st .position .0 % 8) → Stepped l st (tabbed width) 8 1 l t
   unfolding tabbed
-  tab-stays h = stays l st (tabbed (width .0)) 8 (st .start) (column stop) (omega arith) (omega arith) 1 (rw (le-leb (stop - st .start .0) (width .0) h))
+  tab-stays t h e = rw e (stays l st (tabbed width) 8 (st .start) (column stop) (omega arith) (omega arith) 1 (rw (sym test ∙ h)))
 
-  pub tab-wraps : (l′ : List ℕ) (r : Tally) → width .0 < stop - st .start .0 → kept l′ r ≡ keep (kept l (st .tally)) (row (st .start .0) stop)
-      → Stepped l st (tabbed (width .0)) 8 1 l′ (record { start = column stop; position = column stop; tally = r })
+  pub tab-wraps : (l′ : List ℕ) (r : Tally) → b ≡ false → kept l′ r ≡ keep (kept l (st .tally)) (row (st .start .0) stop)
+      → Stepped l st (tabbed width) 8 1 l′ (record { start = column stop; position = column stop; tally = r })
   unfolding tabbed
-  tab-wraps l′ r h k =
-      pushes l st (tabbed (width .0)) 8 (column stop) (column stop) (omega arith) (omega arith) l′ r (st .start .0) stop
-      (rw (lt-leb (stop - st .start .0) (width .0) h)) k
+  tab-wraps l′ r h k = pushes l st (tabbed width) 8 (column stop) (column stop) (omega arith) (omega arith) l′ r (st .start .0) stop (rw (sym test ∙ h)) k
 
 module _ (l : List ℕ) (st : WrapState) (room : Room st 0) where
   pub held-none : st .start .0 ≡ st .position .0 → Stepped l st pushed 0 1 l st

@@ -25,7 +25,7 @@ use Rattle.rows.specs.Words.{Word, aWord, words}
 use Rattle.rows.specs.Words.Laws.{firstWord, restWords, first-word-all, first-word-some, words-first}
 use Rattle.rows.specs.Rows.{Row, row, Wrap, wrap, unit, pushed, byClusters, byWords, longWord, oneWord, splitText}
 use Rattle.rows.specs.Rows.Laws.{over, Natural, byClusters-over, longWord-over, byWords-over}
-use Rattle.rows.specs.Contracts.{column, textAt, Measured, WordAt, WordRoom, Kept, kept, keep, keeps, Held, held, on, Room, Stepped, unitOf, clustersOf, longWordOf, oneWordOf, wordsOf, textOf}
+use Rattle.rows.specs.Contracts.{column, textAt, Measured, WordAt, WordRoom, Kept, kept, keep, keeps, Held, held, on, Room, Stepped, advanced, unitOf, clustersOf, longWordOf, oneWordOf, wordsOf, textOf}
 use Rattle.rows.specs.declared.words.Stretch.{Stretch}
 use Rattle.rows.specs.declared.words.Word as code
 use Rattle.rows.specs.declared.wrap.WrapState.{WrapState}
@@ -187,28 +187,29 @@ module _ (P : Profile) (width : ℕ) (text : List ℕ) (at : BytePlace) (v : cod
   word-end : t .position .0 + v .width .0 ≡ t .position .0 + widthOf P (theWord .word) + widthOf P (theWord .sep)
   word-end = omega (arith, w .there .width)
 
-  pub long-fits : (l : List ℕ) → t .position .0 + v .width .0 - t .start .0 ≤ width
-      → Stepped l t (longWordOf P width theWord) (2 * (v .sep .0 - at .0)) (v .sep .0 - at .0) l (record { start = t .start; position = column (t .position .0 + v .width .0); tally = t .tally })
+  word-stays : (f : Wrap → Wrap) (m : ℕ) (l : List ℕ) (t′ : WrapState) → f (wrap [] (t .start .0) (t .position .0)) ≡ wrap [] (t .start .0) (t .position .0 + v .width .0)
+      → t′ ≡ advanced t (v .width .0) → Stepped l t f (2 * (v .sep .0 - at .0)) m l t′
+  word-stays f m l t′ q e =
+      rw e (stays l t f (2 * (v .sep .0 - at .0)) (t .start) (column (t .position .0 + v .width .0)) (omega (arith, w .room .low)) (omega (arith, w .there .small)) m q)
+
+  pub long-fits : (l : List ℕ) (b : Bool) (t′ : WrapState) → b ≡ leb (t .position .0 + v .width .0 - t .start .0) width → b ≡ true → t′ ≡ advanced t (v .width .0)
+      → Stepped l t (longWordOf P width theWord) (2 * (v .sep .0 - at .0)) (v .sep .0 - at .0) l t′
   unfolding longWordOf longWord
-  long-fits l h =
-      stays l t (longWordOf P width theWord) (2 * (v .sep .0 - at .0)) (t .start) (column (t .position .0 + v .width .0)) (omega (arith, w .room .low)) (omega (arith, w .there .small)) (v .sep .0 - at .0)
-      (rw (← word-end, le-leb (t .position .0 + v .width .0 - t .start .0) width h))
+  long-fits l b t′ q h e = word-stays (longWordOf P width theWord) (v .sep .0 - at .0) l t′ (rw (← word-end, sym q ∙ h)) e
 
-  pub one-fits : (l : List ℕ) → t .position .0 + v .width .0 - t .start .0 ≤ width
-      → Stepped l t (oneWordOf P width theWord) (2 * (v .sep .0 - at .0)) (v .sep .0 - at .0 + 1) l (record { start = t .start; position = column (t .position .0 + v .width .0); tally = t .tally })
+  pub one-fits : (l : List ℕ) (b : Bool) (t′ : WrapState) → b ≡ leb (t .position .0 + v .width .0 - t .start .0) width → b ≡ true → t′ ≡ advanced t (v .width .0)
+      → Stepped l t (oneWordOf P width theWord) (2 * (v .sep .0 - at .0)) (v .sep .0 - at .0 + 1) l t′
   unfolding oneWordOf oneWord
-  one-fits l h =
-      stays l t (oneWordOf P width theWord) (2 * (v .sep .0 - at .0)) (t .start) (column (t .position .0 + v .width .0)) (omega (arith, w .room .low)) (omega (arith, w .there .small)) (v .sep .0 - at .0 + 1)
-      (rw (← word-end, le-leb (t .position .0 + v .width .0 - t .start .0) width h))
+  one-fits l b t′ q h e = word-stays (oneWordOf P width theWord) (v .sep .0 - at .0 + 1) l t′ (rw (← word-end, sym q ∙ h)) e
 
-  pub one-wraps : (l l₁ l₂ : List ℕ) (t₁ t₂ : WrapState) → width < t .position .0 + v .width .0 - t .start .0 → Stepped l t pushed 0 1 l₁ t₁
+  pub one-wraps : (l l₁ l₂ : List ℕ) (t₁ t₂ : WrapState) (c : Bool) → c ≡ leb (t .position .0 + v .width .0 - t .start .0) width → c ≡ false → Stepped l t pushed 0 1 l₁ t₁
       → Stepped l₁ t₁ (longWordOf P width theWord) (2 * (v .sep .0 - at .0)) (v .sep .0 - at .0) l₂ t₂
       → Stepped l t (oneWordOf P width theWord) (2 * (v .sep .0 - at .0)) (v .sep .0 - at .0 + 1) l₂ t₂
   unfolding oneWordOf oneWord longWordOf
-  one-wraps l l₁ l₂ t₁ t₂ h a b =
+  one-wraps l l₁ l₂ t₁ t₂ c q h a b =
       record {
         same = then-same pushed (longWordOf P width theWord) (oneWordOf P width theWord) (held l t) (held l₁ t₁) (held l₂ t₂) (a .same) (b .same) (longWord-over P width theWord)
-            (rw (← word-end, lt-leb (t .position .0 + v .width .0 - t .start .0) width h));
+            (rw (← word-end, sym q ∙ h));
         low = b .low;
         near = omega (arith, a .near, b .near);
         more = omega (arith, a .more, b .more);
@@ -221,18 +222,18 @@ module _ (P : Profile) (width : ℕ) (text : List ℕ) (at : BytePlace) (v : cod
       let y : length (take (v .sep .0 - v .word .0) (drop (v .word .0) text)) ≤ v .sep .0 - v .word .0 = rw length-take (omega arith) in
       record { low = a .low; room = omega (arith, a .near, x, y, w .there .word, w .there .sep, w .room .room) }
 
-  pub long-breaks : (l l₁ l₂ : List ℕ) (t₁ t₂ : WrapState) → width < t .position .0 + v .width .0 - t .start .0
+  pub long-breaks : (l l₁ l₂ : List ℕ) (t₁ t₂ : WrapState) (c : Bool) → c ≡ leb (t .position .0 + v .width .0 - t .start .0) width → c ≡ false
       → Stepped l t (clustersOf P width (textAt (take (v .word .0 - at .0) (drop (at .0) text)) 0)) (2 * length (take (v .word .0 - at .0) (drop (at .0) text))) (length (take (v .word .0 - at .0) (drop (at .0) text))) l₁ t₁
       → Stepped l₁ t₁ (clustersOf P width (textAt (take (v .sep .0 - v .word .0) (drop (v .word .0) text)) 0)) (2 * length (take (v .sep .0 - v .word .0) (drop (v .word .0) text))) (length (take (v .sep .0 - v .word .0) (drop (v .word .0) text))) l₂ t₂
       → Stepped l t (longWordOf P width theWord) (2 * (v .sep .0 - at .0)) (v .sep .0 - at .0) l₂ t₂
   unfolding longWordOf longWord clustersOf
-  long-breaks l l₁ l₂ t₁ t₂ h a b =
+  long-breaks l l₁ l₂ t₁ t₂ c q h a b =
       let x : length (take (v .word .0 - at .0) (drop (at .0) text)) ≤ v .word .0 - at .0 = rw length-take (omega arith) in
       let y : length (take (v .sep .0 - v .word .0) (drop (v .word .0) text)) ≤ v .sep .0 - v .word .0 = rw length-take (omega arith) in
       record {
         same = then-same (clustersOf P width (theWord .word)) (clustersOf P width (theWord .sep)) (longWordOf P width theWord) (held l t) (held l₁ t₁) (held l₂ t₂)
             (rw (word-part P text (at .0) v (w .there)) at (a .same)) (rw (sep-part P text (at .0) v (w .there)) at (b .same)) (clusters-natural P width (theWord .sep))
-            (rw (← word-end, lt-leb (t .position .0 + v .width .0 - t .start .0) width h));
+            (rw (← word-end, sym q ∙ h));
         low = b .low;
         near = omega (arith, a .near, b .near, x, y, w .there .word, w .there .sep);
         more = omega (arith, a .more, b .more, x, y, w .there .word, w .there .sep);

@@ -10,6 +10,7 @@ use Rattle.text.specs.Calls.{Question, ask, decide, lent, counted, question1, q
 use Rattle.spans.specs.Spans.{Span, spans, Record, records}
 use Rattle.spans.specs.Calls.{Read, question4, noRecord}
 use Rattle.rows.specs.Rows.{Row, Mode, unwrapped, graphemeBoundary, wordBoundary, rows}
+pub mod Laws
 
 -- the modes by number
 unfoldable pub modeOf : ℕ → Mode

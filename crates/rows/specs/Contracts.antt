@@ -154,6 +154,10 @@ pub record WordRoom (P : Profile) (s : List ℕ) (at : ℕ) (v : code.Word) (t :
   pub there : WordAt P s at v
   pub room : Room t (2 * (v .sep .0 - at))
 
+-- n columns further within the present row
+abbrev pub advanced : WrapState → ℕ → WrapState
+advanced t n = record { start = t .start; position = column (t .position .0 + n); tally = t .tally }
+
 -- a step of at most n columns and m rows
 pub record Stepped (l : List ℕ) (t : WrapState) (f : Wrap → Wrap) (n m : ℕ) (l′ : List ℕ) (t′ : WrapState) : Type 0 where
   pub same : held l′ t′ ≡ on f (held l t)

@@ -8,13 +8,13 @@ use text::Column;
 use text::class::Profile;
 ghost use mathlib.Core.Path.{_≡_};
 ghost use Prim.Native.Nat.{_+_, _-_, _*_, _<_};
-ghost use lib.Dec.{eqb};
+ghost use lib.Dec.{eqb, leb};
 ghost use lib.ListN.{length, take, drop};
 ghost use Rattle.text.specs.Code.{profileOf};
 ghost use Rattle.rows.specs.Words.Laws.{firstWord};
 ghost use mathlib.Core.Bool.{cond};
 ghost use Rattle.rows.specs.Rows.{row, tabbed, pushed};
-ghost use Rattle.rows.specs.Contracts.{kept, keep, nextCount, tallied, Room, Stepped, unitOf, textAt, WordRoom, clustersOf, longWordOf, oneWordOf, wordsOf, textOf, spanOf, LastRow, beginning, SpanRoom, SpansRoom, MadeWrap};
+ghost use Rattle.rows.specs.Contracts.{kept, keep, nextCount, tallied, Room, Stepped, advanced, unitOf, textAt, WordRoom, clustersOf, longWordOf, oneWordOf, wordsOf, textOf, spanOf, LastRow, beginning, SpanRoom, SpansRoom, MadeWrap};
 
 // What is kept of the rows pushed: their number, the start of the row `first`, the end of the row `last`, the end of the row pushed last.
 pub struct Tally {
@@ -72,7 +72,7 @@ fn tally_row(t: Tally, start: Column, end: Column) -> Tally
 }
 
 // Pushes a row: its pair is written where it fits.
-pub fn push_row(rows: &mut [usize], tally: Tally, start: Column, end: Column) -> Tally
+fn push_row(rows: &mut [usize], tally: Tally, start: Column, end: Column) -> Tally
     ensures { λ r. ⌜ kept (now (rows .exit)) r ≡ keep (kept (now (rows .entry)) tally) (row (start .0) (end .0)) ⌝ }
 {
     let n = tally.count;
@@ -84,46 +84,63 @@ pub fn push_row(rows: &mut [usize], tally: Tally, start: Column, end: Column) ->
     tally_row(tally, start, end)
 }
 
+// Do so many more columns fit within the present row?
+fn fits(state: WrapState, columns: Column, width: Column) -> bool
+    requires { ⌜ Room state (columns .0) ⌝ }
+    ensures { λ r. ⌜ r ≡ leb (state .position .0 + columns .0 - state .start .0) (width .0) ⌝ }
+{
+    let start = state.start;
+    let position = state.position;
+    position.0 + columns.0 - start.0 <= width.0
+}
+
+// So many columns further within the present row.
+fn advance(state: WrapState, columns: Column) -> WrapState
+    requires { ⌜ Room state (columns .0) ⌝ }
+    ensures { λ r. ⌜ r ≡ advanced state (columns .0) ⌝ }
+{
+    let start = state.start;
+    let position = state.position;
+    let tally = state.tally;
+    WrapState {
+        start: start,
+        position: Column(position.0 + columns.0),
+        tally: tally,
+    }
+}
+
 // Columns that are not broken.
-pub fn unit(rows: &mut [usize], width: Column, state: WrapState, columns: Column) -> WrapState
+fn unit(rows: &mut [usize], width: Column, state: WrapState, columns: Column) -> WrapState
     requires { ⌜ Room state (columns .0) ⌝ }
     ensures { λ r. ⌜ Stepped (now (rows .entry)) state (unitOf (width .0) (columns .0)) (columns .0) 1 (now (rows .exit)) r ⌝ }
 {
     let start = state.start;
     let position = state.position;
     let tally = state.tally;
-    let end = Column(position.0 + columns.0);
-    if end.0 - start.0 <= width.0 {
-        return WrapState {
-            start: start,
-            position: end,
-            tally: tally,
-        };
+    if fits(state, columns, width) {
+        return advance(state, columns);
     }
     let more = push_row(rows, tally, start, position);
     WrapState {
         start: position,
-        position: end,
+        position: Column(position.0 + columns.0),
         tally: more,
     }
 }
 
 // A tab, up to the next multiple of 8 of the line's column.
-pub fn tab(rows: &mut [usize], width: Column, state: WrapState) -> WrapState
+fn tab(rows: &mut [usize], width: Column, state: WrapState) -> WrapState
     requires { ⌜ Room state 8 ⌝ }
     ensures { λ r. ⌜ Stepped (now (rows .entry)) state (tabbed (width .0)) 8 1 (now (rows .exit)) r ⌝ }
 {
     let start = state.start;
     let position = state.position;
     let tally = state.tally;
-    let end = Column(position.0 + (8 - position.0 % 8));
-    if end.0 - start.0 <= width.0 {
-        return WrapState {
-            start: start,
-            position: end,
-            tally: tally,
-        };
+    let columns = Column(8 - position.0 % 8);
+    if fits(state, columns, width) {
+        return advance(state, columns);
     }
+    let end = Column(position.0 + columns.0);
     let more = push_row(rows, tally, start, end);
     WrapState {
         start: end,
@@ -133,7 +150,7 @@ pub fn tab(rows: &mut [usize], width: Column, state: WrapState) -> WrapState
 }
 
 // What the present row holds is pushed, if it holds anything.
-pub fn push_held(rows: &mut [usize], state: WrapState) -> WrapState
+fn push_held(rows: &mut [usize], state: WrapState) -> WrapState
     requires { ⌜ Room state 0 ⌝ }
     ensures { λ r. ⌜ Stepped (now (rows .entry)) state pushed 0 1 (now (rows .exit)) r ⌝ }
 {
@@ -186,17 +203,9 @@ fn long_word(
     ensures { λ r. ⌜ Stepped (now (rows .entry)) state (longWordOf (profileOf (wrapping .profile)) (wrapping .width .0) (firstWord (textAt (now (text .entry)) (at .0)))) (2 * (word .sep .0 - at .0)) (word .sep .0 - at .0) (now (rows .exit)) r ⌝ }
 {
     let width = wrapping.width;
-    let start = state.start;
-    let position = state.position;
-    let tally = state.tally;
     let columns = word.width;
-    let end = Column(position.0 + columns.0);
-    if end.0 - start.0 <= width.0 {
-        return WrapState {
-            start: start,
-            position: end,
-            tally: tally,
-        };
+    if fits(state, columns, width) {
+        return advance(state, columns);
     }
     let a = at.0;
     let b = word.word.0;
@@ -218,17 +227,9 @@ fn one_word(
     ensures { λ r. ⌜ Stepped (now (rows .entry)) state (oneWordOf (profileOf (wrapping .profile)) (wrapping .width .0) (firstWord (textAt (now (text .entry)) (at .0)))) (2 * (word .sep .0 - at .0)) (word .sep .0 - at .0 + 1) (now (rows .exit)) r ⌝ }
 {
     let width = wrapping.width;
-    let start = state.start;
-    let position = state.position;
-    let tally = state.tally;
     let columns = word.width;
-    let end = Column(position.0 + columns.0);
-    if end.0 - start.0 <= width.0 {
-        return WrapState {
-            start: start,
-            position: end,
-            tally: tally,
-        };
+    if fits(state, columns, width) {
+        return advance(state, columns);
     }
     let t = push_held(rows, state);
     long_word(text, rows, wrapping, t, at, word)

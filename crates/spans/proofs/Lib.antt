@@ -4,6 +4,9 @@ pub mod Table
 pub mod Sequences
 pub mod Clusters
 pub mod Printable
-pub mod Reading
+pub mod ReaderLaws
 pub mod Searching
 pub mod StretchLaws
+pub mod CallLaws
+pub mod Again
+pub mod Shared

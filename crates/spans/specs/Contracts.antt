@@ -1,6 +1,6 @@
 -- What the contracts of the code say beyond the definitions.
 use mathlib.Core.Path.{_≡_}
-use Prim.Native.Nat.{ℕ, suc, _+_, _-_, _*_, _/_, _%_, _≤_, _<_}
+use Prim.Native.Nat.{ℕ, zero, suc, _+_, _-_, _*_, _/_, _%_, _≤_, _<_}
 use mathlib.Core.Bool.{Bool, true, false, not, cond, _&&_, _||_}
 use mathlib.Core.Option.{Option, none, some}
 use mathlib.Core.List.{List, [], _∷_, _++_}
@@ -10,6 +10,9 @@ use Rattle.text.specs.Utf8.{Scalar, decode, runOf, bytesOf}
 use Rattle.text.specs.Class.{Profile}
 use Rattle.text.specs.Cluster.{clusters}
 use Rattle.text.specs.Code.{size}
+use Rattle.text.specs.Width.{profile01}
+use Rattle.text.specs.Calls.{counted}
+use Rattle.text.specs.declared.Answer.{Answer}
 use Rattle.spans.specs.Sgr.{digit, parameters, allowed, coloured, ordersFrom, orders}
 use Rattle.spans.specs.Sequence.{Sequence, sgr, eraseToEnd, ignored, hyperlink, lineDrawing, Found, found, missing, leading, past, parameterByte, uriByte, closed}
 use Rattle.spans.specs.Search.{Stretch, stretch, escapeMatch, escapesFrom, trimmed, escapes, lengthOf, searchedLength, inOrder, offsetFrom, readPart, readMatches, read}
@@ -19,6 +22,10 @@ use Rattle.spans.specs.declared.reader.Look.{Look}
 use Rattle.spans.specs.declared.reader.Place.{Place}
 use Rattle.spans.specs.declared.reader.Matched.{Matched}
 use Rattle.spans.specs.declared.reader.NextSpan.{NextSpan}
+use Rattle.spans.specs.Calls.{Read, readCall}
+use Rattle.spans.specs.declared.Reading.{Reading}
+use Rattle.spans.specs.declared.NextReading.{NextReading}
+use Rattle.spans.specs.declared.Tally.{Tally}
 use Rattle.spans.specs.declared.stretches.Cursor.{Cursor}
 use Rattle.spans.specs.declared.stretches.NextRecord.{NextRecord}
 use Rattle.spans.specs.declared.search.Escape.{Escape}
@@ -419,3 +426,69 @@ pub record Started (line matches : List ℕ) (r : Cursor) : Type 0 where
   pub same : (P : Profile) → remaining P line matches r ≡ records (read P matches line)
   pub sound : Sound line matches r
   pub count : r .count ≡ 0
+
+-- ---- the call `read`
+
+-- the same place with no spans counted
+abbrev pub uncounted : Cursor → Cursor
+uncounted c = record { place = c .place; end = c .end; matched = c .matched; index = c .index; offsets = c .offsets; count = 0 }
+
+pub record TallyReady (line matches : List ℕ) (c : Cursor) : Type 0 where
+  pub sound : Sound line matches c
+  pub none : c .count ≡ 0
+
+-- the number of spans, up to the number of places, and whether there are more
+pub record Tallied (P : Profile) (line matches : List ℕ) (c : Cursor) (places : ℕ) (r : Tally) : Type 0 where
+  pub more : r .more ≡ ltb places (length (remaining P line matches c))
+  pub count : r .more ≡ false → r .count ≡ length (remaining P line matches c)
+
+abbrev pub refusedBy : ℕ → Reading
+refusedBy n = record { number = n; count = 0; len = 0; cursor = record { place = record { at = 0; run = 0 }; end = 0; matched = record { inside = false; number = 0 }; index = 0; offsets = record { origin = 0; passed = 0; next = record { from = 0; upto = 0; found = false } }; count = 0 } }
+
+-- questions 3 and 4
+unfoldable pub laterQuestions : Profile → List ℕ → List ℕ → ℕ → ℕ
+unfolding inOrder searchedLength read
+laterQuestions P line matches places = cond (inOrder (searchedLength line) 0 matches) (cond (leb (length (read P matches line)) places) 0 4) 3
+
+pub record Planned (P : Profile) (line matches : List ℕ) (places : ℕ) (r : Reading) : Type 0 where
+  pub number : r .number ≡ laterQuestions P line matches places
+  pub count : r .count ≡ counted (length (read P matches line)) (r .number)
+  pub len : r .number ≡ 0 → r .len ≡ length line
+  pub same : r .number ≡ 0 → remaining P line matches (r .cursor) ≡ records (read P matches line)
+  pub sound : r .number ≡ 0 → Sound line matches (r .cursor)
+
+-- the reading has its converted line in conv
+pub record HeldIn (conv matches : List ℕ) (r : Reading) : Type 0 where
+  pub fits : r .len ≤ length conv
+  pub sound : Sound (take (r .len) conv) matches (r .cursor)
+
+abbrev pub Holds : List ℕ → List ℕ → Reading → Type 0
+Holds conv matches r = r .number ≡ 0 → HeldIn conv matches r
+
+-- the records that it has before it
+unfoldable pub recordsOf : List ℕ → List ℕ → Reading → List Record
+unfolding remaining profile01
+recordsOf conv matches r = cond (eqb (r .number) 0) (remaining profile01 (take (r .len) conv) matches (r .cursor)) []
+
+pub record NextHolds (conv matches : List ℕ) (r : Reading) (n : NextReading) : Type 0 where
+  pub head : n .span ≡ firstRecord (recordsOf conv matches r)
+  pub tail : recordsOf conv matches (n .reading) ≡ drop 1 (recordsOf conv matches r)
+  pub holds : Holds conv matches (n .reading)
+
+-- n places: the records and zeros after them
+unfoldable pub padded : ℕ → List Record → List Record
+unfolding firstRecord
+padded zero rs = []
+padded (suc n) rs = firstRecord rs ∷ padded n (drop 1 rs)
+
+abbrev pub answerOf : Reading → Answer
+answerOf r = record { number = r .number; count = r .count }
+
+abbrev pub readAs : Answer → List ℕ → List Record → Read
+readAs a conv spans = record { number = a .number; count = a .count; conv = conv; spans = spans }
+
+-- what `prepare` leaves: the call's answer, the converted line, and the reading of its records
+pub record Prepared (line matches : List ℕ) (size : ℕ) (conv : List ℕ) (places : ℕ) (r : Reading) : Type 0 where
+  pub holds : Holds conv matches r
+  pub outcome : readAs (answerOf r) conv (padded places (recordsOf conv matches r)) ≡ readCall profile01 size places matches line
+  pub lengths : length conv ≡ size

@@ -1,7 +1,7 @@
 -- What the short cuts rest on: scalars below 80, and ranges in which every scalar is of class other.
 use Prim.Native.Nat.{_+_, _-_, _<_, _≤_, suc, zero, ℕ}
 use native.Mathlib.Omega.{arith}
-use mathlib.Core.Bool.{Bool, _&&_, _||_, false, not, true, and-false}
+use mathlib.Core.Bool.{Bool, _&&_, _||_, and-false, false, not, true}
 use mathlib.Core.List.{List, [], _∷_}
 use mathlib.Core.Logic.{_≢_}
 use mathlib.Core.Path.{_∙_, _≡_, ap, refl, sym}
@@ -9,7 +9,7 @@ use lib.Dec.{T, eqb, eqb→eq, leb, leb→le, ltb, ltb→lt}
 use lib.ListN.{drop, getD, length}
 use lib.Seq.{drop-cons}
 use borrow.Author.Tests.{eqb-false, eqb-true, le-leb, lt-leb, ne-eqb, not-true}
-use Rattle.text.specs.Class.{Profile, among, class01, control, controls, cr, extends, inAny, lf, number, other}
+use Rattle.text.specs.Class.{Profile, among, class01, control, controls, cr, extends, inAny, isControl, lf, number, other}
 use Rattle.text.specs.Cluster.{Context, joined}
 use Rattle.text.specs.Code.{asciiPair, back, firstSequence, isTail, plain, profileOf, quiets, regionalAt, sequenceOf}
 use Rattle.text.specs.Tests.{and-T, cases, is-false, is-true, or-T, true-T}
@@ -150,16 +150,37 @@ regional-each : T (eachFrom 0xA6 26 regional-test)
 unfolding eachFrom regional-test sequence value number class01
 regional-each = tt
 
+-- what is read at a regional indicator's bytes
+regional-read : (t : List ℕ) (j : ℕ) → j + 4 ≤ length t → regionalAt t j ≡ true → sequenceOf (value (0xF0 ∷ 0x9F ∷ 0x87 ∷ getD t (j + 3) 0 ∷ [])) 4 ≡ firstSequence (decode (drop j t))
+unfolding regional-test
+regional-read t j h f =
+    let w = regional-bytes t j f in
+    let d : ℕ = getD t (j + 3) 0 in
+    let k = and-T (eqb (sequence (0xF0 ∷ 0x9F ∷ 0x87 ∷ d ∷ [])) 4) _ (true-T (each-at 26 0xA6 d regional-test regional-each (w .low) (omega (arith, w .high)))) in
+    let n : sequence (0xF0 ∷ 0x9F ∷ 0x87 ∷ d ∷ []) ≡ 4 = eqb→eq _ _ (k .0) in
+    decode-at t j 0xF0 0x9F 0x87 d 4 (value (0xF0 ∷ 0x9F ∷ 0x87 ∷ d ∷ [])) (omega arith) (sym (w .a)) (sym (w .b)) (sym (w .c)) refl (sym n) refl
+
 pub regional-class : (p : code.Profile) (t : List ℕ) (j : ℕ) → j + 4 ≤ length t → regionalAt t j ≡ true → number (profileOf p .class (firstSequence (decode (drop j t)) .code)) ≡ 10
 unfolding profileOf regional-test
 regional-class p t j h f =
     let w = regional-bytes t j f in
     let d : ℕ = getD t (j + 3) 0 in
     let k = and-T (eqb (sequence (0xF0 ∷ 0x9F ∷ 0x87 ∷ d ∷ [])) 4) _ (true-T (each-at 26 0xA6 d regional-test regional-each (w .low) (omega (arith, w .high)))) in
-    let n : sequence (0xF0 ∷ 0x9F ∷ 0x87 ∷ d ∷ []) ≡ 4 = eqb→eq _ _ (k .0) in
-    let s : sequenceOf (value (0xF0 ∷ 0x9F ∷ 0x87 ∷ d ∷ [])) 4 ≡ firstSequence (decode (drop j t)) =
-    decode-at t j 0xF0 0x9F 0x87 d 4 (value (0xF0 ∷ 0x9F ∷ 0x87 ∷ d ∷ [])) (omega arith) (sym (w .a)) (sym (w .b)) (sym (w .c)) refl (sym n) refl in
-    ap (λ (u : Sequence). number (class01 (u .code))) (sym s) ∙ eqb→eq _ _ (k .1)
+    ap (λ (u : Sequence). number (class01 (u .code))) (sym (regional-read t j h f)) ∙ eqb→eq _ _ (k .1)
+
+control-test : ℕ → Bool
+control-test d = not (isControl (value (0xF0 ∷ 0x9F ∷ 0x87 ∷ d ∷ [])))
+
+control-each : T (eachFrom 0xA6 26 control-test)
+unfolding eachFrom control-test value isControl
+control-each = tt
+
+pub regional-control : (t : List ℕ) (j : ℕ) → j + 4 ≤ length t → regionalAt t j ≡ true → false ≡ isControl (firstSequence (decode (drop j t)) .code)
+unfolding control-test
+regional-control t j h f =
+    let w = regional-bytes t j f in
+    let n : not (isControl (value (0xF0 ∷ 0x9F ∷ 0x87 ∷ getD t (j + 3) 0 ∷ []))) ≡ true = each-at 26 0xA6 (getD t (j + 3) 0) control-test control-each (w .low) (omega (arith, w .high)) in
+    sym (not-true _ n) ∙ ap (λ (u : Sequence). isControl (u .code)) (regional-read t j h f)
 
 -- ---- quiet ranges
 

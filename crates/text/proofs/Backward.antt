@@ -1,14 +1,15 @@
 -- A text read backward: the regional indicators that end at a place, a boundary there, and where the last cluster begins.
 use Prim.Native.Nat.{_+_, _-_, _<_, _≤_, ℕ}
 use native.Mathlib.Omega.{arith}
-use mathlib.Core.Bool.{Bool, false, not, true}
+use mathlib.Core.Bool.{Bool, _&&_, and-false, false, not, true}
 use mathlib.Core.List.{List, [], _∷_, reverse, reverse-reverse, reverseAux}
 use mathlib.Core.Logic.{_≢_}
 use mathlib.Core.Path.{_∙_, _≡_, ap, ap₂, refl, sym}
+use lib.Dec.{eqb}
 use lib.ListN.{drop, getD, length}
-use borrow.Author.Tests.{ne-eqb}
+use borrow.Author.Tests.{eqb-false, ne-eqb}
 use Rattle.text.specs.Class.{Profile, among, number}
-use Rattle.text.specs.Cluster.{after, context, joined, joins}
+use Rattle.text.specs.Cluster.{Context, after, context, joined, joins}
 use Rattle.text.specs.Code.{JoinsAt, Left, OddTo, asciiPair, back, contextOf, firstSequence, flip, regionalAt, size, whole, withoutLast}
 use Rattle.text.specs.Tests.{cases}
 use Rattle.text.specs.Utf8.{Scalar, decode, decodeFrom, runOf}
@@ -38,9 +39,14 @@ pub record At (P : Profile) (t : List ℕ) (q total : ℕ) : Type 0 where
   pub place : size rest ≡ q
   pub work : total ≡ size (withoutLast P (c ∷ rest))
 
+-- the context counts for a regional indicator alone
+joined-context : (p c : ℕ) (k k′ : Context) → (c ≢ 10) → joined p k c ≡ joined p k′ c
+unfolding joined among number
+joined-context p c k k′ n = rw (ne-eqb c 10 n, and-false (k .odd), and-false (k′ .odd)) refl
+
 module _ (P : Profile) where
   -- the class at the start of a scalar
-  class-of : (t : List ℕ) (j k : ℕ) (d : Scalar) (rest es : List Scalar) → runOf (decode t) ≡ reverseAux rest (d ∷ es) → j ≡ size rest
+  pub class-of : (t : List ℕ) (j k : ℕ) (d : Scalar) (rest es : List Scalar) → runOf (decode t) ≡ reverseAux rest (d ∷ es) → j ≡ size rest
       → k ≡ number (P .class (firstSequence (decode (drop j t)) .code)) → k ≡ number (P .class (d .code))
   class-of t j k d rest es e p f =
       f ∙ ap (λ (i : ℕ). number (P .class (firstSequence (decode (drop i t)) .code))) p
@@ -50,11 +56,11 @@ module _ (P : Profile) where
   unfolding flip
   odd-begin t q rest es e p = record { rest = rest; es = es; parts = e; place = p; parity = refl }
 
-  odd-ri : (d : Scalar) (rest : List Scalar) → number (P .class (d .code)) ≡ 10 → context P (d ∷ rest) .odd ≡ not (context P rest .odd)
+  pub odd-ri : (d : Scalar) (rest : List Scalar) → number (P .class (d .code)) ≡ 10 → context P (d ∷ rest) .odd ≡ not (context P rest .odd)
   unfolding context after among
   odd-ri d rest e = rw e refl
 
-  odd-other : (d : Scalar) (rest : List Scalar) → (number (P .class (d .code)) ≢ 10) → context P (d ∷ rest) .odd ≡ false
+  pub odd-other : (d : Scalar) (rest : List Scalar) → (number (P .class (d .code)) ≢ 10) → context P (d ∷ rest) .odd ≡ false
   unfolding context after among
   odd-other d rest e = rw (ne-eqb (number (P .class (d .code))) 10 e) refl
 
@@ -106,21 +112,27 @@ module _ (P : Profile) where
 
   module _ (t : List ℕ) (q j p k : ℕ) (odd r : Bool) (z : q ≢ 0) (b : j ≡ back t q) (f : p ≡ number (P .class (firstSequence (decode (drop j t)) .code)))
       (g : k ≡ number (P .class (firstSequence (decode (drop q t)) .code))) (e : r ≡ joined p (contextOf odd) k) where
-    joins-by : ((d : Scalar) (rest es : List Scalar) → runOf (decode t) ≡ reverseAux (d ∷ rest) es → size (d ∷ rest) ≡ q → p ≡ number (P .class (d .code)) → odd ≡ context P (d ∷ rest) .odd) → JoinsAt P t q r
+    joins-by : ((d : Scalar) (rest es : List Scalar) → runOf (decode t) ≡ reverseAux (d ∷ rest) es → size (d ∷ rest) ≡ q → p ≡ number (P .class (d .code)) → joined p (contextOf odd) k ≡ joined p (context P (d ∷ rest)) k) → JoinsAt P t q r
     unfolding joins size
     joins-by o c [] es h s = absurd (z (sym s))
     joins-by o c (d ∷ rest) es h s =
         let w : j ≡ size rest = b ∙ ap (back t) (sym s) ∙ back-scalar d rest (c ∷ es) t h in
         let x : p ≡ number (P .class (d .code)) = class-of t j p d rest (c ∷ es) h w f in
         let y : k ≡ number (P .class (c .code)) = class-of t q k c (d ∷ rest) es h (sym s) g in
-        let v : odd ≡ context P (d ∷ rest) .odd = o d rest (c ∷ es) h s x in
-        e ∙ rw (x, y, v) refl
+        e ∙ o d rest (c ∷ es) h s x ∙ ap₂ (λ (m n : ℕ). joined m (context P (d ∷ rest)) n) x y
 
     pub joins-regional : OddTo P t q odd → JoinsAt P t q r
-    joins-regional o = joins-by (λ d rest es h s x. o (d ∷ rest) es h s)
+    joins-regional o = joins-by (λ d rest es h s x. ap (λ (w : Bool). joined p (contextOf w) k) (o (d ∷ rest) es h s))
 
-    pub joins-other : odd ≡ false → (p ≢ 10) → JoinsAt P t q r
-    joins-other n m = joins-by (λ d rest es h s x. n ∙ sym (odd-other d rest (λ w. m (x ∙ w))))
+    joins-other : odd ≡ false → (p ≢ 10) → JoinsAt P t q r
+    joins-other n m = joins-by (λ d rest es h s x. ap (λ (w : Bool). joined p (contextOf w) k) (n ∙ sym (odd-other d rest (λ w. m (x ∙ w)))))
+
+    joins-plain : (k ≢ 10) → JoinsAt P t q r
+    joins-plain m = joins-by (λ d rest es h s x. joined-context p k (contextOf odd) (context P (d ∷ rest)) m)
+
+    -- of the two only one is a regional indicator, or none
+    pub joins-single : odd ≡ false → (eqb p 10 && eqb k 10) ≡ false → JoinsAt P t q r
+    joins-single n m = cases (eqb p 10) (λ i. joins-plain (eqb-false k 10 (rw i at m))) (λ i. joins-other n (eqb-false p 10 i))
 
   -- a pair of bytes below 80
   joins-ascii-at : (t : List ℕ) (q i : ℕ) → (q ≢ 0) → q < length t → i ≡ q - 1 → Apart P → asciiPair t i ≡ true → JoinsAt P t q false

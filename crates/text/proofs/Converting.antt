@@ -20,6 +20,7 @@ use Rattle.text.specs.Utf8.Laws.{bytesOf-append, decode-bad, decode-good
 use Rattle.text.specs.Utf8.Valid.{valid}
 use Rattle.text.specs.declared.overstrike.Conversion.{Conversion}
 use Rattle.text.specs.declared.overstrike.Progress.{Progress}
+use Rattle.text.proofs.Even.{even-zero}
 use Rattle.text.proofs.Runs.{Head, no-head, part-slice, run-drop, run-head, size-bytes, size-cons, size-reverse}
 use Rattle.text.proofs.Steps.{front-size, front-text, part-none}
 use Rattle.text.proofs.Texts.{run-prefix}
@@ -108,14 +109,14 @@ pub record Running (P : Profile) (line l : List ℕ) (p : ℕ) (st : Conversion)
   pub small : weight (stateOf line l st) ≤ 8 * p
   pub room : 8 * length line ≤ length l
 
-start-state : (line l : List ℕ) → stateOf line l (conversion 0 0 0 0 plain plain) ≡ state [] none normal normal
+start-state : (line l : List ℕ) → stateOf line l (conversion 0 0 0 0 plain plain 0) ≡ state [] none normal normal
 unfolding stateOf pendingOf styleOf backward runOf decode decodeFrom
 start-state line l = refl
 
-pub running-begin : (P : Profile) (line l : List ℕ) → 8 * length line ≤ length l → Running P line l 0 (conversion 0 0 0 0 plain plain)
+pub running-begin : (P : Profile) (line l : List ℕ) → 8 * length line ≤ length l → Running P line l 0 (conversion 0 0 0 0 plain plain 0)
 unfolding runOf decode decodeFrom bytesOf
 running-begin P line l h = record {
-  sound = record { inside = omega arith; valid = refl; part = part-none line };
+  sound = record { inside = omega arith; valid = refl; part = part-none line; even = even-zero [] };
   here = omega arith;
   run = omega arith;
   work = ap (λ (t : State). steps P t (clusters P (runOf (decode line)))) (start-state line l);

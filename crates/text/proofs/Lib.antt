@@ -6,6 +6,7 @@ pub mod Ascii
 pub mod Walks
 pub mod Backward
 pub mod Texts
+pub mod Even
 pub mod Erasing
 pub mod Pushing
 pub mod Steps

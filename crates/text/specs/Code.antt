@@ -2,7 +2,7 @@
 use Prim.Native.Nat.{_*_, _+_, _-_, _<_, _≤_, suc, zero, ℕ}
 use mathlib.Core.Bool.{Bool, _&&_, _||_, cond, false, not, true}
 use mathlib.Core.List.{List, [], _++_, _∷_, reverse, reverseAux}
-use mathlib.Core.Logic.{_≢_}
+use mathlib.Core.Logic.{_≢_, _⊎_}
 use mathlib.Core.Path.{_≡_}
 use lib.Dec.{eqb, ltb}
 use lib.ListN.{drop, getD, length, replicate, take}
@@ -19,6 +19,7 @@ use Rattle.text.specs.declared.Answer.{Answer}
 use Rattle.text.specs.declared.cluster.Indicators.{Indicators}
 use Rattle.text.specs.declared.cluster.Seen.{Seen}
 use Rattle.text.specs.declared.overstrike.Conversion.{Conversion}
+use Rattle.text.specs.declared.overstrike.Erasure.{Erasure}
 use Rattle.text.specs.declared.overstrike.Overstrike.{Overstrike}
 use Rattle.text.specs.declared.overstrike.Progress.{Progress}
 use Rattle.text.specs.declared.utf8.Sequence.{Sequence}
@@ -131,17 +132,57 @@ pub record IndicatorsTo (t : List ℕ) (q : ℕ) (r : Indicators) : Type 0 where
 unfoldable pub backward : List ℕ → List Scalar
 backward t = reverse (runOf (decode t))
 
+-- the place i of t ends a scalar, and an even number of regional indicators ends there, in every version of the profile
+pub record EvenAt (t : List ℕ) (i : ℕ) : Type 0 where
+  pub rest : List Scalar
+  pub es : List Scalar
+  pub parts : runOf (decode t) ≡ reverseAux rest es
+  pub place : size rest ≡ i
+  pub even : (v : code.Profile) → context (profileOf v) rest .odd ≡ false
+
 -- the place r that a backspace goes back to in t; the end of t where a backspace is added instead
 pub record Kept (P : Profile) (t : List ℕ) (r : ℕ) : Type 0 where
   pub inside : r ≤ length t
   pub erased : r < length t → (backward (take r t) ≡ backspace P (backward t)) × whole (take r t)
   pub added : length t ≤ r → ascii 0x08 ∷ backward t ≡ backspace P (backward t)
 
+-- the text ends in the bytes of two regional indicators, and the even place is its end
+pub record PairEnd (t : List ℕ) (even : ℕ) : Type 0 where
+  pub long : 8 ≤ length t
+  pub here : even ≡ length t
+  pub last : regionalAt t (length t - 4) ≡ true
+  pub other : regionalAt t (length t - 8) ≡ true
+
+pub record EvenBetween (t : List ℕ) (q r : ℕ) : Type 0 where
+  pub is : r ≡ q
+  pub low : 4 ≤ q
+  pub high : q + 4 ≤ length t
+  pub behind : regionalAt t q ≡ true
+  pub before : regionalAt t (q - 4) ≡ true
+
+pub record EvenKept (even q r : ℕ) : Type 0 where
+  pub is : r ≡ even
+  pub low : even ≤ q
+
+-- r is q between two regional indicators, the even place where that is not behind q, or 0
+pub record EvenChoice (t : List ℕ) (q even r : ℕ) : Type 0 where
+  pub choice : (EvenBetween t q r) ⊎ ((EvenKept even q r) ⊎ (r ≡ 0))
+
+-- and an even place before it
+pub record KeptEven (P : Profile) (t : List ℕ) (r : Erasure) : Type 0 where
+  pub kept : Kept P t (r .at)
+  pub even : EvenAt (take (r .at) t) (r .even)
+
 -- the first r bytes of the buffer l are a valid text with these scalars, the last first
 pub record Front (l : List ℕ) (r : ℕ) (out : List Scalar) : Type 0 where
   pub inside : r ≤ length l
   pub scalars : backward (take r l) ≡ out
   pub valid : whole (take r l)
+
+-- the same, with an even place
+pub record FrontEven (l : List ℕ) (r : Erasure) (out : List Scalar) : Type 0 where
+  pub front : Front l (r .at) out
+  pub even : EvenAt (take (r .at) l) (r .even)
 
 -- xs written behind the first `len` bytes of a buffer
 pub record Pushed (before after : List ℕ) (len : ℕ) (xs : List ℕ) (r : ℕ) : Type 0 where
@@ -178,8 +219,8 @@ pendingOf line n a e = cond (eqb n 0) none (cond (eqb n 1) (held (partOf line a 
 unfoldable pub stateOf : List ℕ → List ℕ → Conversion → State
 stateOf line l st = state (backward (take (st .len) l)) (pendingOf line (st .pending) (st .at) (st .end)) (styleOf (st .before)) (styleOf (st .style))
 
-abbrev pub conversion : ℕ → ℕ → ℕ → ℕ → Overstrike → Overstrike → Conversion
-conversion n p a e b s = record { len = n; pending = p; at = a; end = e; before = b; style = s }
+abbrev pub conversion : ℕ → ℕ → ℕ → ℕ → Overstrike → Overstrike → ℕ → Conversion
+conversion n p a e b s v = record { len = n; pending = p; at = a; end = e; before = b; style = s; even = v }
 
 abbrev pub plain : Overstrike
 plain = record { bold = false; underline = false }
@@ -188,6 +229,7 @@ pub record Sound (line l : List ℕ) (st : Conversion) : Type 0 where
   pub inside : st .len ≤ length l
   pub valid : whole (take (st .len) l)
   pub part : Part line (st .at) (st .end)
+  pub even : EvenAt (take (st .len) l) (st .even)
 
 -- the code's state stands for the state t
 pub record Stepped (line l : List ℕ) (st : Conversion) (t : State) : Type 0 where
@@ -207,6 +249,12 @@ finishOn P t = finish P (t .out) (t .pending) (t .before) (t .style)
 -- the order and the pending cluster behind the result so far
 unfoldable pub pushedOn : List ℕ → List ℕ → Conversion → List Scalar
 pushedOn line l st = push (partOf line (st .at) (st .end)) (push (asciis (orderOf (st .before) (st .style))) (backward (take (st .len) l)))
+
+-- what a backspace needs
+pub record BackReady (l : List ℕ) (len i : ℕ) : Type 0 where
+  pub room : len < length l
+  pub valid : whole (take len l)
+  pub even : EvenAt (take len l) i
 
 -- for any line: a backspace takes the state st with the buffer l to the state r with the buffer l′
 abbrev pub BackspaceStep : Profile → List ℕ → List ℕ → Conversion → Conversion → Type 0

@@ -156,7 +156,7 @@ fn class_at(profile: Profile, s: &[u8], at: usize) -> u8
 }
 
 // Do the bytes at a place stand for a regional indicator?
-fn is_regional(s: &[u8], at: usize) -> bool
+pub fn is_regional(s: &[u8], at: usize) -> bool
     requires { ⌜ at + 4 ≤ length (now s) ⌝ }
     ensures { λ r. ⌜ r ≡ regionalAt (now (s .entry)) at ⌝ }
 {
@@ -222,7 +222,7 @@ fn joins_at(profile: Profile, t: &[u8], q: usize) -> bool
     }
     let p = class_at(profile, t, scalar_start(t, q));
     let c = class_at(profile, t, q);
-    if p == 10 {
+    if (p == 10) & (c == 10) {
         let odd = odd_to(profile, t, q);
         return is_joined(Seen { class: p, odd: odd }, c);
     }

@@ -2,16 +2,18 @@
 use super::class::Profile;
 use super::class::is_control;
 use super::cluster::first_end;
+use super::cluster::is_regional;
 use super::cluster::last_start;
 use super::utf8::decode;
 ghost use mathlib.Core.Path.{_≡_};
+ghost use mathlib.Core.Bool.{true};
 ghost use mathlib.Core.Logic.{_≢_};
 ghost use Prim.Native.Nat.{_+_, _-_, _*_, _≤_, _<_};
 ghost use mathlib.Core.List.{[], _∷_};
 ghost use lib.ListN.{length, take, drop};
 ghost use Rattle.text.specs.Utf8.{sameBytes, decode, runs, bytesOf};
 ghost use Rattle.text.specs.Overstrike.{bolded, underlined, ambiguous, backspace, step, convertRun, convertPieces, hasBackspace, convert};
-ghost use Rattle.text.specs.Code.{profileOf, runOf, whole, backward, Kept, Front, Pushed, styleOf, orderOf, partOf, stateOf, Sound, Stepped, clusterOn, finishOn, pushedOn, BackspaceStep, StruckStep, StepReady, FinishReady, PendingReady, Finished, conversion, plain, Strike, Wrote, changedStyle, SpanDone, PieceReady, PieceDone};
+ghost use Rattle.text.specs.Code.{profileOf, runOf, whole, backward, EvenAt, KeptEven, Front, FrontEven, BackReady, PairEnd, EvenBetween, EvenChoice, Pushed, styleOf, orderOf, partOf, stateOf, Sound, Stepped, clusterOn, finishOn, pushedOn, BackspaceStep, StruckStep, StepReady, FinishReady, PendingReady, Finished, conversion, plain, Strike, Wrote, changedStyle, SpanDone, PieceReady, PieceDone};
 
 // An overstrike style.
 pub struct Overstrike {
@@ -19,7 +21,7 @@ pub struct Overstrike {
     pub underline: bool,
 }
 
-// convert_unicode_span's variables: the length of the result, prev_grapheme as a part of the line (pending: 0 none, 1 held, 2 struck), prev_overstrike and overstrike.
+// convert_unicode_span's variables: the length of the result, prev_grapheme as a part of the line (pending: 0 none, 1 held, 2 struck), prev_overstrike and overstrike; a place of the result at which an even number of regional indicators ends.
 pub struct Conversion {
     pub len: usize,
     pub pending: u8,
@@ -27,35 +29,97 @@ pub struct Conversion {
     pub end: usize,
     pub before: Overstrike,
     pub style: Overstrike,
+    pub even: usize,
+}
+
+// Where a backspace goes back to, and an even place up to there.
+pub struct Erasure {
+    pub at: usize,
+    pub even: usize,
+}
+
+// Are the last two scalars of the text a pair of regional indicators, an even number of them known to end there?
+fn ends_in_pair(t: &[u8], even: usize) -> bool
+    ensures { λ r. ⌜ (r ≡ true → PairEnd (now (t .entry)) even) ⌝ }
+{
+    let n = t.len();
+    if n < 8 {
+        return false;
+    }
+    if even == n {
+        return is_regional(t, n - 4) & is_regional(t, n - 8);
+    }
+    false
+}
+
+// Do regional indicators stand before q and behind it?
+fn is_between(t: &[u8], q: usize) -> bool
+    requires { ⌜ q < length (now t) ⌝ }
+    ensures { λ r. ⌜ (r ≡ true → EvenBetween (now (t .entry)) q q) ⌝ }
+{
+    if q < 4 {
+        return false;
+    }
+    if t.len() < q + 4 {
+        return false;
+    }
+    is_regional(t, q) & is_regional(t, q - 4)
+}
+
+// An even place of the text without its last cluster, which begins at q.
+fn even_before(t: &[u8], q: usize, even: usize) -> usize
+    requires { ⌜ q < length (now t) ⌝ }
+    ensures { λ r. ⌜ EvenChoice (now (t .entry)) q even r ⌝ }
+{
+    if is_between(t, q) {
+        return q;
+    }
+    if even <= q {
+        return even;
+    }
+    0
 }
 
 // Where a backspace goes back to in a valid text: the start of its last cluster, or its end where a backspace is added instead.
-fn kept(profile: Profile, t: &[u8]) -> usize
-    requires { ⌜ whole (now t) ⌝ }
-    ensures { λ r. ⌜ Kept (profileOf profile) (now (t .entry)) r ⌝ }
+fn kept(profile: Profile, t: &[u8], even: usize) -> Erasure
+    requires { ⌜ whole (now t) × EvenAt (now t) even ⌝ }
+    ensures { λ r. ⌜ KeptEven (profileOf profile) (now (t .entry)) r ⌝ }
 {
-    if t.len() == 0 {
-        return 0;
+    let n = t.len();
+    if n == 0 {
+        return Erasure { at: 0, even: 0 };
+    }
+    if ends_in_pair(t, even) {
+        return Erasure {
+            at: n - 8,
+            even: n - 8,
+        };
     }
     let q = last_start(profile, t);
     let u = decode(t, q);
     if is_control(u.code) {
-        return t.len();
+        return Erasure { at: n, even: even };
     }
-    q
+    Erasure {
+        at: q,
+        even: even_before(t, q, even),
+    }
 }
 
 // Erases the last cluster of the result, or adds a backspace.
-fn backspace(profile: Profile, out: &mut [u8], len: usize) -> usize
-    requires { ⌜ (len < length (now out)) × whole (take len (now out)) ⌝ }
-    ensures { λ r. ⌜ Front (now (out .exit)) r (backspace (profileOf profile) (backward (take len (now (out .entry))))) ⌝ }
+fn backspace(profile: Profile, out: &mut [u8], len: usize, even: usize) -> Erasure
+    requires { ⌜ BackReady (now out) len even ⌝ }
+    ensures { λ r. ⌜ FrontEven (now (out .exit)) r (backspace (profileOf profile) (backward (take len (now (out .entry))))) ⌝ }
 {
-    let k = kept(profile, &out[..len]);
-    if k < len {
+    let k = kept(profile, &out[..len], even);
+    if k.at < len {
         return k;
     }
     out[len] = 0x08;
-    len + 1
+    Erasure {
+        at: len + 1,
+        even: k.even,
+    }
 }
 
 // Bytes behind the result.
@@ -132,7 +196,7 @@ fn write_pending(out: &mut [u8], line: &[u8], st: Conversion) -> usize
 
 // A cluster that is a backspace.
 fn on_backspace(profile: Profile, out: &mut [u8], st: Conversion) -> Conversion
-    requires { ⌜ (st .len < length (now out)) × whole (take (st .len) (now out)) ⌝ }
+    requires { ⌜ BackReady (now out) (st .len) (st .even) ⌝ }
     ensures { λ r. ⌜ BackspaceStep (profileOf profile) (now (out .entry)) (now (out .exit)) st r ⌝ }
 {
     let before = st.before;
@@ -145,11 +209,12 @@ fn on_backspace(profile: Profile, out: &mut [u8], st: Conversion) -> Conversion
             end: st.end,
             before: before,
             style: style,
+            even: st.even,
         };
     }
-    let n = backspace(profile, out, st.len);
+    let k = backspace(profile, out, st.len, st.even);
     Conversion {
-        len: n,
+        len: k.at,
         pending: 0,
         at: 0,
         end: 0,
@@ -158,6 +223,7 @@ fn on_backspace(profile: Profile, out: &mut [u8], st: Conversion) -> Conversion
             bold: false,
             underline: false,
         },
+        even: k.even,
     }
 }
 
@@ -228,7 +294,7 @@ fn is_byte(x: &[u8], b: u8) -> bool
 
 // The cluster from `at` to `end` held in the pending one's place.
 fn replace(st: Conversion, at: usize, end: usize, style: Overstrike) -> Conversion
-    ensures { λ r. ⌜ r ≡ conversion (st .len) 1 at end (st .before) style ⌝ }
+    ensures { λ r. ⌜ r ≡ conversion (st .len) 1 at end (st .before) style (st .even) ⌝ }
 {
     let before = st.before;
     Conversion {
@@ -238,6 +304,7 @@ fn replace(st: Conversion, at: usize, end: usize, style: Overstrike) -> Conversi
         end: end,
         before: before,
         style: style,
+        even: st.even,
     }
 }
 
@@ -278,7 +345,7 @@ fn strike(line: &[u8], st: Conversion, at: usize, end: usize) -> Conversion
 
 // The cluster from `at` to `end` held behind a result of `len` bytes.
 fn hold(st: Conversion, len: usize, at: usize, end: usize) -> Conversion
-    ensures { λ r. ⌜ r ≡ conversion len 1 at end (st .style) plain ⌝ }
+    ensures { λ r. ⌜ r ≡ conversion len 1 at end (st .style) plain (st .even) ⌝ }
 {
     let style = st.style;
     Conversion {
@@ -291,6 +358,7 @@ fn hold(st: Conversion, len: usize, at: usize, end: usize) -> Conversion
             bold: false,
             underline: false,
         },
+        even: st.even,
     }
 }
 
@@ -362,6 +430,7 @@ fn convert_unicode_span(profile: Profile, line: &[u8], out: &mut [u8]) -> Progre
             bold: false,
             underline: false,
         },
+        even: 0,
     };
     let mut p = 0;
     while p < line.len() {

@@ -169,3 +169,61 @@ module _ (n : ℕ) (t : Tally) (z : t .count ≡ 0) where
       let g : length (keeps zeros-yet rs .numbers) ≡ n = ap length l ∙ (rw (length-append, a, length-replicate {A = ℕ} (n - 2 * length rs) 0) (omega arith)) in
       let lt : length rs < n / 2 = omega arith in
       pairs r rs (replicate (n - 2 * suc (length rs)) 0) k f g lt a ∙ ap (λ (x : List ℕ). x ++ replicate (n - 2 * suc (length rs)) 0) (sym (ap numbersOf (reverse-cons r rs) ∙ numbersOf-append (reverse rs) (r ∷ [])))
+
+-- ---- rows in their order
+
+-- more rows, the first one first
+unfoldable pub keepAll : Kept → List Row → Kept
+unfolding keep
+keepAll k [] = k
+keepAll k (r ∷ rs) = keepAll (keep k r) rs
+
+keeps-last : (k : Kept) (rs : List Row) (r : Row) → keeps k (rs ++ r ∷ []) ≡ keeps (keep k r) rs
+unfolding keeps
+keeps-last k [] r = refl
+keeps-last k (x ∷ rs) r = ap (λ (y : Kept). keep y x) (keeps-last k rs r)
+
+-- what is kept of the rows pushed, the last one first, is kept of them in their order
+pub keeps-all : (k : Kept) (rs : List Row) → keeps k (reverse rs) ≡ keepAll k rs
+unfolding keeps keepAll
+keeps-all k [] = refl
+keeps-all k (r ∷ rs) = ap (keeps k) (reverse-cons r rs) ∙ keeps-last k (reverse rs) r ∙ keeps-all (keep k r) rs
+
+keep-counts : (k : Kept) (r : Row) → k .tally .count ≤ keep k r .tally .count
+unfolding keep tallied nextCount
+keep-counts k r = cases (ltb (k .tally .count) 0xFFFF_FFFF_FFFF_FFFF) (λ e. rw e (omega arith)) (λ e. rw e (omega arith))
+
+keep-counted : (k : Kept) (r : Row) → k .tally .count < 0xFFFF_FFFF_FFFF_FFFF → keep k r .tally .count ≡ k .tally .count + 1
+unfolding keep tallied nextCount
+keep-counted k r h = rw (lt-ltb (k .tally .count) 0xFFFF_FFFF_FFFF_FFFF h)
+
+keepAll-counts : (rs : List Row) (k : Kept) → k .tally .count ≤ keepAll k rs .tally .count
+unfolding keepAll
+keepAll-counts [] k = omega arith
+keepAll-counts (r ∷ rs) k = omega (arith, keep-counts k r, keepAll-counts rs (keep k r))
+
+-- A bound that the tally keeps: the value of the row at an index, or a fallback where there is none. `g` is what a definition says of the rows.
+module _ (value index fallback : Kept → ℕ) (of : Row → ℕ) (g : ℕ → ℕ → List Row → ℕ)
+    (same-index : (k : Kept) (r : Row) → index (keep k r) ≡ index k)
+    (next-value : (k : Kept) (r : Row) → value (keep k r) ≡ cond (eqb (k .tally .count) (index k)) (of r) (value k))
+    (g-none : (k : Kept) (i : ℕ) → g (fallback k) i [] ≡ fallback k)
+    (g-here : (k : Kept) (r : Row) (rs : List Row) → g (fallback k) 0 (r ∷ rs) ≡ of r)
+    (g-on : (k : Kept) (i : ℕ) (r : Row) (rs : List Row) → g (fallback k) (suc i) (r ∷ rs) ≡ g (fallback (keep k r)) i rs) where
+  value-stays : (rs : List Row) (k : Kept) → index k < k .tally .count → value (keepAll k rs) ≡ value k
+  unfolding keepAll
+  value-stays [] k h = refl
+  value-stays (r ∷ rs) k h =
+      value-stays rs (keep k r) (omega (arith, same-index k r, keep-counts k r))
+      ∙ next-value k r ∙ rw (ne-eqb (k .tally .count) (index k) (λ e. omega arith))
+
+  pub value-kept : (rs : List Row) (k : Kept) (i : ℕ) → i + k .tally .count ≡ index k → keepAll k rs .tally .count < 0xFFFF_FFFF_FFFF_FFFF
+      → cond (ltb (index k) (keepAll k rs .tally .count)) (value (keepAll k rs)) (fallback (keepAll k rs)) ≡ g (fallback k) i rs
+  unfolding keepAll
+  value-kept [] k i e h = rw (le-ltb (index k) (k .tally .count) (omega arith)) (sym (g-none k i))
+  value-kept (r ∷ rs) k zero e h =
+      let c : keep k r .tally .count ≡ k .tally .count + 1 = keep-counted k r (omega (arith, keep-counts k r, keepAll-counts rs (keep k r))) in
+      let v : value (keepAll (keep k r) rs) ≡ of r = value-stays rs (keep k r) (omega (arith, same-index k r)) ∙ next-value k r ∙ rw (eq-eqb (k .tally .count) (index k) (omega arith)) in
+      rw (lt-ltb (index k) (keepAll (keep k r) rs .tally .count) (omega (arith, keepAll-counts rs (keep k r))), v) (sym (g-here k r rs))
+  value-kept (r ∷ rs) k (suc i) e h =
+      let c : keep k r .tally .count ≡ k .tally .count + 1 = keep-counted k r (omega (arith, keep-counts k r, keepAll-counts rs (keep k r))) in
+      rw (← same-index k r) (value-kept rs (keep k r) i (omega (arith, same-index k r)) h) ∙ sym (g-on k i r rs)

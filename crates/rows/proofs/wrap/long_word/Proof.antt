@@ -2,14 +2,12 @@ use borrow.Author.Needs.{needs}
 use Rattle.rows.proofs.wrap.long_word.Statement.{statement}
 use Rattle.rows.proofs.wrap.long_word.Tie as tie
 use Rattle.rows.proofs.Texts.{long-fits, long-breaks}
-use Rattle.rows.proofs.Texts.{sep-room}
-use native.Mathlib.Omega.{arith}
 
-add-if1 : tie.Need-add-if1
-add-if1 c = search needs
+fits-requires : tie.Need-fits-requires
+fits-requires c κs = search needs
 
-sub-if1 : tie.Need-sub-if1
-sub-if1 c = search needs
+advance-requires : tie.Need-advance-requires
+advance-requires c κs = search needs
 
 returns : tie.Need-returns
 returns c = search long-fits
@@ -27,29 +25,29 @@ by-clusters-requires : tie.Need-by-clusters-requires
 by-clusters-requires c κs = search needs
 
 sub-by-clusters-2 : tie.Need-sub-by-clusters-2
-sub-by-clusters-2 c = omega (arith, c .before .before .before .before .before .before .before .before .before .before .before .before .before .before .before .before .before .before .pre .there .sep)
+sub-by-clusters-2 c = search needs
 
 part-by-clusters-start-2 : tie.Need-part-by-clusters-start-2
-part-by-clusters-start-2 c = omega (arith, c .before .before .before .before .before .before .before .before .before .before .before .before .before .before .before .before .before .before .pre .there .sep, c .before .before .before .before .before .before .before .before .before .before .before .before .before .before .before .before .before .before .pre .there .inside)
+part-by-clusters-start-2 c = search needs
 
 part-by-clusters-end-2 : tie.Need-part-by-clusters-end-2
-part-by-clusters-end-2 c = omega (arith, c .before .before .before .before .before .before .before .before .before .before .before .before .before .before .before .before .before .before .pre .there .sep, c .before .before .before .before .before .before .before .before .before .before .before .before .before .before .before .before .before .before .pre .there .inside)
+part-by-clusters-end-2 c = search needs
 
 by-clusters-requires-2 : tie.Need-by-clusters-requires-2
-by-clusters-requires-2 c κs = sep-room _ (c .before .before .before .before .before .before .before .before .before .before .before .before .before .before .before .before .before .before .before .before .args .wrapping .width .0) _ (c .before .before .before .before .before .before .before .before .before .before .before .before .before .before .before .before .before .before .before .before .args .at) _ _ (c .before .before .before .before .before .before .before .before .before .before .before .before .before .before .before .before .before .before .before .before .pre) _ _ _ _ _ (c .before .before .before .before .by-clusters .ensures)
+by-clusters-requires-2 c κs = search needs
 
 same-length : tie.Need-same-length
 same-length c = search needs
 
 returns-2 : tie.Need-returns-2
-returns-2 c = long-breaks _ _ _ (c .before .before .before .before .before .before .before .before .before .before .before .before .before .before .before .before .before .before .before .before .before .before .before .args .at) _ _ (c .before .before .before .before .before .before .before .before .before .before .before .before .before .before .before .before .before .before .before .before .before .before .before .pre) _ _ _ _ _ (c .before .before .before .before .before .before .before .before .before .before .if1 .left) (c .before .before .before .before .before .before .before .by-clusters .ensures) (c .before .before .by-clusters2 .ensures)
+returns-2 c = long-breaks _ _ _ (c .before .before .before .before .before .before .before .before .before .before .before .before .before .before .before .before .args .at) _ _ (c .before .before .before .before .before .before .before .before .before .before .before .before .before .before .before .before .pre) _ _ _ _ _ _ (c .before .before .before .before .before .before .before .before .before .before .before .fits2 .ensures) (c .before .before .before .before .before .before .before .before .before .before .if1 .left) (c .before .before .before .before .before .before .before .by-clusters .ensures) (c .before .before .by-clusters2 .ensures)
 
 pub long-word-spec : {M : Type 1} → statement M
 long-word-spec =
     tie.close
     (tie.spec
-    add-if1
-    sub-if1
+    fits-requires
+    advance-requires
     returns
     sub-by-clusters
     part-by-clusters-start

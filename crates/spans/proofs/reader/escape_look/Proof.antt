@@ -1,4 +1,4 @@
-use Rattle.spans.proofs.Reading.{on-sequence}
+use Rattle.spans.proofs.ReaderLaws.{on-sequence}
 use Rattle.spans.specs.Contracts.{escapeLook}
 use borrow.Author.Needs.{needs}
 use Rattle.spans.proofs.reader.escape_look.Statement.{statement}

@@ -1,5 +1,5 @@
-use Rattle.spans.proofs.Reading.{plainOf, plain-is, plain-crlf, plain-wide}
-use Rattle.spans.proofs.Reading.{plainOf, plain-is, plain-wide}
+use Rattle.spans.proofs.ReaderLaws.{plainOf, plain-is, plain-crlf, plain-wide}
+use Rattle.spans.proofs.ReaderLaws.{plainOf, plain-is, plain-wide}
 use Rattle.spans.proofs.Branch.{branch}
 use borrow.Author.Needs.{needs}
 use Rattle.spans.proofs.reader.is_plain.Statement.{statement}

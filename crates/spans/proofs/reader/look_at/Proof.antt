@@ -1,4 +1,4 @@
-use Rattle.spans.proofs.Reading.{looksOf, look-is, look-one, look-escape}
+use Rattle.spans.proofs.ReaderLaws.{looksOf, look-is, look-one, look-escape}
 use Rattle.spans.proofs.Branch.{branch}
 use borrow.Author.Needs.{needs}
 use Rattle.spans.proofs.reader.look_at.Statement.{statement}

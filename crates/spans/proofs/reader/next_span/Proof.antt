@@ -1,4 +1,4 @@
-use Rattle.spans.proofs.Reading.{invalid-step, text-order, text-step, special-ready, special-done}
+use Rattle.spans.proofs.ReaderLaws.{invalid-step, text-order, text-step, special-ready, special-done}
 use borrow.Author.Needs.{needs}
 use Rattle.spans.proofs.reader.next_span.Statement.{statement}
 use Rattle.spans.proofs.reader.next_span.Tie as tie

@@ -1,4 +1,4 @@
-use Rattle.spans.proofs.Reading.{printable-end, plain-part, plain-taken, plain-left}
+use Rattle.spans.proofs.ReaderLaws.{printable-end, plain-part, plain-taken, plain-left}
 use borrow.Author.Needs.{needs}
 use Rattle.spans.proofs.reader.plain_end.Statement.{statement}
 use Rattle.spans.proofs.reader.plain_end.Tie as tie

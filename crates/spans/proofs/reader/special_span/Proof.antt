@@ -1,4 +1,4 @@
-use Rattle.spans.proofs.Reading.{special-look, special-room, special-ahead, special-step}
+use Rattle.spans.proofs.ReaderLaws.{special-look, special-room, special-ahead, special-step}
 use borrow.Author.Needs.{needs}
 use Rattle.spans.proofs.reader.special_span.Statement.{statement}
 use Rattle.spans.proofs.reader.special_span.Tie as tie

@@ -1,7 +1,7 @@
 use Prim.Native.Nat.{_-_}
 use lib.ListN.{length}
 use Rattle.text.specs.Code.{profileOf}
-use Rattle.spans.proofs.Reading.{TextLoop, text-begins, text-more, text-falls, text-stops, text-past}
+use Rattle.spans.proofs.ReaderLaws.{TextLoop, text-begins, text-more, text-falls, text-stops, text-past}
 use borrow.Author.Needs.{needs}
 use Rattle.spans.proofs.reader.text_end.Statement.{statement}
 use Rattle.spans.proofs.reader.text_end.Tie as tie

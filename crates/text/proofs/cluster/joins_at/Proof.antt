@@ -1,15 +1,16 @@
 use Prim.Native.Nat.{_<_}
 use native.Mathlib.Omega.{arith}
+use mathlib.Core.Path.{refl}
 use borrow.Author.Needs.{needs}
 use Rattle.text.proofs.Ascii.{apart}
-use Rattle.text.proofs.Backward.{joins-ascii, joins-other, joins-regional, joins-zero}
+use Rattle.text.proofs.Backward.{joins-ascii, joins-regional, joins-single, joins-zero}
 use Rattle.text.proofs.Branch.{met}
 use Rattle.text.proofs.Tails.{back-lt}
 use Rattle.text.proofs.cluster.joins_at.Statement.{statement}
 use Rattle.text.proofs.cluster.joins_at.Tie as tie
 
 returns : tie.Need-returns
-returns c = joins-zero _ (c .before .before .args .t .now) (c .before .before .args .q) (c .if1 .taken)
+returns c = search joins-zero
 
 sub-is-ascii-pair : tie.Need-sub-is-ascii-pair
 sub-is-ascii-pair c = search needs
@@ -42,7 +43,7 @@ is-joined-requires-2 : tie.Need-is-joined-requires-2
 is-joined-requires-2 c κs = search needs
 
 returns-4 : tie.Need-returns-4
-returns-4 c = search joins-other
+returns-4 c = joins-single _ (c .before .before .before .before .before .before .before .before .before .args .t .now) (c .before .before .before .before .before .before .before .before .before .args .q) _ _ _ _ _ (c .before .before .before .before .before .before .before .if1 .left) (c .before .before .before .before .scalar-start .ensures) (c .before .before .before .class-at .ensures) (c .before .before .class-at2 .ensures) (c .is-joined2 .ensures) refl (c .before .if3 .left)
 
 pub joins-at-spec : {M : Type 1} → statement M
 joins-at-spec =

@@ -12,10 +12,10 @@ slice-reshare-prefix-kept : tie.Need-slice-reshare-prefix-kept
 slice-reshare-prefix-kept c = search needs
 
 slice-aggregate-kept : tie.Need-slice-aggregate-kept
-slice-aggregate-kept c = let h : c .before .before .args .len ≤ length (c .before .before .args .out .now) = omega (arith, c .before .before .pre .0) in sym (length-take-le _ _ h)
+slice-aggregate-kept c = let h : c .before .before .args .len ≤ length (c .before .before .args .out .now) = omega (arith, c .before .before .pre .room) in sym (length-take-le _ _ h)
 
 kept-requires : tie.Need-kept-requires
-kept-requires c κs = search needs
+kept-requires c κs = (c .before .before .pre .valid, c .before .before .pre .even)
 
 same-length : tie.Need-same-length
 same-length c = search needs
@@ -26,8 +26,8 @@ returns c = search erase-back
 slice-write-out : tie.Need-slice-write-out
 slice-write-out c = search needs
 
-add-result : tie.Need-add-result
-add-result c = search needs
+add-t10 : tie.Need-add-t10
+add-t10 c = search needs
 
 same-length-2 : tie.Need-same-length-2
 same-length-2 c = search needs
@@ -45,6 +45,6 @@ backspace-spec =
     same-length
     returns
     slice-write-out
-    add-result
+    add-t10
     same-length-2
     returns-2)

@@ -4,7 +4,7 @@ use Rattle.text.proofs.overstrike.on_backspace.Statement.{statement}
 use Rattle.text.proofs.overstrike.on_backspace.Tie as tie
 
 returns : tie.Need-returns
-returns c = λ line part. back-struck _ line (c .before .before .before .before .before .args .out .now) (c .before .before .before .before .before .args .st) (c .if1 .taken) (c .before .before .before .before .before .pre .0) (c .before .before .before .before .before .pre .1) part
+returns c = λ line part. back-struck _ line (c .before .before .before .before .before .args .out .now) (c .before .before .before .before .before .args .st) (c .if1 .taken) (c .before .before .before .before .before .pre) part
 
 backspace-requires : tie.Need-backspace-requires
 backspace-requires c κs = search needs

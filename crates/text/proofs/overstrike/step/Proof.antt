@@ -4,7 +4,7 @@ use lib.ListN.{length}
 use borrow.Author.Needs.{needs}
 use Rattle.text.specs.Code.{stateOf}
 use Rattle.text.specs.Overstrike.Length.{weight}
-use Rattle.text.proofs.Steps.{pending-ready, step-back, step-hold, step-pushed, step-room, step-struck, strike-ready}
+use Rattle.text.proofs.Steps.{back-ready, pending-ready, step-back, step-hold, step-pushed, step-struck, strike-ready}
 use Rattle.text.proofs.overstrike.step.Statement.{statement}
 use Rattle.text.proofs.overstrike.step.Tie as tie
 
@@ -21,7 +21,7 @@ is-byte-requires : tie.Need-is-byte-requires
 is-byte-requires c κs = search needs
 
 on-backspace-requires : tie.Need-on-backspace-requires
-on-backspace-requires c κs = (step-room (c .before .before .before .before .before .before .args .line .now) (c .before .before .before .before .before .before .args .out .now) (c .before .before .before .before .before .before .args .st) (c .before .before .before .before .before .before .args .at) (c .before .before .before .before .before .before .args .end) (c .before .before .before .before .before .before .pre), c .before .before .before .before .before .before .pre .sound .valid)
+on-backspace-requires c κs = search back-ready
 
 same-length : tie.Need-same-length
 same-length c = search needs

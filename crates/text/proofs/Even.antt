@@ -1,0 +1,126 @@
+-- Places at which an even number of regional indicators ends: what keeps them, and the pair that ends at one.
+use Prim.Native.Nat.{_-_, _≤_, ℕ}
+use native.Mathlib.Omega.{arith}
+use mathlib.Core.Bool.{Bool, _||_, and-false, false, not, true}
+use mathlib.Core.List.{List, [], _++_, _∷_, append-assoc, reverse, reverse-append, reverse-reverse, reverseAux, reverseAux-eq}
+use mathlib.Core.Path.{_∙_, _≡_, ap, ap₂, refl, sym}
+use lib.Dec.{eqb}
+use lib.ListN.{drop, length, take, take-append-drop}
+use lib.Seq.{take-take}
+use Rattle.text.specs.Class.{Profile, among, number}
+use Rattle.text.specs.Cluster.{Context, classOf, context, joined, joins}
+use Rattle.text.specs.Code.{EvenAt, back, profileOf, regionalAt, size, withoutLast}
+use Rattle.text.specs.Overstrike.{push}
+use Rattle.text.specs.Tests.{cases}
+use Rattle.text.specs.Utf8.{Scalar, bytesOf, decode, runOf}
+use Rattle.text.proofs.Ascii.{regional-back, regional-class}
+use Rattle.text.proofs.Backward.{class-of, odd-ri}
+use Rattle.text.proofs.Runs.{back-scalar, size-reverse}
+use Rattle.text.proofs.Texts.{run-append, run-prefix}
+use Rattle.text.specs.declared.class.Profile as code
+
+context-none : (P : Profile) → context P [] .odd ≡ false
+unfolding context
+context-none P = refl
+
+pub even-zero : (t : List ℕ) → EvenAt t 0
+unfolding size
+even-zero t = record { rest = []; es = runOf (decode t); parts = refl; place = refl; even = λ v. context-none (profileOf v) }
+
+-- push_str on the reversed result
+pub push-reversed : (g out : List Scalar) → reverse (push g out) ≡ reverse out ++ g
+push-reversed g out = ap reverse (reverseAux-eq g out) ∙ reverse-append (reverse g) out ∙ ap (λ (l : List Scalar). reverse out ++ l) (reverse-reverse g)
+
+-- with more behind it
+pub even-more : (t u : List ℕ) (ys : List Scalar) (i : ℕ) → runOf (decode u) ≡ runOf (decode t) ++ ys → EvenAt t i → EvenAt u i
+even-more t u ys i e w = record {
+  rest = w .rest;
+  es = w .es ++ ys;
+  parts = e ∙ ap (λ (x : List Scalar). x ++ ys) (w .parts ∙ reverseAux-eq (w .rest) (w .es)) ∙ append-assoc (reverse (w .rest)) (w .es) ys ∙ sym (reverseAux-eq (w .rest) (w .es ++ ys));
+  place = w .place;
+  even = w .even;
+}
+
+-- within a beginning that holds it
+pub even-front : (t : List ℕ) (q i : ℕ) → i ≤ q → EvenAt t i → EvenAt (take q t) i
+even-front t q i h w =
+    let p : runOf (decode t) ≡ reverse (w .rest) ++ w .es = w .parts ∙ reverseAux-eq (w .rest) (w .es) in
+    let s : size (reverse (w .rest)) ≡ i = size-reverse (w .rest) ∙ w .place in
+    let x = run-prefix (reverse (w .rest)) (w .es) t p in
+    let r : runOf (decode (take i t)) ≡ reverse (w .rest) = rw s at (x .0) in
+    let b : bytesOf (reverse (w .rest)) ≡ take i t = rw s at (x .1) in
+    let c : take q t ≡ take i t ++ drop i (take q t) = sym (take-append-drop i (take q t)) ∙ ap (λ (y : List ℕ). y ++ drop i (take q t)) (take-take i q t h) in
+    record {
+      rest = w .rest;
+      es = runOf (decode (drop i (take q t)));
+      parts = ap (λ (y : List ℕ). runOf (decode y)) c ∙ run-append (reverse (w .rest)) (take i t) (drop i (take q t)) r b ∙ sym (reverseAux-eq (w .rest) (runOf (decode (drop i (take q t)))));
+      place = w .place;
+      even = w .even;
+    }
+
+-- ---- two regional indicators
+
+joined-indicators : (k : Context) → joined 10 k 10 ≡ k .odd
+unfolding joined among number
+joined-indicators k = cases (k .odd) (λ e. rw e refl) (λ e. rw e refl)
+
+-- an indicator behind an even number of them begins a cluster
+joined-even : (p : ℕ) (k : Context) → k .odd ≡ false → joined p k 10 ≡ false
+unfolding joined among number
+joined-even p k e =
+    rw (e, and-false (eqb p 0), and-false (eqb p 5), and-false (eqb p 8 || eqb p 6), and-false (eqb p 9 || eqb p 7))
+    (cases (eqb p 2 || (eqb p 0 || eqb p 1)) (λ f. rw f refl) (λ f. rw f refl))
+
+joins-even : (P : Profile) (rest : List Scalar) (d : Scalar) → number (P .class (d .code)) ≡ 10 → context P rest .odd ≡ false → joins P rest d ≡ false
+unfolding joins
+joins-even P [] d r e = refl
+joins-even P (p ∷ ps) d r e = rw r (joined-even (classOf P p) (context P (p ∷ ps)) e)
+
+pair-joins : (P : Profile) (d : Scalar) (rest : List Scalar) (c : Scalar) → number (P .class (d .code)) ≡ 10 → number (P .class (c .code)) ≡ 10 → context P (d ∷ rest) .odd ≡ true → joins P (d ∷ rest) c ≡ true
+unfolding joins
+pair-joins P d rest c rd rc o = ap₂ (λ (m n : ℕ). joined m (context P (d ∷ rest)) n) rd rc ∙ joined-indicators (context P (d ∷ rest)) ∙ o
+
+pub pair-odd : (P : Profile) (d : Scalar) (rest : List Scalar) (c : Scalar) → number (P .class (d .code)) ≡ 10 → number (P .class (c .code)) ≡ 10 → joins P (d ∷ rest) c ≡ context P (d ∷ rest) .odd
+unfolding joins
+pair-odd P d rest c rd rc = ap₂ (λ (m n : ℕ). joined m (context P (d ∷ rest)) n) rd rc ∙ joined-indicators (context P (d ∷ rest))
+
+flip-even : (b : Bool) → not b ≡ false → b ≡ true
+flip-even true e = refl
+flip-even false e = let z : _≡_ {A = ℕ} 0 1 = cc in absurd (omega arith)
+
+not-odd : (b : Bool) → not b ≡ true → b ≡ false
+not-odd true e = let z : _≡_ {A = ℕ} 0 1 = cc in absurd (omega arith)
+not-odd false e = refl
+
+-- a pair that ends in an even place is a cluster, and the place before it is even too
+pub record Pair (v : code.Profile) (rev : List Scalar) (q : ℕ) : Type 0 where
+  pub left : List Scalar
+  pub without : withoutLast (profileOf v) rev ≡ left
+  pub place : size left ≡ q
+  pub parts : (es : List Scalar) × (reverseAux rev [] ≡ reverseAux left es)
+  pub before : context (profileOf v) left .odd ≡ false
+
+pub pair-by : (v : code.Profile) (t : List ℕ) (rev : List Scalar) → runOf (decode t) ≡ reverseAux rev [] → size rev ≡ length t → 8 ≤ length t → regionalAt t (length t - 4) ≡ true → regionalAt t (length t - 8) ≡ true
+    → context (profileOf v) rev .odd ≡ false → Pair v rev (length t - 8)
+unfolding size withoutLast
+pair-by v t [] e s h a b o = absurd (omega arith)
+pair-by v t (c ∷ []) e s h a b o =
+    let x : length t - 4 ≡ 0 = sym (regional-back t (length t) (length t - 4) (omega arith) refl a) ∙ ap (back t) (sym s) ∙ back-scalar c [] [] t e in
+    absurd (omega arith)
+pair-by v t (c ∷ d ∷ rest) e s h a b o =
+    let P : Profile = profileOf v in
+    let x : length t - 4 ≡ size (d ∷ rest) = sym (regional-back t (length t) (length t - 4) (omega arith) refl a) ∙ ap (back t) (sym s) ∙ back-scalar c (d ∷ rest) [] t e in
+    let y : length t - 8 ≡ size rest = sym (regional-back t (length t - 4) (length t - 8) (omega arith) (omega arith) b) ∙ ap (back t) x ∙ back-scalar d rest (c ∷ []) t e in
+    let rc : number (P .class (c .code)) ≡ 10 = sym (class-of P t (length t - 4) 10 c (d ∷ rest) [] e x (sym (regional-class v t (length t - 4) (omega arith) a))) in
+    let rd : number (P .class (d .code)) ≡ 10 = sym (class-of P t (length t - 8) 10 d rest (c ∷ []) e y (sym (regional-class v t (length t - 8) (omega arith) b))) in
+    let o₁ : context P (d ∷ rest) .odd ≡ true = flip-even _ (sym (odd-ri P c (d ∷ rest) rc) ∙ o) in
+    let o₂ : context P rest .odd ≡ false = not-odd _ (sym (odd-ri P d rest rd) ∙ o₁) in
+    let j₁ : joins P (d ∷ rest) c ≡ true = pair-joins P d rest c rd rc o₁ in
+    let j₂ : joins P rest d ≡ false = joins-even P rest d rd o₂ in
+    record { left = rest; without = rw (j₁, j₂) refl; place = sym y; parts = (d ∷ c ∷ [], refl); before = o₂ }
+
+pub pair-front : (v : code.Profile) (t : List ℕ) (rev : List Scalar) (q : ℕ) → runOf (decode t) ≡ reverseAux rev [] → (k : Pair v rev q) → runOf (decode (take q t)) ≡ reverse (k .left)
+pair-front v t rev q e k =
+    let p : runOf (decode t) ≡ reverse (k .left) ++ k .parts .0 = e ∙ k .parts .1 ∙ reverseAux-eq (k .left) (k .parts .0) in
+    let s : size (reverse (k .left)) ≡ q = size-reverse (k .left) ∙ k .place in
+    rw s at (run-prefix (reverse (k .left)) (k .parts .0) t p .0)
