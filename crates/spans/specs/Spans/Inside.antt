@@ -1,0 +1,170 @@
+-- A span lies inside the line.
+use mathlib.Core.Path.{_≡_, refl, sym, ap, _∙_}
+use Prim.Native.Nat.{ℕ, zero, suc, _+_, _-_, _≤_, _<_}
+use native.Mathlib.Omega.{arith}
+use mathlib.Core.Bool.{Bool, true, false, cond, _&&_, _||_}
+use mathlib.Core.List.{List, [], _∷_, _++_}
+use mathlib.Core.Option.{Option, none, some}
+use lib.ListN.{length, take, drop, length-append, length-take, length-drop, drop-of-length-le}
+use lib.Seq.{take-nil, length-take-le, take-all}
+use lib.Dec.{T, eqb, leb, ltb, leb→le}
+use borrow.Author.Tests.{leb-true, leb-false}
+use Rattle.text.specs.Tests.{cases, and-T, true-T}
+use Rattle.text.specs.Each.{All, all-nil, all-cons, all-append, all-map, all-split}
+use Rattle.text.specs.Utf8.{Scalar, decode, decodeFrom, Piece, run, damaged, runs, bytesOf, sameBytes, reads}
+use Rattle.text.specs.Utf8.Laws.{bytesOf-append, pieceBytes, pieceBytes-runs, decodedBytes-decode}
+use Rattle.text.specs.Utf8.Valid.{Valid, ValidPiece, runs-valid}
+use Rattle.text.specs.Class.{Profile}
+use Rattle.text.specs.Width.{widthOf}
+use Rattle.text.specs.Cluster.{clusters, joinAll}
+use Rattle.text.specs.Cluster.Laws.{clusters-all}
+use Rattle.text.specs.Cluster.Walk.{First, first}
+use Rattle.spans.specs.Sequence.{Sequence, Found, found, missing, parse}
+use Rattle.spans.specs.Sequence.Laws.{parse-length}
+use Rattle.spans.specs.Search.{Stretch, offsetFrom, escapes, readPart, readMatches, read}
+use Rattle.spans.specs.Spans.{Content, text, control, invalid, unprintable, escape, tab, crlf, lf, Span, span, Seen, plain, special, escapeSeen, controlSeen, joinText, addText, addCluster, seen, readFrom, readPieces, spansAt, spans}
+
+-- a span from p on, up to q
+pub record Between (p q : ℕ) (s : Span) : Type 0 where
+  pub low : p ≤ s .place
+  pub high : s .place + s .len ≤ q
+
+between : (p q n : ℕ) (c : Content) → p + n ≤ q → Between p q (span p n c)
+between p q n c h = record { low = omega arith; high = h }
+
+later : (p o q : ℕ) → p ≤ o → {ss : List Span} → All (Between o q) ss → All (Between p q) ss
+later p o q h a = all-map (λ s z. record { low = omega (arith, z .low); high = z .high }) a
+
+-- ---- texts
+
+joinText-inside : (m : Option ℕ) (p q : ℕ) (g : List Scalar) (s : Span) (c : Content) (ss : List Span) → p + length (bytesOf g) ≤ q → Between (p + length (bytesOf g)) q s → All (Between (p + length (bytesOf g)) q) ss
+    → All (Between p q) (joinText m p g s c ss)
+unfolding joinText
+joinText-inside m p q g s (text k t) ss h z a = all-cons (between p q (length (bytesOf g) + s .len) (text m (g ++ t)) (omega (arith, z .low, z .high))) (later p (p + length (bytesOf g)) q (omega arith) a)
+joinText-inside m p q g s (control b) ss h z a = all-cons (between p q (length (bytesOf g)) (text m g) h) (later p (p + length (bytesOf g)) q (omega arith) (all-cons z a))
+joinText-inside m p q g s (invalid b) ss h z a = all-cons (between p q (length (bytesOf g)) (text m g) h) (later p (p + length (bytesOf g)) q (omega arith) (all-cons z a))
+joinText-inside m p q g s (unprintable t) ss h z a = all-cons (between p q (length (bytesOf g)) (text m g) h) (later p (p + length (bytesOf g)) q (omega arith) (all-cons z a))
+joinText-inside m p q g s (escape e) ss h z a = all-cons (between p q (length (bytesOf g)) (text m g) h) (later p (p + length (bytesOf g)) q (omega arith) (all-cons z a))
+joinText-inside m p q g s tab ss h z a = all-cons (between p q (length (bytesOf g)) (text m g) h) (later p (p + length (bytesOf g)) q (omega arith) (all-cons z a))
+joinText-inside m p q g s crlf ss h z a = all-cons (between p q (length (bytesOf g)) (text m g) h) (later p (p + length (bytesOf g)) q (omega arith) (all-cons z a))
+joinText-inside m p q g s lf ss h z a = all-cons (between p q (length (bytesOf g)) (text m g) h) (later p (p + length (bytesOf g)) q (omega arith) (all-cons z a))
+
+addText-inside : (m : Option ℕ) (p q : ℕ) (g : List Scalar) (ss : List Span) → p + length (bytesOf g) ≤ q → All (Between (p + length (bytesOf g)) q) ss → All (Between p q) (addText m p g ss)
+unfolding addText
+addText-inside m p q g [] h all-nil = all-cons (between p q (length (bytesOf g)) (text m g) h) all-nil
+addText-inside m p q g (s ∷ ss) h (all-cons z a) = joinText-inside m p q g s (s .content) ss h z a
+
+-- ---- clusters
+
+-- a cluster's span has at most n bytes
+unfoldable AtMost : ℕ → Seen → Type 0
+AtMost n plain = Unit {0}
+AtMost n (special c k) = k ≤ n
+
+cond-most : (n : ℕ) (b : Bool) (x y : Seen) → (b ≡ true → AtMost n x) → (b ≡ false → AtMost n y) → AtMost n (cond b x y)
+cond-most n true x y f g = f refl
+cond-most n false x y f g = g refl
+
+escape-most : (n : ℕ) (s : List ℕ) (f : Found) → parse s ≡ f → 1 + length s ≤ n → AtMost n (escapeSeen f)
+unfolding AtMost escapeSeen
+escape-most n s (found e k) q h = omega (arith, parse-length s e k q)
+escape-most n s missing q h = omega arith
+
+control-most : (n : ℕ) (g : List ℕ) (w : Seen) → 1 ≤ n → AtMost n w → AtMost n (controlSeen g w)
+unfolding controlSeen AtMost
+control-most n [] w h z = z
+control-most n (b ∷ []) w h z = cond-most n (leb b 0x1F || eqb b 0x7F) (special (control b) 1) w (λ e. h) (λ e. z)
+control-most n (b ∷ c ∷ g) w h z = z
+
+two-bytes : (g : List ℕ) (a b : ℕ) → T (sameBytes g (a ∷ b ∷ [])) → 2 ≤ length g
+unfolding sameBytes
+two-bytes [] a b h = absurd h
+two-bytes (x ∷ []) a b h = absurd (and-T (eqb x a) false h .1)
+two-bytes (x ∷ y ∷ g) a b h = omega arith
+
+valid-some : (c : Scalar) (s : List Scalar) → All Valid (c ∷ s) → 1 ≤ length (bytesOf (c ∷ s))
+unfolding bytesOf
+valid-some c s (all-cons v a) = simp length-append (omega (arith, v .some))
+
+module _ (P : Profile) where
+  seen-most : (g : List Scalar) (s : List ℕ) → 1 ≤ length (bytesOf g) → AtMost (length (bytesOf g) + length s) (seen P g s)
+  unfolding seen reads AtMost
+  seen-most g s h =
+      let n : ℕ = length (bytesOf g) + length s in
+      cond-most n (sameBytes (bytesOf g) (0x1B ∷ [])) _ _ (λ e. escape-most n s (parse s) refl (omega arith))
+      (λ e. cond-most n (sameBytes (bytesOf g) (0x0D ∷ 0x0A ∷ [])) _ _ (λ e. omega (arith, two-bytes (bytesOf g) 0x0D 0x0A (true-T e)))
+      (λ e. cond-most n (sameBytes (bytesOf g) (0x0A ∷ [])) _ _ (λ e. omega arith)
+      (λ e. cond-most n (sameBytes (bytesOf g) (0x09 ∷ [])) _ _ (λ e. omega arith)
+      (λ e. control-most n (bytesOf g) _ (omega arith) (cond-most n (eqb (widthOf P g) 0) _ _ (λ e. omega arith) (λ e. tt))))))
+
+  addCluster-inside : (m : Option ℕ) (p q : ℕ) (g : List Scalar) (n : ℕ) (w : Seen) (go : ℕ → List Span) → p + length (bytesOf g) ≤ q → p + n ≤ q → AtMost n w → ((k : ℕ) → All (Between (p + length (bytesOf g)) q) (go k))
+      → All (Between p q) (addCluster m p g (length (bytesOf g)) w go)
+  unfolding addCluster AtMost
+  addCluster-inside m p q g n plain go h k z a = addText-inside m p q g (go zero) h (a zero)
+  addCluster-inside m p q g n (special c j) go h k z a = all-cons (between p q j c (omega arith)) (later p (p + length (bytesOf g)) q (omega arith) (a (j - length (bytesOf g))))
+
+  clusters-some : (gs : List (List Scalar)) → (s : List Scalar) → clusters P s ≡ gs → All Valid s → All (λ (g : List Scalar). 1 ≤ length (bytesOf g)) gs
+  clusters-some [] = λ s e a. all-nil
+  clusters-some (g ∷ gs) = λ s e a.
+      let f = first P s g gs e in
+      let v = all-split g (rw (f .text) at a) in
+      let k : 1 ≤ length (bytesOf g) = rw (f .some) (valid-some (f .head) (f .more) (rw (f .some) at (v .0))) in
+      all-cons k (clusters-some gs (f .rest) (f .others) (v .1))
+
+  readFrom-inside : (gs : List (List Scalar)) → (m : Option ℕ) (p k q : ℕ) → All (λ (g : List Scalar). 1 ≤ length (bytesOf g)) gs → p + length (bytesOf (joinAll gs)) ≤ q → All (Between p q) (readFrom P m p k gs)
+  unfolding readFrom joinAll
+  readFrom-inside [] = λ m p k q a h. all-nil
+  readFrom-inside (g ∷ gs) = λ m p k q a h. go (λ m p k q a h. readFrom-inside gs m p k q a h) m p k q a h
+    where
+      go : ((m : Option ℕ) (p k q : ℕ) → All (λ (g : List Scalar). 1 ≤ length (bytesOf g)) gs → p + length (bytesOf (joinAll gs)) ≤ q → All (Between p q) (readFrom P m p k gs))
+          → (m : Option ℕ) (p k q : ℕ) → All (λ (g : List Scalar). 1 ≤ length (bytesOf g)) (g ∷ gs) → p + length (bytesOf (joinAll (g ∷ gs))) ≤ q → All (Between p q) (readFrom P m p k (g ∷ gs))
+      go ih m p zero q (all-cons s a) h =
+          let n : length (bytesOf (g ++ joinAll gs)) ≡ length (bytesOf g) + length (bytesOf (joinAll gs)) = ap length (bytesOf-append g (joinAll gs)) ∙ length-append (bytesOf g) (bytesOf (joinAll gs)) in
+          addCluster-inside m p q g (length (bytesOf g) + length (bytesOf (joinAll gs))) (seen P g (bytesOf (joinAll gs))) (λ k. readFrom P m (p + length (bytesOf g)) k gs) (omega arith) (omega arith) (seen-most g (bytesOf (joinAll gs)) s)
+          (λ k. ih m (p + length (bytesOf g)) k q a (omega arith))
+      go ih m p (suc k) q (all-cons s a) h =
+          let n : length (bytesOf (g ++ joinAll gs)) ≡ length (bytesOf g) + length (bytesOf (joinAll gs)) = ap length (bytesOf-append g (joinAll gs)) ∙ length-append (bytesOf g) (bytesOf (joinAll gs)) in
+          later p (p + length (bytesOf g)) q (omega arith) (ih m (p + length (bytesOf g)) (suc k - length (bytesOf g)) q a (omega arith))
+
+  -- ---- lines, and lines with matches
+
+  readPieces-inside : (m : Option ℕ) (p q : ℕ) {ps : List Piece} → All ValidPiece ps → p + length (pieceBytes ps) ≤ q → All (Between p q) (readPieces P m p ps)
+  unfolding readPieces pieceBytes
+  readPieces-inside m p q all-nil h = all-nil
+  readPieces-inside m p q (all-cons {s = ps} (ValidPiece.valid {s = s} v) a) h =
+      let n : length (bytesOf s ++ pieceBytes ps) ≡ length (bytesOf s) + length (pieceBytes ps) = length-append (bytesOf s) (pieceBytes ps) in
+      all-append (readFrom-inside (clusters P s) m p zero q (clusters-some (clusters P s) s refl v) (rw (clusters-all P s) (omega arith)))
+      (later p (p + length (bytesOf s)) q (omega arith) (readPieces-inside m (p + length (bytesOf s)) q a (omega arith)))
+  readPieces-inside m p q (all-cons {s = ps} (ValidPiece.ill {b = b}) a) h =
+      all-cons (between p q 1 (invalid b) (omega arith)) (later p (suc p) q (omega arith) (readPieces-inside m (suc p) q a (omega arith)))
+
+  spansAt-inside : (m : Option ℕ) (p q : ℕ) (s : List ℕ) → p + length s ≤ q → All (Between p q) (spansAt P m p s)
+  unfolding spansAt
+  spansAt-inside m p q s h = readPieces-inside m p q (runs-valid s) (rw (pieceBytes-runs (decode s) ∙ decodedBytes-decode s) h)
+
+  no-spans : (m : Option ℕ) (p : ℕ) → spansAt P m p [] ≡ []
+  unfolding spansAt decode decodeFrom runs readPieces
+  no-spans m p = refl
+
+  readPart-inside : (m : Option ℕ) (a b : ℕ) (line : List ℕ) → All (Between 0 (length line)) (readPart P m a b line)
+  unfolding readPart
+  readPart-inside m a b line =
+      cases (leb a (length line))
+      (λ e. later 0 a (length line) (omega arith) (spansAt-inside m a (length line) (take (b - a) (drop a line)) (room (b - a) (drop a line) (rw (length-drop a line) (omega (arith, leb-true a (length line) e))))))
+      (λ e. rw (drop-of-length-le line {i = a} (omega (arith, leb-false a (length line) e)), take-nil {A = ℕ} (b - a), no-spans m a) all-nil)
+    where
+      room : (n : ℕ) (s : List ℕ) → a + length s ≤ length line → a + length (take n s) ≤ length line
+      room n s h = cases (leb n (length s)) (λ e. rw (length-take-le n s (leb-true n (length s) e)) (omega (arith, leb-true n (length s) e))) (λ e. rw (take-all n s (omega (arith, leb-false n (length s) e))) h)
+
+  readMatches-inside : (es : List Stretch) (start k : ℕ) (ms line : List ℕ) → All (Between 0 (length line)) (readMatches P es start k ms line)
+  unfolding readMatches
+  readMatches-inside es start k [] line = readPart-inside none start (length line) line
+  readMatches-inside es start k (a ∷ []) line = all-nil
+  readMatches-inside es start k (a ∷ b ∷ ms) line =
+      all-append (all-append (readPart-inside none start (offsetFrom 0 a es) line) (readPart-inside (some k) (offsetFrom 0 a es) (offsetFrom 0 b es) line)) (readMatches-inside es (offsetFrom 0 b es) (suc k) ms line)
+
+-- each span of a line, read with or without matches, lies inside the line
+pub inside : (P : Profile) (matches line : List ℕ) → All (Between 0 (length line)) (read P matches line)
+unfolding read spans
+inside P [] line = spansAt-inside P none 0 (length line) line (omega arith)
+inside P (m ∷ ms) line = readMatches-inside P (escapes line) 0 0 (m ∷ ms) line
