@@ -8,5 +8,3 @@ pub mod ReaderLaws
 pub mod Searching
 pub mod StretchLaws
 pub mod CallLaws
-pub mod Again
-pub mod Shared

@@ -12,6 +12,7 @@ pub mod utf8;
 pub mod width;
 
 // A place in a line, counted in bytes.
+#[repr(C)]
 pub struct BytePlace(pub usize);
 
 // A column of the screen, counted in cells.
