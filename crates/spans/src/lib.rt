@@ -12,12 +12,13 @@ use text::Answer;
 use text::BytePlace;
 use text::class::Profile;
 ghost use mathlib.Core.Path.{_≡_};
-ghost use Prim.Native.Nat.{_≤_};
+ghost use mathlib.Core.List.{_++_};
+ghost use Prim.Native.Nat.{_≤_, _-_};
 ghost use lib.Dec.{ltb};
-ghost use lib.ListN.{length};
+ghost use lib.ListN.{length, take, replicate};
 ghost use Rattle.text.specs.Width.{profile01};
 ghost use Rattle.text.specs.Code.{profileOf};
-ghost use Rattle.spans.specs.Calls.{readCall};
+ghost use Rattle.spans.specs.Calls.{noRecord, readCall};
 ghost use Rattle.spans.specs.Contracts.{remaining, Sound, uncounted, TallyReady, Tallied, refusedBy, Planned, Prepared, Holds, recordsOf, NextHolds, padded, answerOf, readAs};
 
 pub mod reader;
@@ -204,6 +205,23 @@ fn next_reading(conv: &[u8], matches: &[usize], r: Reading) -> NextReading
             matched: 0,
         },
         reading: r,
+    }
+}
+
+// Records of zeros from the place `from` on.
+pub fn clear_spans(spans: &mut [Span], from: usize)
+    ensures { λ _. ⌜ now (spans .exit) ≡ take from (now (spans .entry)) ++ replicate (length (now (spans .entry)) - from) noRecord ⌝ }
+{
+    let none = Span {
+        kind: 0,
+        place: BytePlace(0),
+        len: 0,
+        matched: 0,
+    };
+    let mut i = from;
+    while i < spans.len() {
+        spans[i] = none;
+        i += 1;
     }
 }
 
