@@ -299,11 +299,6 @@ pub record FinishReady (line l : List ℕ) (st : Conversion) : Type 0 where
 abbrev pub Finished : List ℕ → List ℕ → List ℕ → Conversion → ℕ → Type 0
 Finished line l l′ st r = (P : Profile) → Front l′ r (finishOn P (stateOf line l st))
 
--- what writing the pending cluster needs: the room that it takes
-pub record PendingReady (line l : List ℕ) (st : Conversion) : Type 0 where
-  pub sound : Sound line l st
-  pub room : st .len + (length (orderOf (st .before) (st .style)) + (st .end - st .at)) ≤ length l
-
 -- the two clusters of a strike
 pub record Strike (line : List ℕ) (st : Conversion) (a e : ℕ) : Type 0 where
   pub notNone : st .pending ≢ 0
