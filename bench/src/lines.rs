@@ -59,7 +59,7 @@ const NOISY: &[u8] =
     b"rx-03 \xFF\xFEsweep 11\xC08204: g\xF5in 41.5 dB\xE6\xBC tune\x80 94\xF8\xF810 \
     MHz \x00\x01 noise\x7F floor\xED\xA0\x80\n";
 
-pub const KINDS: [Kind; 19] = [
+pub const KINDS: [Kind; 23] = [
     common("plain log line", &[LOG]),
     common("coloured, with a link", &[COLOURED]),
     common("man page", &[MAN_PAGE]),
@@ -76,6 +76,13 @@ pub const KINDS: [Kind; 19] = [
     hostile("backspaces", &[b"\x08"]),
     hostile("letters, backspaces", &[b"a", b"\x08"]),
     hostile("struck letters", &[b"a\x08"]),
+    hostile("struck accents", &["e\u{301}\u{8}e\u{301}".as_bytes()]),
+    hostile("bold wide characters", &["漢\u{8}漢".as_bytes()]),
+    hostile("underlined wide", &["_\u{8}漢".as_bytes()]),
+    hostile(
+        "indicators, nested runs",
+        &["\u{1F1E6}".as_bytes(), "\u{1F1E6}x\u{8}\u{8}".as_bytes()],
+    ),
     hostile("ESC", &[b"\x1B"]),
     hostile("ESC [ 1 ;", &[b"\x1B[1;1;1;1;1;1;1"]),
     hostile("ESC ] 8 ; ; u", &[b"\x1B]8;;u"]),

@@ -66,6 +66,10 @@ apart-numbers p k c f g =
     (λ d₂. let y : c ≡ 11 = eqb-true c 11 (rw (d₀, d₁, d₂) at g) in
     rw (e₂, e₁, y, and-false (eqb p 5), and-false (eqb p 8 || eqb p 6), and-false (eqb p 9 || eqb p 7), and-false (k .odd)) refl))))))
 
+pub other-after : (p : ℕ) (k : Context) → (p ≢ 0) → joined p k 11 ≡ false
+unfolding among number
+other-after p k f = apart-numbers p k 11 f refl
+
 -- a scalar below 80 joins nothing before it that is not CR
 pub ascii-after : (p : ℕ) (k : Context) (a : ℕ) → (p ≢ 0) → a < 128 → joined p k (number (class01 a)) ≡ false
 unfolding after-class
@@ -77,6 +81,30 @@ ascii-apart b a k h g n =
     let f : (eqb b 13 || not (eqb (number (class01 b)) 0)) ≡ true = each-at 128 0 b before-class before-each (omega arith) (omega arith) in
     let m : not (eqb (number (class01 b)) 0) ≡ true = rw (ne-eqb b 13 n) at f in
     ascii-after (number (class01 b)) k a (eqb-false _ _ (not-true _ m)) g
+
+-- behind a control below 20, CR apart, nothing joins
+break-class : ℕ → Bool
+break-class x = eqb x 0x0D || among (number (class01 x)) (lf ∷ control ∷ [])
+
+break-each : T (eachFrom 0 0x20 break-class)
+unfolding eachFrom break-class among number class01
+break-each = tt
+
+break-numbers : (p : ℕ) (k : Context) (c : ℕ) → among p (lf ∷ control ∷ []) ≡ true → joined p k c ≡ false
+unfolding joined among number
+break-numbers p k c f = cases (eqb p 1) (λ e. rw (eqb-true p 1 e) refl) (λ e. rw (eqb-true p 2 (rw e at f)) refl)
+
+control-breaks : (a : ℕ) (k : Context) (c : ℕ) → a < 0x20 → (a ≢ 13) → joined (number (class01 a)) k c ≡ false
+unfolding break-class
+control-breaks a k c h n = break-numbers (number (class01 a)) k c (rw (ne-eqb a 13 n) at (each-at 0x20 0 a break-class break-each (omega arith) (omega arith)))
+
+-- Extend and ZWJ join whatever is no CR, LF or Control
+pub mark-joins : (p : ℕ) (k : Context) (c : ℕ) → (eqb p 2 || (eqb p 0 || eqb p 1)) ≡ false → (eqb c 3 || eqb c 4) ≡ true → true ≡ joined p k c
+unfolding joined among number
+mark-joins p k c e f =
+    cases (eqb c 3)
+    (λ g. rw (eqb-true c 3 g, and-false (eqb p 0), e, and-false (eqb p 5), and-false (eqb p 8 || eqb p 6), and-false (eqb p 9 || eqb p 7)) refl)
+    (λ g. let y : c ≡ 4 = eqb-true c 4 (rw g at f) in rw (y, and-false (eqb p 0), e, and-false (eqb p 5), and-false (eqb p 8 || eqb p 6), and-false (eqb p 9 || eqb p 7)) refl)
 
 -- a byte below 80 is a sequence by itself
 sequence-one : (a : ℕ) (s : List ℕ) → a < 128 → sequence (a ∷ s) ≡ 1
@@ -98,6 +126,14 @@ Apart P = (b a : ℕ) (k : Context) → b < 128 → a < 128 → (b ≢ 13) → j
 pub apart : (p : code.Profile) → Apart (profileOf p)
 unfolding profileOf
 apart p b a k h g n = ascii-apart b a k h g n
+
+-- no rule of the profile joins anything to a control below 20 that is not CR
+abbrev pub Breaks : Profile → Type 0
+Breaks P = (a : ℕ) (k : Context) (c : ℕ) → a < 0x20 → (a ≢ 13) → joined (number (P .class a)) k c ≡ false
+
+pub breaks : (p : code.Profile) → Breaks (profileOf p)
+unfolding profileOf
+breaks p a k c h n = control-breaks a k c h n
 
 pub record PairBytes (s : List ℕ) (i : ℕ) : Type 0 where
   pub first : getD s i 0 < 128
@@ -273,6 +309,15 @@ quiet-any (r ∷ s ∷ rs) x t e =
 pub quiet-class : (p : code.Profile) (x : ℕ) (b : Bool) → b ≡ inAny quiets x → b ≡ true → 11 ≡ number (profileOf p .class x)
 unfolding profileOf quiet-ranges quiet-test clear quiets controls extends
 quiet-class p x b e t = sym (quiet-any quiets x tt (sym e ∙ t))
+
+module _ (p : code.Profile) (x : ℕ) where
+  pub printable-class : 0x20 ≤ x → x ≤ 0x7E → number (profileOf p .class x) ≡ 11
+  unfolding profileOf quiet-test clear controls extends
+  printable-class lo hi = quiet-other 0x20 0x7E x tt lo hi
+
+  pub ideograph-class : 0x3000 ≤ x → x ≤ 0x9FFF → number (profileOf p .class x) ≡ 11
+  unfolding profileOf quiet-test clear controls extends
+  ideograph-class lo hi = quiet-other 0x3000 0x9FFF x tt lo hi
 
 -- the first range of Extend
 pub mark-class : (p : code.Profile) (x : ℕ) → (leb 0x300 x && leb x 0x36F) ≡ true → 3 ≡ number (profileOf p .class x)

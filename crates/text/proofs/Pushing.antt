@@ -3,7 +3,7 @@ use Prim.Native.Nat.{_+_, _≤_, ℕ}
 use native.Mathlib.Numerals.{add-one}
 use native.Mathlib.Omega.{arith}
 use mathlib.Core.Bool.{Bool, _&&_, _||_, cond, false, not, true}
-use mathlib.Core.List.{List, [], _++_, _∷_, append-nil, reverse, reverseAux-append}
+use mathlib.Core.List.{List, [], _++_, _∷_, append-assoc, append-nil, reverse, reverseAux-append}
 use mathlib.Core.Path.{_∙_, _≡_, ap, refl, sym}
 use lib.ListN.{drop, getD, length, length-append, length-set, set, take}
 use lib.Seq.{length-take-le, take-at, take-suc-set}
@@ -97,11 +97,27 @@ pub order-pushed : (b s : Overstrike) (xs l l′ : List ℕ) (len r : ℕ) → x
 order-pushed b s xs l l′ len r e p = rw (e ∙ changed-order b s) at p
 
 -- nothing changes
-pub order-none : (b s : Overstrike) (l : List ℕ) (len : ℕ) → changedStyle b s ≡ false → len + length (orderOf b s) ≤ length l → Pushed l l len (orderOf b s) len
+order-same : (b s : Overstrike) → changedStyle b s ≡ false → orderOf b s ≡ []
 unfolding changed changes
-order-none b s l len e h =
+order-same b s e =
     let p = or-false ((b .bold && not (s .bold)) || (not (b .bold) && s .bold)) ((b .underline && not (s .underline)) || (not (b .underline) && s .underline)) e in
     let q = or-false (b .bold && not (s .bold)) (not (b .bold) && s .bold) (p .0) in
     let r = or-false (b .underline && not (s .underline)) (not (b .underline) && s .underline) (p .1) in
     let x : changed b s ≡ [] = rw (q .0, q .1, r .0, r .1) refl in
-    order-pushed b s [] l l len len (sym x) (push-none l len (omega arith))
+    sym (changed-order b s) ∙ x
+
+-- ---- an order and a cluster
+
+pub styled-same : (b s : Overstrike) (c : Bool) (l l′ xs : List ℕ) (len r : ℕ) → c ≡ changedStyle b s → c ≡ false → Pushed l l′ len xs r → Pushed l l′ len (orderOf b s ++ xs) r
+styled-same b s c l l′ xs len r e f p = rw (order-same b s (sym e ∙ f)) p
+
+module _ (l l₁ xs ys : List ℕ) (len n : ℕ) (p : Pushed l l₁ len xs n) (room : len + (length xs + length ys) ≤ length l) (long : length l₁ ≡ length l) where
+  pub styled-room : n + length ys ≤ length l₁
+  styled-room = omega (arith, p .end)
+
+  pub styled-both : (l₂ : List ℕ) (r : ℕ) → Pushed l₁ l₂ n ys r → Pushed l l₂ len (xs ++ ys) r
+  styled-both l₂ r q = record {
+    bytes = q .bytes ∙ ap (λ (x : List ℕ). x ++ ys) (p .bytes) ∙ append-assoc (take len l) xs ys;
+    end = simp length-append (omega (arith, p .end, q .end));
+    inside = q .inside;
+  }

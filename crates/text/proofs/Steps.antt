@@ -3,15 +3,15 @@ use Prim.Native.Nat.{_+_, _-_, _<_, _≤_, suc, ℕ}
 use native.Mathlib.Numerals.{add-one}
 use native.Mathlib.Omega.{arith}
 use mathlib.Core.Bool.{Bool, _&&_, _||_, cond, false, true}
-use mathlib.Core.List.{List, [], _++_, _∷_, append-assoc, reverse, reverse-reverse}
+use mathlib.Core.List.{List, [], _++_, _∷_, append-assoc, reverse, reverse-reverse, reverseAux-append}
 use mathlib.Core.Logic.{_≢_}
 use mathlib.Core.Path.{_∙_, _≡_, ap, refl, sym}
 use lib.Dec.{eqb}
-use lib.ListN.{drop, drop-of-length-le, getD, length, take}
+use lib.ListN.{drop, drop-of-length-le, getD, length, length-append, take}
 use lib.Seq.{drop-cons, length-slice, length-take-le, slice}
 use borrow.Author.Tests.{eq-eqb, ne-eqb}
 use Rattle.text.specs.Class.{Profile}
-use Rattle.text.specs.Code.{BackReady, BackspaceStep, EvenAt, FinishReady, Finished, Front, FrontEven, Part, PendingReady, Pushed, Sound, StepReady, Stepped, Strike, StruckStep, backspaceOn, backward, changedStyle, clusterOn, conversion, finishOn, orderOf, partOf, pendingOf, plain, pushedOn, stateOf, styleOf, whole}
+use Rattle.text.specs.Code.{BackReady, BackspaceStep, EvenAt, FinishReady, Finished, Front, FrontEven, Part, Pushed, Sound, StepReady, Stepped, Strike, StruckStep, backspaceOn, backward, clusterOn, conversion, finishOn, orderOf, partOf, pendingOf, plain, pushedOn, stateOf, styleOf, whole}
 use Rattle.text.specs.Overstrike.{State, Style, ambiguous, backspace, bold, boldUnderline, bolded, finish, held, none, normal, onBackspace, onCluster, order, push, state, step, strike, struck, underline, underlined}
 use Rattle.text.specs.Overstrike.Length.{cost, cost-normal, order-size, size-push, waiting, weight}
 use Rattle.text.specs.Tests.{cases}
@@ -21,8 +21,9 @@ use Rattle.text.specs.declared.overstrike.Conversion.{Conversion}
 use Rattle.text.specs.declared.overstrike.Erasure.{Erasure}
 use Rattle.text.specs.declared.overstrike.Overstrike.{Overstrike}
 use Rattle.text.proofs.Even.{even-more, push-reversed}
-use Rattle.text.proofs.Pushing.{front-push, order-none}
+use Rattle.text.proofs.Pushing.{front-push}
 use Rattle.text.proofs.Runs.{part-slice, size-bytes, size-reverse}
+use Rattle.text.proofs.Texts.{run-append, whole-append}
 
 -- ---- parts of the line and fronts of a buffer
 
@@ -77,30 +78,19 @@ front-order l l′ len r b s out f p =
     let o = order-text (styleOf b) (styleOf s) in
     rw (o .0) at (front-push l l′ len r (orderOf b s) out f (o .1) p)
 
-module _ (line l : List ℕ) (st : Conversion) (w : PendingReady line l st) where
-  pub pending-room : length (orderOf (st .before) (st .style)) + st .len ≤ length l
-  pending-room = omega (arith, w .room)
+-- the order and the pending cluster, pushed as bytes
+abbrev pending : List ℕ → Conversion → List ℕ
+pending line st = orderOf (st .before) (st .style) ++ take (st .end - st .at) (drop (st .at) line)
 
-  module _ (l₁ : List ℕ) (n : ℕ) (p : Pushed l l₁ (st .len) (orderOf (st .before) (st .style)) n) (long : length l₁ ≡ length l) where
-    pub part-room : n + length (take (st .end - st .at) (drop (st .at) line)) ≤ length l₁
-    part-room = rw (part-slice (st .at) (st .end) line, length-slice (st .at) (st .end) line (w .sound .part .within)) (omega (arith, w .room, p .end))
-
-    pub part-pushed : (l₂ : List ℕ) (r : ℕ) → Pushed l₁ l₂ n (take (st .end - st .at) (drop (st .at) line)) r → Front l₂ r (pushedOn line l st)
-    unfolding pushedOn
-    part-pushed l₂ r q =
-        front-push l₁ l₂ n r (slice (st .at) (st .end) line) _
-        (front-order l l₁ (st .len) n (st .before) (st .style) _ (front-of line l st (w .sound)) p) (w .sound .part .valid) (rw (part-slice (st .at) (st .end) line) at q)
-
-  -- where the style stays
-  module _ (b : Bool) (e : b ≡ changedStyle (st .before) (st .style)) (f : b ≡ false) where
-    stays : Pushed l l (st .len) (orderOf (st .before) (st .style)) (st .len)
-    stays = order-none (st .before) (st .style) l (st .len) (sym e ∙ f) (omega (arith, w .room))
-
-    pub plain-room : st .len + length (take (st .end - st .at) (drop (st .at) line)) ≤ length l
-    plain-room = part-room l (st .len) stays refl
-
-    pub plain-pushed : (l₂ : List ℕ) (r : ℕ) → Pushed l l₂ (st .len) (take (st .end - st .at) (drop (st .at) line)) r → Front l₂ r (pushedOn line l st)
-    plain-pushed l₂ r q = part-pushed l (st .len) stays refl l₂ r q
+pub front-pending : (line l l′ : List ℕ) (st : Conversion) (r : ℕ) → Sound line l st → Pushed l l′ (st .len) (pending line st) r → Front l′ r (pushedOn line l st)
+unfolding pushedOn
+front-pending line l l′ st r w p =
+    let o = order-text (styleOf (st .before)) (styleOf (st .style)) in
+    let x : List ℕ = orderOf (st .before) (st .style) in
+    let y : List ℕ = slice (st .at) (st .end) line in
+    let q : Pushed l l′ (st .len) (x ++ y) r = rw (part-slice (st .at) (st .end) line) at p in
+    let e : runOf (decode (x ++ y)) ≡ asciis x ++ runOf (decode y) = run-append (asciis x) x y (o .0) (ap bytesOf (sym (o .0)) ∙ o .1) in
+    rw (e, reverseAux-append (asciis x) (runOf (decode y)) _) at (front-push l l′ (st .len) r (x ++ y) _ (front-of line l st w) (whole-append x y (o .1) (w .part .valid)) q)
 
 -- ---- the weight bounds what is still written
 
@@ -248,9 +238,9 @@ module _ (P : Profile) (line l : List ℕ) (st : Conversion) (a e : ℕ) (w : St
   pub step-hold : (r : Conversion) → b ≡ false → st .pending ≡ 0 → r ≡ conversion (st .len) 1 a e (st .style) plain (st .even) → Stepped line l r (step P (stateOf line l st) (partOf line a e))
   step-hold r t k i = step-cluster l r t (rw i (hold-none P line l st a e k (w .sound) (w .upper)))
 
-  pub step-pushed : (l′ : List ℕ) (r : Conversion) (n : ℕ) → b ≡ false → st .pending ≡ 1 → Front l′ n (pushedOn line l st) → r ≡ conversion n 1 a e (st .style) plain (st .even)
+  pub step-pushed : (l′ : List ℕ) (r : Conversion) (n : ℕ) → b ≡ false → st .pending ≡ 1 → Pushed l l′ (st .len) (pending line st) n → r ≡ conversion n 1 a e (st .style) plain (st .even)
       → Stepped line l′ r (step P (stateOf line l st) (partOf line a e))
-  step-pushed l′ r n t k f i = step-cluster l′ r t (rw i (hold-pushed P line l l′ st n a e k f (w .sound) (w .upper)))
+  step-pushed l′ r n t k p i = step-cluster l′ r t (rw i (hold-pushed P line l l′ st n a e k (front-pending line l l′ st n (w .sound) p) (w .sound) (w .upper)))
 
   pub step-struck : (r : Conversion) → b ≡ false → StruckStep line st a e r → Stepped line l r (step P (stateOf line l st) (partOf line a e))
   step-struck r t f = step-cluster l r t (f P l (w .sound))
@@ -261,8 +251,14 @@ strike-ready line l st a e w k m = record { notNone = k; notHeld = m; under = w 
 pub back-ready : (line l : List ℕ) (st : Conversion) (a e : ℕ) → StepReady line l st a e → BackReady l (st .len) (st .even)
 back-ready line l st a e w = record { room = omega (arith, len-weight line l st (w .sound), w .room); valid = w .sound .valid; even = w .sound .even }
 
-pub pending-ready : (line l : List ℕ) (st : Conversion) → Sound line l st → weight (stateOf line l st) ≤ length l → st .pending ≡ 1 → PendingReady line l st
-pending-ready line l st w h k = record { sound = w; room = omega (arith, held-weight line l st w k) }
+-- room for the order and the pending cluster
+pending-room : (line l : List ℕ) (st : Conversion) → Sound line l st → weight (stateOf line l st) ≤ length l → st .pending ≡ 1
+    → st .len + (length (orderOf (st .before) (st .style)) + length (take (st .end - st .at) (drop (st .at) line))) ≤ length l
+pending-room line l st w h k = rw (part-slice (st .at) (st .end) line, length-slice (st .at) (st .end) line (w .part .within)) (omega (arith, held-weight line l st w k))
+
+pub step-room : (line l : List ℕ) (st : Conversion) (a e : ℕ) → StepReady line l st a e → st .pending ≡ 1
+    → st .len + (length (orderOf (st .before) (st .style)) + length (take (st .end - st .at) (drop (st .at) line))) ≤ length l
+step-room line l st a e w k = pending-room line l st (w .sound) (omega (arith, w .room)) k
 
 -- ---- the run's end
 
@@ -286,26 +282,20 @@ module _ (line l : List ℕ) (st : Conversion) (w : FinishReady line l st) where
         valid = f .valid;
       }
 
-  module _ (k : st .pending ≡ 1) (l₁ : List ℕ) (n : ℕ) (f : Front l₁ n (pushedOn line l st)) (long : length l₁ ≡ length l) where
-    pushed-size : n ≡ st .len + (length (orderOf (st .before) (st .style)) + (st .end - st .at))
-    unfolding pushedOn
-    pushed-size =
-        let a = front-size l₁ n _ f in
-        let b = size-push (partOf line (st .at) (st .end)) (push (asciis (orderOf (st .before) (st .style))) (backward (take (st .len) l))) in
-        let c = size-push (asciis (orderOf (st .before) (st .style))) (backward (take (st .len) l)) in
-        let d = part-size line (st .at) (st .end) (w .sound .part) in
-        let e = front-size l (st .len) _ (front-of line l st (w .sound)) in
-        let o : length (bytesOf (asciis (orderOf (st .before) (st .style)))) ≡ length (orderOf (st .before) (st .style)) =
-        ap (λ (x : List Scalar). length (bytesOf x)) (sym (order-text (styleOf (st .before)) (styleOf (st .style)) .0)) ∙ ap length (order-text (styleOf (st .before)) (styleOf (st .style)) .1) in
-        omega arith
+  pub held-room : st .pending ≡ 1 → st .len + (length (orderOf (st .before) (st .style)) + length (take (st .end - st .at) (drop (st .at) line))) ≤ length l
+  held-room k = pending-room line l st (w .sound) (w .room) k
 
+  module _ (k : st .pending ≡ 1) (l₁ : List ℕ) (n : ℕ) (p : Pushed l l₁ (st .len) (pending line st) n) (long : length l₁ ≡ length l) where
     pub last-order-room : n + length (orderOf (st .style) plain) ≤ length l₁
-    last-order-room = omega (arith, pushed-size, held-weight line l st (w .sound) k, w .room)
+    last-order-room =
+        let e = length-append (orderOf (st .before) (st .style)) (take (st .end - st .at) (drop (st .at) line)) in
+        let d : length (take (st .end - st .at) (drop (st .at) line)) ≡ st .end - st .at = rw (part-slice (st .at) (st .end) line) (length-slice (st .at) (st .end) line (w .sound .part .within)) in
+        omega (arith, p .end, held-weight line l st (w .sound) k, w .room)
 
     pub finished-held : (l₂ : List ℕ) (r : ℕ) → Pushed l₁ l₂ n (orderOf (st .style) plain) r → Finished line l l₂ st r
     unfolding finishOn stateOf pendingOf styleOf finish pushedOn
-    finished-held l₂ r p P =
-        let g = front-order l₁ l₂ n r (st .style) plain _ f p in
+    finished-held l₂ r q P =
+        let g = front-order l₁ l₂ n r (st .style) plain _ (front-pending line l l₁ st n (w .sound) p) q in
         record { inside = g .inside; scalars = rw k (g .scalars); valid = g .valid }
 
 -- ---- comparing bytes

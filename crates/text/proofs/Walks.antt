@@ -2,23 +2,25 @@
 use Prim.Native.Nat.{_+_, _<_, _≤_, ℕ}
 use native.Mathlib.Nat.{add-assoc, add-zero}
 use native.Mathlib.Omega.{arith}
-use mathlib.Core.Bool.{Bool, _&&_, false, not, true}
+use mathlib.Core.Bool.{Bool, _&&_, _||_, false, not, true}
 use mathlib.Core.List.{List, [], _∷_}
 use mathlib.Core.Logic.{_≢_}
 use mathlib.Core.Path.{_∙_, _≡_, ap, refl, sym}
-use lib.Dec.{eqb, ltb, ltb→lt}
+use lib.Dec.{eqb, leb, leb→le, ltb, ltb→lt}
 use lib.ListN.{drop, getD, length, take}
 use borrow.Author.Tests.{eqb-false, ltb-false, ltb-true, not-true}
 use Rattle.text.specs.Class.{Profile, among, class01, classT, classV, control, cr, extend, inAny, lf, number, zwj}
 use Rattle.text.specs.Cluster.{Context, after, classOf, clusters, context, joined, joins, start}
 use Rattle.text.specs.Cluster.Laws.{clusters-first, further}
-use Rattle.text.specs.Code.{asciiPair, contextOf, firstOf, firstSequence, firstSize, moreFrom, profileOf, sequenceOf, size}
-use Rattle.text.specs.Tests.{and-T, cases, is-true, true-T}
-use Rattle.text.specs.Utf8.{Scalar, decode, runOf}
+use Rattle.text.specs.Code.{contextOf, endsBefore, firstOf, firstSequence, firstSize, moreFrom, profileOf, sequenceOf, singleAt, size, unitOf}
+use Rattle.text.specs.Tests.{and-T, cases, is-true, or-T, true-T}
+use Rattle.text.specs.Utf8.{Scalar, decode, runOf, tail, to, within}
 use Rattle.text.specs.Width.{wides, width01, widthOf}
+use Rattle.text.specs.declared.cluster.Unit.{Unit}
 use Rattle.text.specs.declared.utf8.Sequence.{Sequence}
-use Rattle.text.proofs.Ascii.{Apart, ascii-after, ascii-sequence, pair-bytes}
-use Rattle.text.proofs.Units.{run-bad, run-end, run-good, run-size, scalarAt}
+use Rattle.text.proofs.Ascii.{Apart, Breaks, ascii-after, ascii-sequence, other-after}
+use Rattle.text.proofs.Common.{ideograph-bad, ideograph-read}
+use Rattle.text.proofs.Units.{run-bad, run-end, run-good, run-room, run-size, scalarAt}
 use Rattle.text.specs.declared.class.Profile as code
 
 module _ (P : Profile) where
@@ -38,6 +40,12 @@ module _ (P : Profile) where
   unfolding firstSize firstOf size clusters
   first-none = refl
 
+-- nothing joins what is not to be joined
+more-none : (P : Profile) (cs : List Scalar) (prev : ℕ) (k : Context) → ((c : ℕ) → joined prev k c ≡ false) → moreFrom P prev k cs ≡ 0
+unfolding moreFrom
+more-none P [] prev k g = refl
+more-none P (c ∷ cs) prev k g = rw (g (classOf P c)) refl
+
 -- a byte below 80 that joins nothing before it ends a cluster there
 more-ascii : (P : Profile) (s : List ℕ) (p prev : ℕ) (k : Context) → ((k : Context) → joined prev k (number (P .class (getD s p 0))) ≡ false) → getD s p 0 < 128 → moreFrom P prev k (runOf (decode (drop p s))) ≡ 0
 unfolding moreFrom
@@ -50,50 +58,108 @@ more-ascii P s p prev k g l =
     (λ e. rw (run-end s p (ltb-false p (length s) e)) refl)
 
 module _ (P : Profile) (s : List ℕ) (p : ℕ) (here : p < length s) where
-  -- a pair of bytes below 80
-  pub first-ascii : Apart P → asciiPair s p ≡ true → p + 1 ≡ p + firstSize P (runOf (decode (drop p s)))
-  first-ascii g f =
-      let w = pair-bytes s p f in
-      let a : ℕ = getD s p 0 in
-      let one : sequenceOf a 1 ≡ firstSequence (decode (drop p s)) = ascii-sequence s p a here refl (w .first) in
+  -- a byte below 80 that nothing joins
+  first-byte : (a : ℕ) → a ≡ getD s p 0 → a < 128 → moreFrom P (number (P .class a)) (after start (number (P .class a))) (runOf (decode (drop (p + 1) s))) ≡ 0 → p + 1 ≡ p + firstSize P (runOf (decode (drop p s)))
+  first-byte a e l m =
+      let one : sequenceOf a 1 ≡ firstSequence (decode (drop p s)) = ascii-sequence s p a here e l in
       let r : runOf (decode (drop p s)) ≡ scalarAt p a 1 s ∷ runOf (decode (drop (p + 1) s)) = run-good s p (sequenceOf a 1) here one (λ z. absurd (omega arith)) in
       let n : length (take 1 (drop p s)) ≡ 1 = run-size s p (sequenceOf a 1) here one (λ z. absurd (omega arith)) in
-      let m : moreFrom P (number (P .class a)) (after start (number (P .class a))) (runOf (decode (drop (p + 1) s))) ≡ 0 =
-      more-ascii P s (p + 1) (number (P .class a)) (after start (number (P .class a))) (λ k. g a (getD s (p + 1) 0) k (w .first) (w .second) (w .plain)) (w .second) in
       sym (rw (r, first-size P (scalarAt p a 1 s) (runOf (decode (drop (p + 1) s))), n, m) refl)
 
-module _ (P : Profile) (s : List ℕ) (p : ℕ) (u : Sequence) (here : p < length s) (read : u ≡ firstSequence (decode (drop p s))) where
-  pub first-bad : u .len ≡ 0 → p ≡ p + firstSize P (runOf (decode (drop p s)))
-  first-bad z = sym (rw (run-bad s p u here read z, first-none P) (add-zero p))
+  pub first-single : Apart P → Breaks P → singleAt s p ≡ true → p + 1 ≡ p + firstSize P (runOf (decode (drop p s)))
+  first-single g b f =
+      let a : ℕ = getD s p 0 in
+      let c : ℕ = number (P .class a) in
+      let q = and-T (ltb a 0x20 || (ltb a 0x80 && ltb (getD s (p + 1) 0) 0x80)) (not (eqb a 0x0D)) (true-T f) in
+      let n : a ≢ 13 = eqb-false _ _ (not-true _ (is-true _ (q .1))) in
+      or-T (ltb a 0x20) _ (q .0)
+      (λ t. let l : a < 0x20 = ltb→lt _ _ t in first-byte a refl (omega arith) (more-none P (runOf (decode (drop (p + 1) s))) c (after start c) (λ d. b a (after start c) d l n)))
+      (λ t.
+      let w = and-T (ltb a 0x80) (ltb (getD s (p + 1) 0) 0x80) t in
+      let l : a < 128 = ltb→lt _ _ (w .0) in
+      let m : getD s (p + 1) 0 < 128 = ltb→lt _ _ (w .1) in
+      first-byte a refl l (more-ascii P s (p + 1) c (after start c) (λ k. g a (getD s (p + 1) 0) k l m n) m))
 
-  pub first-good : (k m : ℕ) → (u .len ≢ 0) → k ≡ number (P .class (u .code)) → m ≡ p + u .len + moreFrom P k (after start k) (runOf (decode (drop (p + u .len) s)))
+module _ (P : Profile) (s : List ℕ) (p : ℕ) (u : Unit) (here : p < length s) (read : u ≡ unitOf P (firstSequence (decode (drop p s)))) where
+  none : u .len ≡ 0 → runOf (decode (drop p s)) ≡ []
+  none z = run-bad s p (firstSequence (decode (drop p s))) here refl (rw read at z)
+
+  pub record Read : Type 0 where
+    pub c : Scalar
+    pub run : runOf (decode (drop p s)) ≡ c ∷ runOf (decode (drop (p + u .len) s))
+    pub class : classOf P c ≡ u .class
+    pub size : length (c .bytes) ≡ u .len
+
+  some : (u .len ≢ 0) → Read
+  some z =
+      let v : Sequence = firstSequence (decode (drop p s)) in
+      let n : u .len ≡ v .len = ap (λ (x : Unit). x .len) read in
+      let y : v .len ≢ 0 = λ e. z (n ∙ e) in
+      record {
+        c = scalarAt p (v .code) (v .len) s;
+        run = rw n (run-good s p v here refl y);
+        class = sym (ap (λ (x : Unit). x .class) read);
+        size = run-size s p v here refl y ∙ sym n;
+      }
+
+  pub unit-room : (u .len ≢ 0) → p + u .len ≤ length s
+  unit-room z =
+      let n : u .len ≡ firstSequence (decode (drop p s)) .len = ap (λ (x : Unit). x .len) read in
+      rw n (run-room s p (firstSequence (decode (drop p s))) here refl (λ e. z (n ∙ e)))
+
+  pub first-bad : u .len ≡ 0 → p ≡ p + firstSize P (runOf (decode (drop p s)))
+  first-bad z = sym (rw (none z, first-none P) (add-zero p))
+
+  pub first-good : (m : ℕ) → (u .len ≢ 0) → m ≡ p + u .len + moreFrom P (u .class) (after start (u .class)) (runOf (decode (drop (p + u .len) s)))
       → m ≡ p + firstSize P (runOf (decode (drop p s)))
-  first-good k m z kv e =
-      rw (run-good s p u here read z, first-size P (scalarAt p (u .code) (u .len) s) (runOf (decode (drop (p + u .len) s))), run-size s p u here read z, ← kv, ← add-assoc) e
+  first-good m z e = let r = some z in rw (r .run, first-size P (r .c) (runOf (decode (drop (p + u .len) s))), r .class, r .size, ← add-assoc) e
 
   -- one turn of the loop
   module _ (prev : ℕ) (odd : Bool) (total : ℕ) (same : total ≡ p + moreFrom P prev (contextOf odd) (runOf (decode (drop p s)))) where
     pub stop-bad : u .len ≡ 0 → p ≡ total
     unfolding moreFrom
-    stop-bad z = sym (rw (run-bad s p u here read z, add-zero) at same)
+    stop-bad z = sym (rw (none z, add-zero) at same)
 
-    module _ (k : ℕ) (r : Bool) (z : u .len ≢ 0) (kv : k ≡ number (P .class (u .code))) (rr : r ≡ joined prev (contextOf odd) k) where
+    module _ (r : Bool) (z : u .len ≢ 0) (rr : r ≡ joined prev (contextOf odd) (u .class)) where
       pub stop-rule : r ≡ false → p ≡ total
       unfolding moreFrom
-      stop-rule f = sym (rw (run-good s p u here read z, ← kv, sym rr ∙ f, add-zero) at same)
+      stop-rule f = let x = some z in sym (rw (x .run, x .class, sym rr ∙ f, add-zero) at same)
 
-      pub go-on : r ≡ true → total ≡ p + u .len + moreFrom P k (after (contextOf odd) k) (runOf (decode (drop (p + u .len) s)))
+      pub go-on : r ≡ true → total ≡ p + u .len + moreFrom P (u .class) (after (contextOf odd) (u .class)) (runOf (decode (drop (p + u .len) s)))
       unfolding moreFrom
-      go-on t = rw (run-good s p u here read z, ← kv, sym rr ∙ t, run-size s p u here read z, ← add-assoc) at same
+      go-on t = let x = some z in rw (x .run, x .class, sym rr ∙ t, x .size, ← add-assoc) at same
 
-pub stop-ascii : (v : code.Profile) (s : List ℕ) (p prev b : ℕ) (odd r : Bool) (total : ℕ) → b ≡ getD s p 0 → r ≡ (ltb b 0x80 && not (eqb prev 0)) → r ≡ true
-    → total ≡ p + moreFrom (profileOf v) prev (contextOf odd) (runOf (decode (drop p s))) → p ≡ total
+-- one of U+3000 to U+9FFF, or a damaged byte
+more-ideograph : (v : code.Profile) (s : List ℕ) (p prev : ℕ) (k : Context) → (prev ≢ 0) → 0xE3 ≤ getD s p 0 → getD s p 0 ≤ 0xE9 → moreFrom (profileOf v) prev k (runOf (decode (drop p s))) ≡ 0
+unfolding moreFrom
+more-ideograph v s p prev k n lo hi =
+    cases (ltb p (length s))
+    (λ e.
+    let h : p < length s = ltb-true p (length s) e in
+    let a : ℕ = getD s p 0 in
+    let b : ℕ = getD s (p + 1) 0 in
+    let c : ℕ = getD s (p + 2) 0 in
+    cases (within tail b && within tail c)
+    (λ t.
+    let x = some (profileOf v) s p (record { len = 3; class = 11 }) h (ideograph-read v s p a h refl b refl c refl lo hi t) (λ z. absurd (omega arith)) in
+    rw (x .run, x .class, other-after prev k n) refl)
+    (λ t. rw (run-bad s p (sequenceOf 0 0) h (ideograph-bad v s p a h refl b refl c refl lo hi t) refl) refl))
+    (λ e. rw (run-end s p (ltb-false p (length s) e)) refl)
+
+ascii-joins : (v : code.Profile) (prev : ℕ) (k : Context) (a : ℕ) → (prev ≢ 0) → a < 128 → joined prev k (number (profileOf v .class a)) ≡ false
 unfolding profileOf
-stop-ascii v s p prev b odd r total e f t same =
-    let q = and-T (ltb b 0x80) (not (eqb prev 0)) (true-T (sym f ∙ t)) in
-    let l : getD s p 0 < 128 = rw e at (ltb→lt b 0x80 (q .0)) in
+ascii-joins v prev k a n h = ascii-after prev k a n h
+
+pub stop-before : (v : code.Profile) (s : List ℕ) (p prev b : ℕ) (odd r : Bool) (total : ℕ) → b ≡ getD s p 0 → r ≡ endsBefore prev b → r ≡ true
+    → total ≡ p + moreFrom (profileOf v) prev (contextOf odd) (runOf (decode (drop p s))) → p ≡ total
+stop-before v s p prev b odd r total e f t same =
+    let q = and-T (ltb b 0x80 || within (to 0xE3 0xE9) b) (not (eqb prev 0)) (true-T (sym f ∙ t)) in
     let n : prev ≢ 0 = eqb-false prev 0 (not-true (eqb prev 0) (is-true _ (q .1))) in
-    sym (rw (more-ascii (profileOf v) s p prev (contextOf odd) (λ k. ascii-after prev k (getD s p 0) n l) l, add-zero) at same)
+    let m : moreFrom (profileOf v) prev (contextOf odd) (runOf (decode (drop p s))) ≡ 0 =
+    or-T (ltb b 0x80) (within (to 0xE3 0xE9) b) (q .0)
+    (λ l. let h : getD s p 0 < 128 = rw e at (ltb→lt b 0x80 l) in more-ascii (profileOf v) s p prev (contextOf odd) (λ k. ascii-joins v prev k (getD s p 0) n h) h)
+    (λ l. let w = and-T (leb 0xE3 b) (leb b 0xE9) l in more-ideograph v s p prev (contextOf odd) n (rw e at (leb→le 0xE3 b (w .0))) (rw e at (leb→le b 0xE9 (w .1)))) in
+    sym (rw (m, add-zero) at same)
 
 pub stop-end : (P : Profile) (s : List ℕ) (p prev : ℕ) (odd : Bool) (total : ℕ) → length s ≤ p → total ≡ p + moreFrom P prev (contextOf odd) (runOf (decode (drop p s))) → p ≡ total
 unfolding moreFrom

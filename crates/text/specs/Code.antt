@@ -18,6 +18,7 @@ unfoldable pub use Rattle.text.specs.Utf8.{runOf}
 use Rattle.text.specs.declared.Answer.{Answer}
 use Rattle.text.specs.declared.cluster.Indicators.{Indicators}
 use Rattle.text.specs.declared.cluster.Seen.{Seen}
+use Rattle.text.specs.declared.cluster.Unit.{Unit}
 use Rattle.text.specs.declared.overstrike.Conversion.{Conversion}
 use Rattle.text.specs.declared.overstrike.Erasure.{Erasure}
 use Rattle.text.specs.declared.overstrike.Overstrike.{Overstrike}
@@ -64,6 +65,25 @@ unfoldable pub quiets : List Range
 quiets = to 0x20 0x7E ∷ to 0xA0 0x2FF ∷ to 0x370 0x482 ∷ to 0x2100 0xA95F ∷ []
 
 -- ---- the walk through a cluster
+
+-- a sequence's length and class
+abbrev pub unitOf : Profile → Sequence → Unit
+unitOf P u = record { len = u .len; class = number (P .class (u .code)) }
+
+-- the bytes of U+0300 to U+033F, and of U+3000 to U+9FFF
+abbrev pub markBytes : ℕ → ℕ → Bool
+markBytes a b = eqb a 0xCC && within tail b
+
+abbrev pub ideographBytes : ℕ → ℕ → ℕ → Bool
+ideographBytes a b c = within (to 0xE3 0xE9) a && (within tail b && within tail c)
+
+-- a control, or a byte below 80 and behind it another or nothing, CR apart
+abbrev pub singleAt : List ℕ → ℕ → Bool
+singleAt s i = (ltb (getD s i 0) 0x20 || (ltb (getD s i 0) 0x80 && ltb (getD s (i + 1) 0) 0x80)) && not (eqb (getD s i 0) 0x0D)
+
+-- behind a scalar of class p, which is not CR, a byte below 80 or the first of U+3000 to U+9FFF
+abbrev pub endsBefore : ℕ → ℕ → Bool
+endsBefore p b = (ltb b 0x80 || within (to 0xE3 0xE9) b) && not (eqb p 0)
 
 abbrev pub contextOf : Bool → Context
 contextOf o = record { odd = o }
@@ -278,11 +298,6 @@ pub record FinishReady (line l : List ℕ) (st : Conversion) : Type 0 where
 -- for any profile: the run's end takes the state st with the buffer l to r bytes of the buffer l′
 abbrev pub Finished : List ℕ → List ℕ → List ℕ → Conversion → ℕ → Type 0
 Finished line l l′ st r = (P : Profile) → Front l′ r (finishOn P (stateOf line l st))
-
--- what writing the pending cluster needs: the room that it takes
-pub record PendingReady (line l : List ℕ) (st : Conversion) : Type 0 where
-  pub sound : Sound line l st
-  pub room : st .len + (length (orderOf (st .before) (st .style)) + (st .end - st .at)) ≤ length l
 
 -- the two clusters of a strike
 pub record Strike (line : List ℕ) (st : Conversion) (a e : ℕ) : Type 0 where

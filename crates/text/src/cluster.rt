@@ -9,12 +9,10 @@ ghost use Prim.Native.Nat.{_+_, _≤_, _<_};
 ghost use mathlib.Core.List.{reverse};
 ghost use lib.ListN.{length, drop};
 ghost use lib.Seq.{slice};
-ghost use lib.Dec.{ltb, eqb};
-ghost use mathlib.Core.Bool.{_&&_, not};
 ghost use Rattle.text.specs.Utf8.{decode};
 ghost use Rattle.text.specs.Class.{number};
 ghost use Rattle.text.specs.Cluster.{start, after, joined};
-ghost use Rattle.text.specs.Code.{profileOf, firstSequence, runOf, size, contextOf, seen, moreFrom, firstSize, back, whole, withoutLast, OddTo, JoinsAt, regionalAt, IndicatorsTo};
+ghost use Rattle.text.specs.Code.{profileOf, firstSequence, unitOf, markBytes, ideographBytes, singleAt, endsBefore, runOf, size, contextOf, seen, moreFrom, firstSize, back, whole, withoutLast, OddTo, JoinsAt, regionalAt, IndicatorsTo};
 
 // What the rules ask of the scalars before a place: the last one's class, and whether an odd number of regional indicators ends there.
 pub struct Seen {
@@ -49,6 +47,10 @@ fn is_joined(s: Seen, c: u8) -> bool
     if (c == 2) | ((c == 0) | (c == 1)) {
         return false;
     }
+    // GB9, before GB6 to GB8, which speak of other classes
+    if (c == 3) | (c == 4) {
+        return true;
+    }
     // GB6
     if (p == 5) & ((c == 5) | ((c == 6) | ((c == 8) | (c == 9)))) {
         return true;
@@ -61,10 +63,6 @@ fn is_joined(s: Seen, c: u8) -> bool
     if ((p == 9) | (p == 7)) & (c == 7) {
         return true;
     }
-    // GB9
-    if (c == 3) | (c == 4) {
-        return true;
-    }
     // GB12, GB13
     if s.odd & (c == 10) {
         return true;
@@ -73,11 +71,64 @@ fn is_joined(s: Seen, c: u8) -> bool
     false
 }
 
-// Is the next byte below 80, behind a scalar that is not CR? No rule joins it.
-fn ends_before(class: u8, b: u32) -> bool
-    ensures { λ r. ⌜ r ≡ (ltb b 0x80 && not (eqb class 0)) ⌝ }
+// A sequence's length and its scalar's class. Where no sequence begins the length is 0.
+pub struct Unit {
+    pub len: usize,
+    pub class: u8,
+}
+
+// Do two bytes stand for one of U+0300 to U+033F, which are of class Extend?
+fn is_mark(a: u32, b: u32) -> bool
+    ensures { λ r. ⌜ r ≡ markBytes a b ⌝ }
 {
-    (b < 0x80) & (class != 0)
+    (a == 0xCC) & ((0x80 <= b) & (b <= 0xBF))
+}
+
+// Do three bytes stand for one of U+3000 to U+9FFF, which are of class other?
+fn is_ideograph(a: u32, b: u32, c: u32) -> bool
+    ensures { λ r. ⌜ r ≡ ideographBytes a b c ⌝ }
+{
+    ((0xE3 <= a) & (a <= 0xE9)) & (((0x80 <= b) & (b <= 0xBF)) & ((0x80 <= c) & (c <= 0xBF)))
+}
+
+// The sequence at a place with its class, the common ones by their bytes.
+fn unit_at(profile: Profile, s: &[u8], at: usize) -> Unit
+    requires { ⌜ at < length (now s) ⌝ }
+    ensures { λ r. ⌜ r ≡ unitOf (profileOf profile) (firstSequence (decode (drop at (now (s .entry))))) ⌝ }
+{
+    let a = byte_at(s, at);
+    if (0x20 <= a) & (a <= 0x7E) {
+        return Unit { len: 1, class: 11 };
+    }
+    let b = byte_at(s, at + 1);
+    if is_mark(a, b) {
+        return Unit { len: 2, class: 3 };
+    }
+    if is_ideograph(a, b, byte_at(s, at + 2)) {
+        return Unit { len: 3, class: 11 };
+    }
+    let u = decode(s, at);
+    Unit {
+        len: u.len,
+        class: class(profile, u.code),
+    }
+}
+
+// Is the byte at a place a cluster: a control, or a byte below 80 before another or the end? CR apart.
+fn is_single(s: &[u8], at: usize) -> bool
+    requires { ⌜ at < length (now s) ⌝ }
+    ensures { λ r. ⌜ r ≡ singleAt (now (s .entry)) at ⌝ }
+{
+    let a = byte_at(s, at);
+    let b = byte_at(s, at + 1);
+    ((a < 0x20) | ((a < 0x80) & (b < 0x80))) & (a != 0x0D)
+}
+
+// Does the next byte begin no scalar that joins one of this class? Those below 80 join CR alone, those of U+3000 to U+9FFF none.
+fn ends_before(class: u8, b: u32) -> bool
+    ensures { λ r. ⌜ r ≡ endsBefore class b ⌝ }
+{
+    ((b < 0x80) | ((0xE3 <= b) & (b <= 0xE9))) & (class != 0)
 }
 
 // The end of the cluster that a scalar of class c begins, whose next scalar stands at `from`.
@@ -91,13 +142,12 @@ fn more_end(profile: Profile, s: &[u8], from: usize, c: u8) -> usize
         if ends_before(before.class, byte_at(s, p)) {
             return p;
         }
-        let u = decode(s, p);
+        let u = unit_at(profile, s, p);
         if u.len == 0 {
             return p;
         }
-        let k = class(profile, u.code);
-        if is_joined(before, k) {
-            before = with_scalar(before.odd, k);
+        if is_joined(before, u.class) {
+            before = with_scalar(before.odd, u.class);
             p += u.len;
         } else {
             return p;
@@ -111,14 +161,14 @@ pub fn first_end(profile: Profile, s: &[u8], at: usize) -> usize
     requires { ⌜ at < length (now s) ⌝ }
     ensures { λ r. ⌜ r ≡ at + firstSize (profileOf profile) (runOf (decode (drop at (now (s .entry))))) ⌝ }
 {
-    if is_ascii_pair(s, at) {
+    if is_single(s, at) {
         return at + 1;
     }
-    let u = decode(s, at);
+    let u = unit_at(profile, s, at);
     if u.len == 0 {
         return at;
     }
-    more_end(profile, s, at + u.len, class(profile, u.code))
+    more_end(profile, s, at + u.len, u.class)
 }
 
 // The same within the stretch that ends at `end`.

@@ -9,11 +9,11 @@ ghost use mathlib.Core.Path.{_≡_};
 ghost use mathlib.Core.Bool.{true};
 ghost use mathlib.Core.Logic.{_≢_};
 ghost use Prim.Native.Nat.{_+_, _-_, _*_, _≤_, _<_};
-ghost use mathlib.Core.List.{[], _∷_};
+ghost use mathlib.Core.List.{[], _++_, _∷_};
 ghost use lib.ListN.{length, take, drop};
 ghost use Rattle.text.specs.Utf8.{sameBytes, decode, runs, bytesOf};
 ghost use Rattle.text.specs.Overstrike.{bolded, underlined, ambiguous, backspace, step, convertRun, convertPieces, hasBackspace, convert};
-ghost use Rattle.text.specs.Code.{profileOf, runOf, whole, backward, EvenAt, KeptEven, Front, FrontEven, BackReady, PairEnd, EvenBetween, EvenChoice, Pushed, styleOf, orderOf, partOf, stateOf, Sound, Stepped, clusterOn, finishOn, pushedOn, BackspaceStep, StruckStep, StepReady, FinishReady, PendingReady, Finished, conversion, plain, Strike, Wrote, changedStyle, SpanDone, PieceReady, PieceDone};
+ghost use Rattle.text.specs.Code.{profileOf, runOf, whole, backward, EvenAt, KeptEven, Front, FrontEven, BackReady, PairEnd, EvenBetween, EvenChoice, Pushed, styleOf, orderOf, partOf, stateOf, Sound, Stepped, clusterOn, finishOn, BackspaceStep, StruckStep, StepReady, FinishReady, Finished, conversion, plain, Strike, Wrote, changedStyle, SpanDone, PieceReady, PieceDone};
 
 // An overstrike style.
 pub struct Overstrike {
@@ -178,20 +178,22 @@ fn add_control_sequence(out: &mut [u8], len: usize, prev: Overstrike, style: Ove
     len
 }
 
-// The order and the pending cluster behind the result.
-fn write_pending(out: &mut [u8], line: &[u8], st: Conversion) -> usize
-    requires { ⌜ PendingReady (now line) (now out) st ⌝ }
-    ensures { λ r. ⌜ Front (now (out .exit)) r (pushedOn (now (line .entry)) (now (out .entry)) st) ⌝ }
+// The style order from prev to style and a cluster behind the result.
+fn push_styled(
+    out: &mut [u8],
+    len: usize,
+    prev: Overstrike,
+    style: Overstrike,
+    cluster: &[u8],
+) -> usize
+    requires { ⌜ len + (length (orderOf prev style) + length (now cluster)) ≤ length (now out) ⌝ }
+    ensures { λ r. ⌜ Pushed (now (out .entry)) (now (out .exit)) len (orderOf prev style ++ now (cluster .entry)) r ⌝ }
 {
-    let before = st.before;
-    let style = st.style;
-    let at = st.at;
-    let end = st.end;
-    if is_changed(before, style) {
-        let n = add_control_sequence(out, st.len, before, style);
-        return push(out, n, &line[at..end]);
+    if is_changed(prev, style) {
+        let n = add_control_sequence(out, len, prev, style);
+        return push(out, n, cluster);
     }
-    push(out, st.len, &line[at..end])
+    push(out, len, cluster)
 }
 
 // A cluster that is a backspace.
@@ -382,7 +384,11 @@ fn step(
         return hold(st, st.len, at, end);
     }
     if st.pending == 1 {
-        let n = write_pending(out, line, st);
+        let before = st.before;
+        let style = st.style;
+        let a = st.at;
+        let e = st.end;
+        let n = push_styled(out, st.len, before, style, &line[a..e]);
         return hold(st, n, at, end);
     }
     strike(line, st, at, end)
@@ -400,7 +406,9 @@ fn finish(out: &mut [u8], line: &[u8], st: Conversion) -> usize
         underline: false,
     };
     if st.pending == 1 {
-        let n = write_pending(out, line, st);
+        let at = st.at;
+        let end = st.end;
+        let n = push_styled(out, st.len, before, style, &line[at..end]);
         return add_control_sequence(out, n, style, normal);
     }
     add_control_sequence(out, st.len, before, normal)

@@ -1,35 +1,32 @@
 use native.Mathlib.Omega.{arith}
 use borrow.Author.Needs.{needs}
-use Rattle.text.proofs.Ascii.{apart}
+use Rattle.text.specs.Code.{profileOf}
+use Rattle.text.proofs.Ascii.{apart, breaks}
 use Rattle.text.proofs.Branch.{met}
-use Rattle.text.proofs.Units.{run-room}
-use Rattle.text.proofs.Walks.{first-ascii, first-bad, first-good}
+use Rattle.text.proofs.Walks.{first-bad, first-good, first-single, unit-room}
 use Rattle.text.proofs.cluster.first_end.Statement.{statement}
 use Rattle.text.proofs.cluster.first_end.Tie as tie
 
-is-ascii-pair-requires : tie.Need-is-ascii-pair-requires
-is-ascii-pair-requires c κs = search needs
+is-single-requires : tie.Need-is-single-requires
+is-single-requires c κs = search needs
 
 add-result : tie.Need-add-result
 add-result c = search needs
 
 returns : tie.Need-returns
-returns c = search (first-ascii, apart, met)
+returns c = search (first-single, apart, breaks, met)
 
-decode-requires : tie.Need-decode-requires
-decode-requires c κs = search needs
+unit-at-requires : tie.Need-unit-at-requires
+unit-at-requires c κs = search needs
 
 returns-2 : tie.Need-returns-2
 returns-2 c = search first-bad
 
 add-more-end : tie.Need-add-more-end
-add-more-end c = omega (arith, run-room (c .before .before .before .before .before .before .before .args .s .now) (c .before .before .before .before .before .before .before .args .at) (c .before .before .before .decode .result) (c .before .before .before .before .before .before .before .pre) (c .before .before .before .decode .ensures) (c .before .if2 .left))
-
-class-requires : tie.Need-class-requires
-class-requires c κs = search needs
+add-more-end c = omega (arith, unit-room (profileOf (c .before .before .before .before .before .before .before .args .profile)) (c .before .before .before .before .before .before .before .args .s .now) (c .before .before .before .before .before .before .before .args .at) (c .before .before .before .unit-at .result) (c .before .before .before .before .before .before .before .pre) (c .before .before .before .unit-at .ensures) (c .before .if2 .left))
 
 more-end-requires : tie.Need-more-end-requires
-more-end-requires c κs = search run-room
+more-end-requires c κs = search unit-room
 
 returns-3 : tie.Need-returns-3
 returns-3 c = search first-good
@@ -38,12 +35,11 @@ pub first-end-spec : {M : Type 1} → statement M
 first-end-spec =
     tie.close
     (tie.spec
-    is-ascii-pair-requires
+    is-single-requires
     add-result
     returns
-    decode-requires
+    unit-at-requires
     returns-2
     add-more-end
-    class-requires
     more-end-requires
     returns-3)

@@ -1,6 +1,7 @@
 use Rattle.text.specs.Class.{among, number}
 use Rattle.text.specs.Cluster.{joined}
 use Rattle.text.specs.Utf8.{fits}
+use Rattle.text.proofs.Ascii.{mark-joins}
 use Rattle.text.proofs.Branch.{branch}
 use Rattle.text.proofs.cluster.is_joined.Statement.{statement}
 use Rattle.text.proofs.cluster.is_joined.Tie as tie
@@ -18,8 +19,7 @@ unfolding joined among number
 returns-3 c = search branch depth 10 fits 20000
 
 returns-4 : tie.Need-returns-4
-unfolding joined among number
-returns-4 c = search branch depth 10 fits 20000
+returns-4 c = search mark-joins
 
 returns-5 : tie.Need-returns-5
 unfolding joined among number

@@ -6,8 +6,7 @@ use borrow.Author.Needs.{needs}
 use Rattle.text.specs.Cluster.{after, start}
 use Rattle.text.specs.Code.{contextOf, moreFrom, profileOf}
 use Rattle.text.specs.Utf8.{decode, runOf}
-use Rattle.text.proofs.Units.{run-room}
-use Rattle.text.proofs.Walks.{go-on, stop-ascii, stop-bad, stop-end, stop-rule}
+use Rattle.text.proofs.Walks.{go-on, stop-bad, stop-before, stop-end, stop-rule, unit-room}
 use Rattle.text.proofs.cluster.more_end.Statement.{statement}
 use Rattle.text.proofs.cluster.more_end.Tie as tie
 
@@ -30,16 +29,13 @@ ends-before-requires : tie.Need-ends-before-requires Inv-loop μ-loop
 ends-before-requires c κs = search needs
 
 returns : tie.Need-returns Inv-loop μ-loop
-returns c = search stop-ascii
+returns c = search stop-before
 
-decode-requires : tie.Need-decode-requires Inv-loop μ-loop
-decode-requires c κs = search needs
+unit-at-requires : tie.Need-unit-at-requires Inv-loop μ-loop
+unit-at-requires c κs = search needs
 
 returns-2 : tie.Need-returns-2 Inv-loop μ-loop
 returns-2 c = search stop-bad
-
-class-requires : tie.Need-class-requires Inv-loop μ-loop
-class-requires c κs = search needs
 
 is-joined-requires : tie.Need-is-joined-requires Inv-loop μ-loop
 is-joined-requires c κs = search needs
@@ -48,13 +44,13 @@ with-scalar-requires-2 : tie.Need-with-scalar-requires-2 Inv-loop μ-loop
 with-scalar-requires-2 c κs = search needs
 
 add-p : tie.Need-add-p Inv-loop μ-loop
-add-p c = omega (arith, run-room (c .before .before .before .before .before .before .before .before .before .before .before .before .before .before .before .args .s .now) (c .before .before .before .before .before .before .before .before .before .before .before .before .loop .p) (c .before .before .before .before .before .before .before .decode .result) (c .before .before .before .before .before .before .before .before .before .before .before .loop-test .taken) (c .before .before .before .before .before .before .before .decode .ensures) (c .before .before .before .before .before .if2 .left))
+add-p c = omega (arith, unit-room (profileOf (c .before .before .before .before .before .before .before .before .before .before .before .before .before .before .args .profile)) (c .before .before .before .before .before .before .before .before .before .before .before .before .before .before .args .s .now) (c .before .before .before .before .before .before .before .before .before .before .before .loop .p) (c .before .before .before .before .before .before .unit-at .result) (c .before .before .before .before .before .before .before .before .before .before .loop-test .taken) (c .before .before .before .before .before .before .unit-at .ensures) (c .before .before .before .before .if2 .left))
 
 loop-less : tie.Need-loop-less Inv-loop μ-loop
-loop-less c = omega (arith, run-room (c .before .before .before .before .before .before .before .before .before .before .before .before .before .before .before .args .s .now) (c .before .before .before .before .before .before .before .before .before .before .before .before .loop .p) (c .before .before .before .before .before .before .before .decode .result) (c .before .before .before .before .before .before .before .before .before .before .before .loop-test .taken) (c .before .before .before .before .before .before .before .decode .ensures) (c .before .before .before .before .before .if2 .left))
+loop-less c = omega (arith, unit-room (profileOf (c .before .before .before .before .before .before .before .before .before .before .before .before .before .before .args .profile)) (c .before .before .before .before .before .before .before .before .before .before .before .before .before .before .args .s .now) (c .before .before .before .before .before .before .before .before .before .before .before .loop .p) (c .before .before .before .before .before .before .unit-at .result) (c .before .before .before .before .before .before .before .before .before .before .loop-test .taken) (c .before .before .before .before .before .before .unit-at .ensures) (c .before .before .before .before .if2 .left))
 
 loop-again : tie.Need-loop-again Inv-loop μ-loop
-loop-again c = (run-room (c .before .before .before .before .before .before .before .before .before .before .before .before .before .before .before .args .s .now) (c .before .before .before .before .before .before .before .before .before .before .before .before .loop .p) (c .before .before .before .before .before .before .before .decode .result) (c .before .before .before .before .before .before .before .before .before .before .before .loop-test .taken) (c .before .before .before .before .before .before .before .decode .ensures) (c .before .before .before .before .before .if2 .left), rw (c .before .with-scalar2 .ensures) (go-on _ (c .before .before .before .before .before .before .before .before .before .before .before .before .before .before .before .args .s .now) (c .before .before .before .before .before .before .before .before .before .before .before .before .loop .p) (c .before .before .before .before .before .before .before .decode .result) (c .before .before .before .before .before .before .before .before .before .before .before .loop-test .taken) (c .before .before .before .before .before .before .before .decode .ensures) _ _ _ (c .before .before .before .before .before .before .before .before .before .before .before .before .loop .inv .1) _ _ (c .before .before .before .before .before .if2 .left) (c .before .before .before .before .class .ensures) (c .before .before .before .is-joined .ensures) (c .before .before .if3 .taken)))
+loop-again c = (search unit-room, rw (c .before .with-scalar2 .ensures) (go-on _ (c .before .before .before .before .before .before .before .before .before .before .before .before .before .before .args .s .now) (c .before .before .before .before .before .before .before .before .before .before .before .loop .p) (c .before .before .before .before .before .before .unit-at .result) (c .before .before .before .before .before .before .before .before .before .before .loop-test .taken) (c .before .before .before .before .before .before .unit-at .ensures) _ _ _ (c .before .before .before .before .before .before .before .before .before .before .before .loop .inv .1) _ (c .before .before .before .before .if2 .left) (c .before .before .before .is-joined .ensures) (c .before .before .if3 .taken)))
 
 returns-3 : tie.Need-returns-3 Inv-loop μ-loop
 returns-3 c = search stop-rule
@@ -73,9 +69,8 @@ more-end-spec =
     byte-at-requires
     ends-before-requires
     returns
-    decode-requires
+    unit-at-requires
     returns-2
-    class-requires
     is-joined-requires
     with-scalar-requires-2
     add-p

@@ -1,10 +1,19 @@
 use borrow.Author.Needs.{needs}
-use Rattle.text.proofs.Steps.{finish-room, finished-held, finished-none, last-order-room, pending-ready}
+use Rattle.text.proofs.Steps.{finish-room, finished-held, finished-none, held-room, last-order-room}
 use Rattle.text.proofs.overstrike.finish.Statement.{statement}
 use Rattle.text.proofs.overstrike.finish.Tie as tie
 
-write-pending-requires : tie.Need-write-pending-requires
-write-pending-requires c κs = search pending-ready
+sub-push-styled : tie.Need-sub-push-styled
+sub-push-styled c = search needs
+
+part-push-styled-start : tie.Need-part-push-styled-start
+part-push-styled-start c = search needs
+
+part-push-styled-end : tie.Need-part-push-styled-end
+part-push-styled-end c = search needs
+
+push-styled-requires : tie.Need-push-styled-requires
+push-styled-requires c κs = search held-room
 
 add-control-sequence-requires : tie.Need-add-control-sequence-requires
 add-control-sequence-requires c κs = search last-order-room
@@ -28,7 +37,10 @@ pub finish-spec : {M : Type 1} → statement M
 finish-spec =
     tie.close
     (tie.spec
-    write-pending-requires
+    sub-push-styled
+    part-push-styled-start
+    part-push-styled-end
+    push-styled-requires
     add-control-sequence-requires
     same-length
     returns

@@ -1,10 +1,5 @@
-use Prim.Native.Nat.{_≤_}
-use native.Mathlib.Omega.{arith}
-use lib.ListN.{length}
 use borrow.Author.Needs.{needs}
-use Rattle.text.specs.Code.{stateOf}
-use Rattle.text.specs.Overstrike.Length.{weight}
-use Rattle.text.proofs.Steps.{back-ready, pending-ready, step-back, step-hold, step-pushed, step-struck, strike-ready}
+use Rattle.text.proofs.Steps.{back-ready, step-back, step-hold, step-pushed, step-room, step-struck, strike-ready}
 use Rattle.text.proofs.overstrike.step.Statement.{statement}
 use Rattle.text.proofs.overstrike.step.Tie as tie
 
@@ -35,8 +30,17 @@ hold-requires c κs = search needs
 returns-2 : tie.Need-returns-2
 returns-2 c = search step-hold
 
-write-pending-requires : tie.Need-write-pending-requires
-write-pending-requires c κs = let h : weight (stateOf (c .before .before .before .before .before .before .before .before .before .before .args .line .now) (c .before .before .before .before .before .before .before .before .before .before .args .out .now) (c .before .before .before .before .before .before .before .before .before .before .args .st)) ≤ length (c .before .before .before .before .before .before .before .before .before .before .args .out .now) = omega (arith, c .before .before .before .before .before .before .before .before .before .before .pre .room) in pending-ready (c .before .before .before .before .before .before .before .before .before .before .args .line .now) (c .before .before .before .before .before .before .before .before .before .before .args .out .now) (c .before .before .before .before .before .before .before .before .before .before .args .st) (c .before .before .before .before .before .before .before .before .before .before .pre .sound) h (c .before .if3 .taken)
+sub-push-styled : tie.Need-sub-push-styled
+sub-push-styled c = search needs
+
+part-push-styled-start : tie.Need-part-push-styled-start
+part-push-styled-start c = search needs
+
+part-push-styled-end : tie.Need-part-push-styled-end
+part-push-styled-end c = search needs
+
+push-styled-requires : tie.Need-push-styled-requires
+push-styled-requires c κs = search step-room
 
 hold-requires-2 : tie.Need-hold-requires-2
 hold-requires-2 c κs = search needs
@@ -66,7 +70,10 @@ step-spec =
     returns
     hold-requires
     returns-2
-    write-pending-requires
+    sub-push-styled
+    part-push-styled-start
+    part-push-styled-end
+    push-styled-requires
     hold-requires-2
     same-length-2
     returns-3

@@ -1,0 +1,104 @@
+-- Common sequences by their bytes: length and class.
+use Prim.Native.Nat.{_%_, _*_, _+_, _<_, _≤_, ℕ}
+use native.Mathlib.Nat.{add-zero}
+use native.Mathlib.Omega.{arith}
+use mathlib.Core.Bool.{Bool, _&&_, _||_, false, not, true}
+use mathlib.Core.List.{List, [], _∷_}
+use mathlib.Core.Logic.{_≢_}
+use mathlib.Core.Path.{_∙_, _≡_, ap, refl, sym}
+use lib.Dec.{eqb, eqb→eq, leb, leb→le, ltb, ltb→lt}
+use lib.ListN.{drop, getD, length, take}
+use borrow.Author.Tests.{le-leb, lt-leb}
+use Rattle.text.specs.Class.{number}
+use Rattle.text.specs.Code.{firstSequence, ideographBytes, markBytes, profileOf, sequenceOf, unitOf}
+use Rattle.text.specs.Tests.{and-T, is-true, true-T}
+use Rattle.text.specs.Utf8.{decode, more, sequence, tail, to, value, within}
+use Rattle.text.specs.declared.cluster.Unit.{Unit}
+use Rattle.text.specs.declared.utf8.Sequence.{Sequence}
+use Rattle.text.proofs.Ascii.{ascii-sequence, ideograph-class, mark-class, printable-class}
+use Rattle.text.proofs.Units.{by-chain, chain, decode-at}
+use Rattle.text.specs.declared.class.Profile as code
+
+abbrev unit : ℕ → ℕ → Unit
+unit n c = record { len = n; class = c }
+
+-- ---- their lengths
+
+mark-length : (b c d : ℕ) → within tail b ≡ true → 2 ≡ sequence (0xCC ∷ b ∷ c ∷ d ∷ [])
+unfolding chain
+mark-length b c d t = by-chain 0xCC b c d 2 (sym (rw t refl))
+
+module _ (a b c d : ℕ) (low : 0xE3 ≤ a) (high : a ≤ 0xE9) where
+  ideograph-length : (within tail b && within tail c) ≡ true → 3 ≡ sequence (a ∷ b ∷ c ∷ d ∷ [])
+  unfolding chain
+  ideograph-length t =
+      by-chain a b c d 3 (sym (rw (
+        lt-leb a 0x7F (omega arith),
+        le-leb 0xC2 a (omega arith),
+        lt-leb a 0xDF (omega arith),
+        le-leb 0xE0 a (omega arith),
+        lt-leb a 0xE0 (omega arith),
+        le-leb 0xE1 a (omega arith),
+        le-leb a 0xEC (omega arith),
+        t,
+      ) refl))
+
+  ideograph-none : (within tail b && within tail c) ≡ false → 0 ≡ sequence (a ∷ b ∷ c ∷ d ∷ [])
+  unfolding chain
+  ideograph-none t =
+      by-chain a b c d 0 (sym (rw (
+        lt-leb a 0x7F (omega arith),
+        le-leb 0xC2 a (omega arith),
+        lt-leb a 0xDF (omega arith),
+        le-leb 0xE0 a (omega arith),
+        lt-leb a 0xE0 (omega arith),
+        le-leb 0xE1 a (omega arith),
+        le-leb a 0xEC (omega arith),
+        t,
+        lt-leb 0xED a (omega arith),
+        lt-leb 0xEE a (omega arith),
+        lt-leb 0xF0 a (omega arith),
+        lt-leb 0xF1 a (omega arith),
+        lt-leb 0xF4 a (omega arith),
+      ) refl))
+
+-- ---- what is read at a place
+
+module _ (v : code.Profile) (s : List ℕ) (p a : ℕ) (here : p < length s) (ea : a ≡ getD s p 0) where
+  pub unit-ascii : (leb 0x20 a && leb a 0x7E) ≡ true → unit 1 11 ≡ unitOf (profileOf v) (firstSequence (decode (drop p s)))
+  unit-ascii f =
+      let q = and-T (leb 0x20 a) (leb a 0x7E) (true-T f) in
+      let lo : 0x20 ≤ a = leb→le _ _ (q .0) in
+      let hi : a ≤ 0x7E = leb→le _ _ (q .1) in
+      ap (unit 1) (sym (printable-class v a lo hi)) ∙ ap (unitOf (profileOf v)) (ascii-sequence s p a here ea (omega arith))
+
+  module _ (b : ℕ) (eb : b ≡ getD s (p + 1) 0) where
+    pub unit-mark : (r : Bool) → r ≡ markBytes a b → r ≡ true → unit 2 3 ≡ unitOf (profileOf v) (firstSequence (decode (drop p s)))
+    unfolding value more
+    unit-mark r e f =
+        let q = and-T (eqb a 0xCC) (within tail b) (true-T (sym e ∙ f)) in
+        let x : ℕ = 768 + b % 64 in
+        let k : 3 ≡ number (profileOf v .class x) = mark-class v x (rw (le-leb 0x300 x (omega arith), le-leb x 0x36F (omega arith)) refl) in
+        ap (unit 2) k
+        ∙ ap (unitOf (profileOf v)) (decode-at s p 0xCC b (getD s (p + 2) 0) (getD s (p + 3) 0) 2 x here (sym (eqb→eq _ _ (q .0)) ∙ ea) eb refl refl (mark-length b (getD s (p + 2) 0) (getD s (p + 3) 0) (is-true _ (q .1))) refl)
+
+    module _ (c : ℕ) (ec : c ≡ getD s (p + 2) 0) where
+      pub ideograph-read : 0xE3 ≤ a → a ≤ 0xE9 → (within tail b && within tail c) ≡ true → unit 3 11 ≡ unitOf (profileOf v) (firstSequence (decode (drop p s)))
+      unfolding value more
+      ideograph-read lo hi t =
+          let x : ℕ = (a % 16 * 64 + b % 64) * 64 + c % 64 in
+          ap (unit 3) (sym (ideograph-class v x (omega arith) (omega arith)))
+          ∙ ap (unitOf (profileOf v)) (decode-at s p a b c (getD s (p + 3) 0) 3 x here ea eb ec refl (ideograph-length a b c (getD s (p + 3) 0) lo hi t) refl)
+
+      pub ideograph-bad : 0xE3 ≤ a → a ≤ 0xE9 → (within tail b && within tail c) ≡ false → sequenceOf 0 0 ≡ firstSequence (decode (drop p s))
+      unfolding value
+      ideograph-bad lo hi t = decode-at s p a b c (getD s (p + 3) 0) 0 0 here ea eb ec refl (ideograph-none a b c (getD s (p + 3) 0) lo hi t) refl
+
+      pub unit-ideograph : (r : Bool) → r ≡ ideographBytes a b c → r ≡ true → unit 3 11 ≡ unitOf (profileOf v) (firstSequence (decode (drop p s)))
+      unit-ideograph r e f =
+          let q = and-T (within (to 0xE3 0xE9) a) (within tail b && within tail c) (true-T (sym e ∙ f)) in
+          let l = and-T (leb 0xE3 a) (leb a 0xE9) (q .0) in
+          ideograph-read (leb→le _ _ (l .0)) (leb→le _ _ (l .1)) (is-true _ (q .1))
+
+pub unit-read : (v : code.Profile) (u w : Sequence) (k : ℕ) → u ≡ w → k ≡ number (profileOf v .class (u .code)) → unit (u .len) k ≡ unitOf (profileOf v) w
+unit-read v u w k e f = ap (unit (u .len)) f ∙ ap (unitOf (profileOf v)) e

@@ -1,0 +1,61 @@
+use borrow.Author.Needs.{needs}
+use Rattle.text.proofs.Common.{unit-ascii, unit-ideograph, unit-mark, unit-read}
+use Rattle.text.proofs.cluster.unit_at.Statement.{statement}
+use Rattle.text.proofs.cluster.unit_at.Tie as tie
+
+byte-at-requires : tie.Need-byte-at-requires
+byte-at-requires c κs = search needs
+
+returns : tie.Need-returns
+returns c = search unit-ascii
+
+add-byte-at : tie.Need-add-byte-at
+add-byte-at c = search needs
+
+byte-at-requires-2 : tie.Need-byte-at-requires-2
+byte-at-requires-2 c κs = search needs
+
+is-mark-requires : tie.Need-is-mark-requires
+is-mark-requires c κs = search needs
+
+returns-2 : tie.Need-returns-2
+returns-2 c = search unit-mark
+
+add-byte-at-2 : tie.Need-add-byte-at-2
+add-byte-at-2 c = search needs
+
+byte-at-requires-3 : tie.Need-byte-at-requires-3
+byte-at-requires-3 c κs = search needs
+
+is-ideograph-requires : tie.Need-is-ideograph-requires
+is-ideograph-requires c κs = search needs
+
+returns-3 : tie.Need-returns-3
+returns-3 c = search unit-ideograph
+
+decode-requires : tie.Need-decode-requires
+decode-requires c κs = search needs
+
+class-requires : tie.Need-class-requires
+class-requires c κs = search needs
+
+returns-4 : tie.Need-returns-4
+returns-4 c = search unit-read
+
+pub unit-at-spec : {M : Type 1} → statement M
+unit-at-spec =
+    tie.close
+    (tie.spec
+    byte-at-requires
+    returns
+    add-byte-at
+    byte-at-requires-2
+    is-mark-requires
+    returns-2
+    add-byte-at-2
+    byte-at-requires-3
+    is-ideograph-requires
+    returns-3
+    decode-requires
+    class-requires
+    returns-4)
