@@ -1,59 +1,53 @@
--- A printable byte before another is a plain cluster by itself, by document 01's profile.
+-- Scalars that are clusters by themselves, by document 01's profile: a printable byte before another, a control.
 use mathlib.Core.Path.{_≡_, refl, sym, ap, ap₂, _∙_}
 use Prim.Native.Nat.{ℕ, zero, suc, _+_, _-_, _≤_, _<_}
+use native.Mathlib.Nat.{add-zero}
 use native.Mathlib.Numerals.{add-one}
 use native.Mathlib.Omega.{arith}
 use mathlib.Core.Bool.{Bool, true, false, not, cond, _&&_, _||_}
 use mathlib.Core.List.{List, [], _∷_, map}
+use mathlib.Core.Logic.{_≢_}
 use lib.ListN.{length, take, drop, getD, List·getD-map, List·getD-eq-default}
-use lib.Seq.{drop-cons}
+use lib.Seq.{drop-cons, getD-drop}
 use lib.Dec.{T, eqb, leb, ltb, leb→le, ltb→lt, nltb→le}
-use borrow.Author.Tests.{le-leb, lt-leb, ne-eqb}
-use Rattle.text.specs.Tests.{cases, and-T, true-T}
+use borrow.Author.Tests.{eqb-true, eqb-false, le-leb, lt-leb, ne-eqb, not-true}
+use Rattle.text.specs.Tests.{cases, and-T, is-true, true-T}
 use Rattle.text.specs.Utf8.{Scalar, ascii, decode, Decoded, wellFormed, sequence, lengthIn, fits, table, scalar, value, runOf, bytesOf}
 use Rattle.text.specs.Utf8.Laws.{decode-good}
-use Rattle.text.specs.Class.{Profile, Class, other, number, among, class01}
+use Rattle.text.specs.Class.{Profile, lf, control, other, number, among, class01}
 use Rattle.text.specs.Width.{profile01, width01, widthOf}
-use Rattle.text.specs.Cluster.{Context, joined, joins, context, clusters}
+use Rattle.text.specs.Cluster.{Context, joined, joins, joinsNext, context, clusters}
 use Rattle.text.specs.Cluster.Laws.{further, clusters-first}
-use Rattle.spans.specs.Contracts.{printable, plainBytes, plainFirst, clustersAt}
+use Rattle.spans.specs.Spans.Steps.{plainCluster}
+use Rattle.spans.specs.Contracts.{printable, alone, plainBytes, plainFirst, clustersAt}
 use Rattle.spans.proofs.Table.{upFrom, upFrom-at}
 use Rattle.spans.proofs.Clusters.{plain-bytes}
 
--- ---- class and width of the 95 printable ones, each by one computed test
+-- ---- a value that all of n numbers have, by one computed test
 
 always : {A : Type 0} → A → ℕ → A
 always a v = a
 
-abbrev classes : map class01 (upFrom 0x20 95) ≡ map (always other) (upFrom 0x20 95)
-unfolding class01 upFrom always
-classes = refl
-
-abbrev widths : map width01 (upFrom 0x20 95) ≡ map (always 1) (upFrom 0x20 95)
-unfolding width01 upFrom always
-widths = refl
-
-printable-at : (v : ℕ) → printable v ≡ true → getD (upFrom 0x20 95) (v - 0x20) 0x20 ≡ v
-printable-at v p =
-    let t = and-T (leb 0x20 v) (leb v 0x7E) (true-T p) in
-    let a : 0x20 ≤ v = leb→le _ _ (t .0) in
-    let b : v ≤ 0x7E = leb→le _ _ (t .1) in
-    upFrom-at 95 0x20 (v - 0x20) 0x20 (omega arith) ∙ omega arith
-
-same-all : {A : Type 0} (f : ℕ → A) (a : A) → f 0x20 ≡ a → map f (upFrom 0x20 95) ≡ map (always a) (upFrom 0x20 95) → (v : ℕ) → printable v ≡ true → f v ≡ a
+same-all : {A : Type 0} (f : ℕ → A) (a : A) (lo n : ℕ) → f lo ≡ a → map f (upFrom lo n) ≡ map (always a) (upFrom lo n) → (v : ℕ) → lo ≤ v → v < lo + n → f v ≡ a
 unfolding always
-same-all f a z e v p =
-    ap f (sym (printable-at v p)) ∙ sym (List·getD-map f (upFrom 0x20 95) (v - 0x20) 0x20)
-    ∙ ap₂ (λ (l : List _) (d : _). getD l (v - 0x20) d) e z
-    ∙ List·getD-map (always a) (upFrom 0x20 95) (v - 0x20) 0x20
+same-all f a lo n z e v h k =
+    let p : getD (upFrom lo n) (v - lo) lo ≡ v = upFrom-at n lo (v - lo) lo (omega arith) ∙ omega arith in
+    ap f (sym p) ∙ sym (List·getD-map f (upFrom lo n) (v - lo) lo)
+    ∙ ap₂ (λ (l : List _) (d : _). getD l (v - lo) d) e z
+    ∙ List·getD-map (always a) (upFrom lo n) (v - lo) lo
+
+-- ---- class and width of the 95 printable ones
+
+low : (v : ℕ) → printable v ≡ true → (0x20 ≤ v) × (v ≤ 0x7E)
+low v p = let t = and-T (leb 0x20 v) (leb v 0x7E) (true-T p) in (leb→le _ _ (t .0), leb→le _ _ (t .1))
 
 class-printable : (v : ℕ) → printable v ≡ true → class01 v ≡ other
-unfolding class01
-class-printable v p = same-all class01 other refl classes v p
+unfolding class01 upFrom always
+class-printable v p = let h = low v p in same-all class01 other 0x20 95 refl refl v (h .0) (omega (arith, h .1))
 
 width-printable : (v : ℕ) → printable v ≡ true → width01 v ≡ 1
-unfolding width01
-width-printable v p = same-all width01 1 refl widths v p
+unfolding width01 upFrom always
+width-printable v p = let h = low v p in same-all width01 1 0x20 95 refl refl v (h .0) (omega (arith, h .1))
 
 -- ---- the run that begins with it
 
@@ -65,18 +59,17 @@ run-ascii : (b : ℕ) (s : List ℕ) → b ≤ 0x7F → runOf (decode (b ∷ s))
 unfolding runOf scalar value
 run-ascii b s h = ap runOf (decode-good b s 0 (sequence-ascii b s h))
 
-apart : (a b : ℕ) → printable a ≡ true → printable b ≡ true → joins profile01 (ascii a ∷ []) (ascii b) ≡ false
-unfolding joins joined among number context profile01
-apart a b p q = rw (class-printable a p, class-printable b q)
+-- a scalar that no rule joins the next one to is a cluster by itself
+single : (P : Profile) (c : Scalar) (s : List Scalar) → joinsNext P (c ∷ []) s ≡ false → clusters P (c ∷ s) ≡ (c ∷ []) ∷ clusters P s
+unfolding further joinsNext
+single P c [] e = clusters-first P c []
+single P c (d ∷ s) e =
+    let z : further P (c ∷ []) (d ∷ s) ≡ 0 = rw e in
+    clusters-first P c (d ∷ s) ∙ ap (λ (k : ℕ). (c ∷ take k (d ∷ s)) ∷ clusters P (drop k (d ∷ s))) z
 
 first-alone : (a b : ℕ) (r : List Scalar) → printable a ≡ true → printable b ≡ true → clusters profile01 (ascii a ∷ ascii b ∷ r) ≡ (ascii a ∷ []) ∷ clusters profile01 (ascii b ∷ r)
-unfolding further
-first-alone a b r p q =
-    let z : further profile01 (ascii a ∷ []) (ascii b ∷ r) ≡ 0 = rw (apart a b p q) in
-    clusters-first profile01 (ascii a) (ascii b ∷ r) ∙ ap (λ (k : ℕ). (ascii a ∷ take k (ascii b ∷ r)) ∷ clusters profile01 (drop k (ascii b ∷ r))) z
-
-low : (v : ℕ) → printable v ≡ true → (0x20 ≤ v) × (v ≤ 0x7E)
-low v p = let t = and-T (leb 0x20 v) (leb v 0x7E) (true-T p) in (leb→le _ _ (t .0), leb→le _ _ (t .1))
+unfolding joinsNext joins joined among number context profile01
+first-alone a b r p q = single profile01 (ascii a) (ascii b ∷ r) (rw (class-printable a p, class-printable b q))
 
 plain-alone : (a y : ℕ) → printable a ≡ true → plainBytes 1 a y (widthOf profile01 (ascii a ∷ [])) ≡ true
 unfolding plainBytes widthOf profile01
@@ -103,3 +96,42 @@ printable-first t at a b h e f p q =
     let d : drop at t ≡ a ∷ b ∷ drop (suc (suc at)) t = drop-cons t at 0 h ∙ ap₂ (λ (x : ℕ) (r : List ℕ). x ∷ r) (sym e) (drop-cons t (suc at) 0 k ∙ ap (λ (x : ℕ). x ∷ drop (suc (suc at)) t) (ap (λ (i : ℕ). getD t i 0) (sym (add-one at)) ∙ sym f)) in
     rw d (first-printable a b (drop (suc (suc at)) t) p q))
     (λ l. absurd (let z : getD t (at + 1) 0 ≡ 0 = List·getD-eq-default t 0 (let n : length t ≤ suc at = nltb→le _ _ (rw l tt) in omega arith) in omega (arith, low b q .0)))
+
+-- ---- controls
+
+after-control : (p : ℕ) (k : Context) (c : ℕ) → among p (lf ∷ control ∷ []) ≡ true → joined p k c ≡ false
+unfolding joined among number
+after-control p k c h = cases (eqb p 1) (λ e. rw (eqb-true p 1 e)) (λ e. let f : eqb p 2 ≡ true = rw e at h in rw (eqb-true p 2 f))
+
+control-test : ℕ → Bool
+control-test v = eqb v 0x0D || among (number (class01 v)) (lf ∷ control ∷ [])
+
+control-tested : (v : ℕ) → v ≤ 0x1F → control-test v ≡ true
+unfolding control-test among number class01 upFrom always
+control-tested v h = same-all control-test true 0 32 refl refl v (omega arith) (omega arith)
+
+control-class : (v : ℕ) → v ≤ 0x1F → v ≢ 0x0D → among (number (class01 v)) (lf ∷ control ∷ []) ≡ true
+unfolding control-test
+control-class v h n = rw (ne-eqb v 0x0D n) at (control-tested v h)
+
+-- at a place
+module _ (t : List ℕ) (at a : ℕ) (h : at < length t) (e : a ≡ getD t at 0) (c : alone a ≡ true) where
+  control-low : (a ≤ 0x1F) × (a ≢ 0x0D)
+  control-low = let p = and-T (leb a 0x1F) (not (eqb a 0x0D)) (true-T c) in (leb→le _ _ (p .0), eqb-false a 0x0D (not-true _ (is-true _ (p .1))))
+
+  control-apart : (s : List Scalar) → joinsNext profile01 (ascii a ∷ []) s ≡ false
+  unfolding joinsNext joins profile01
+  control-apart [] = refl
+  control-apart (d ∷ s) = let k = control-low in after-control (number (class01 a)) (context profile01 (ascii a ∷ [])) (number (class01 (d .code))) (control-class a (k .0) (k .1))
+
+  pub control-single : clustersAt profile01 (drop at t) ≡ (ascii a ∷ []) ∷ clustersAt profile01 (drop (suc at) t)
+  control-single =
+      let d : drop at t ≡ a ∷ drop (suc at) t = drop-cons t at 0 h ∙ ap (λ (x : ℕ). x ∷ drop (suc at) t) (sym e) in
+      ap (clusters profile01) (ap (λ (l : List ℕ). runOf (decode l)) d ∙ run-ascii a (drop (suc at) t) (omega (arith, control-low .0)))
+      ∙ single profile01 (ascii a) (runOf (decode (drop (suc at) t))) (control-apart (runOf (decode (drop (suc at) t))))
+
+  pub control-special : plainCluster profile01 (ascii a ∷ []) ≡ false
+  unfolding plainBytes bytesOf
+  control-special =
+      plain-bytes profile01 (drop at t) (ascii a ∷ []) (clustersAt profile01 (drop (suc at) t)) control-single
+      ∙ (let b : getD (drop at t) 0 0 ≡ a = getD-drop at t 0 0 ∙ ap (λ (i : ℕ). getD t i 0) (add-zero at) ∙ sym e in rw (b, le-leb a 0x1F (control-low .0)))

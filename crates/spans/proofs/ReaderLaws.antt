@@ -4,36 +4,39 @@ use Prim.Native.Nat.{ℕ, zero, suc, _+_, _-_, _≤_, _<_}
 use native.Mathlib.Nat.{add-zero}
 use native.Mathlib.Numerals.{add-one}
 use native.Mathlib.Omega.{arith}
-use mathlib.Core.Bool.{Bool, true, false, not, cond, _&&_, _||_}
+use mathlib.Core.Bool.{Bool, true, false, true≢false, not, cond, _&&_, _||_}
 use mathlib.Core.List.{List, [], _∷_, _++_, map}
 use mathlib.Core.Option.{Option, none, some}
 use mathlib.Core.Logic.{_≢_}
 use lib.ListN.{length, take, drop, getD, length-drop, drop-of-length-le}
 use lib.Seq.{drop-cons, drop-drop, getD-drop, slice, slice-empty, length-slice}
-use borrow.Author.Tests.{eqb-true}
+use borrow.Author.Tests.{eqb-true, ne-eqb}
 use lib.Dec.{eqb, leb, eqb→eq}
 use Rattle.text.specs.Tests.{cases, and-T, true-T}
-use Rattle.text.specs.Utf8.{Scalar, decode, decodeFrom, runOf, bytesOf}
+use Rattle.text.specs.Utf8.{Scalar, ascii, decode, decodeFrom, runOf, bytesOf}
 use Rattle.text.specs.Utf8.Runs.{run-fits}
 use Rattle.text.specs.Class.{Profile}
 use Rattle.text.specs.Width.{profile01, widthOf}
 use Rattle.text.specs.Cluster.{clusters, clustersAfter, joinAll}
 use Rattle.text.specs.Cluster.Laws.{clusters-all}
 use Rattle.text.specs.Cluster.Walk.{size-is, first-size, first-none, cluster-run, cluster-some, cluster-behind, cluster-length, next-clusters}
-use Rattle.text.specs.Code.{profileOf, size, firstSize}
+use Rattle.text.specs.Code.{profileOf, size, firstSize, firstSequence}
+use Rattle.text.specs.Code.Laws.{scalar-at, none-at}
+use Rattle.text.specs.declared.utf8.Sequence.{Sequence}
 use Rattle.text.specs.declared.class.Profile as code
-use Rattle.spans.specs.Sequence.{Sequence, sgr, eraseToEnd, ignored, hyperlink, lineDrawing, Found, found, missing, parse}
+use Rattle.spans.specs.Sequence as found
+use Rattle.spans.specs.Sequence.{sgr, eraseToEnd, ignored, hyperlink, lineDrawing, Found, found, missing, parse}
 use Rattle.spans.specs.Sequence.Laws.{parse-length}
 use Rattle.spans.specs.Spans.{Content, Span, span, Seen, plain, special, seen, spansAt, text, control, invalid, unprintable, escape, tab, crlf, lf, Record, aRecord, kindOf, matchOf, recordOf, records}
 use Rattle.spans.specs.Spans.Steps.{extent, isPlain, plainCluster, plain-same, plainSize, plainText, skipped, step-text, step-special, step-invalid, NoText, seen-noText}
-use Rattle.spans.specs.Contracts.{printable, plainBytes, plainFirst, clustersAt, runAt, Part, Within, Looked, Ahead, Skip, told, escapeLook, lookBytes, aLook, Fresh, Ready, matchIn, textRecord, recordsFrom, Stepped, Special, SpecialStep}
+use Rattle.spans.specs.Contracts.{printable, alone, plainBytes, plainFirst, clustersAt, runAt, Part, Within, Ahead, Skip, told, escapeLook, lookBytes, aLook, Fresh, Ready, matchIn, textRecord, recordsFrom, invalidAt, Stepped, ControlReady, Escaping, Mark, SpecialStep}
 use Rattle.spans.specs.declared.sequence.Sequence as sequence
 use Rattle.spans.specs.declared.reader.Look.{Look}
 use Rattle.spans.specs.declared.reader.Place.{Place}
 use Rattle.spans.specs.declared.reader.Matched.{Matched}
 use Rattle.spans.specs.declared.reader.NextSpan.{NextSpan}
 use Rattle.spans.proofs.Clusters.{plain-bytes, look-bytes, lookOf}
-use Rattle.spans.proofs.Printable.{printable-first}
+use Rattle.spans.proofs.Printable.{printable-first, control-single, control-special}
 use Rattle.spans.proofs.Sequences.{part-slice}
 
 -- what holds of a list holds if it does of none and of a first and others
@@ -145,13 +148,27 @@ pub printable-end : (p : code.Profile) (t : List ℕ) (at a b : ℕ) (x y : Bool
 unfolding profileOf
 printable-end p t at a b x y h e f q r u v = ap (λ (n : ℕ). at + n) (sym (printable-first t at a b h e f (sym q ∙ r) (sym u ∙ v)))
 
+-- ---- controls
+
+module _ (p : code.Profile) (t : List ℕ) (at : ℕ) (h : at < length t) (c : alone (getD t at 0) ≡ true) where
+  pub control-size : plainSize (profileOf p) (clustersAt (profileOf p) (drop at t)) ≡ 0
+  unfolding profileOf plainSize
+  control-size = rw (control-single t at (getD t at 0) h refl c, control-special t at (getD t at 0) h refl c)
+
+  pub control-end : at + 1 ≡ at + firstSize (profileOf p) (runOf (decode (drop at t)))
+  unfolding profileOf bytesOf
+  control-end = ap (λ (n : ℕ). at + n) (sym (first-size profile01 (runOf (decode (drop at t))) (ascii (getD t at 0) ∷ []) (clustersAt profile01 (drop (suc at) t)) (control-single t at (getD t at 0) h refl c)))
+
+pub control-first : (p : code.Profile) (t : List ℕ) (at a : ℕ) (x : Bool) → at < length t → a ≡ getD t at 0 → x ≡ alone a → x ≡ true → at ≡ at + plainFirst (profileOf p) (clustersAt (profileOf p) (drop at t))
+unfolding plainFirst profileOf
+control-first p t at a x h e f q =
+    let c : alone a ≡ true = sym f ∙ q in
+    rw (control-single t at a h e c, control-special t at a h e c) (omega arith)
+
 -- ---- what stands at an ESC, and other values that are told apart
 
 pub on-sequence : (q x : sequence.Sequence) (z : Look) → q ≡ x → z ≡ escapeLook x → z ≡ escapeLook q
 on-sequence q x z e f = rw e f
-
-pub look-escape : (q : sequence.Sequence) (z : Look) (f : Found) → z ≡ escapeLook q → q ≡ told f → z ≡ escapeLook (told f)
-look-escape q z f e g = rw (← g) e
 
 pub plain-part : (P : Profile) (t : List ℕ) (at end : ℕ) → at < length t → end ≡ at + firstSize P (runOf (decode (drop at t))) → Part t at end
 plain-part P t at end h f =
@@ -180,17 +197,23 @@ pub plain-wide : (n a b x y w v : ℕ) (z : Bool) → a ≡ x → b ≡ y → w 
 unfolding plainOf
 plain-wide n a b x y w v z e f g q = rw (← e, ← f, ← g) q
 
-unfoldable pub looksOf : ℕ → ℕ → ℕ → Found → Look
-unfolding lookBytes
-looksOf n a b f = lookBytes n a b f
+-- the same chain as `lookBytes`, where no sequence begins at an ESC
+unfoldable pub looksOf : ℕ → ℕ → ℕ → Look
+looksOf n a b =
+    cond (eqb n 1)
+    (cond (eqb a 0x0A) (aLook 12 1) (cond (eqb a 0x09) (aLook 10 1) (cond (leb a 0x1F || eqb a 0x7F) (aLook 3 1) (aLook 5 1))))
+    (cond (eqb n 2 && (eqb a 0x0D && eqb b 0x0A)) (aLook 11 2) (aLook 5 n))
 
-pub look-is : (n a b x y : ℕ) (f : Found) (z : Look) → a ≡ x → b ≡ y → z ≡ looksOf n a b f → z ≡ lookBytes n x y f
-unfolding looksOf
-look-is n a b x y f z e q p = rw (← e, ← q) p
+looks-same : (n a b : ℕ) → looksOf n a b ≡ lookBytes n a b missing
+unfolding looksOf lookBytes escapeLook told
+looks-same n a b = cases (eqb a 0x1B) (λ e. rw (eqb-true a 0x1B e)) (λ e. rw e)
+
+pub look-is : (n a b x y : ℕ) (z : Look) → a ≡ x → b ≡ y → z ≡ looksOf n a b → z ≡ lookBytes n x y missing
+look-is n a b x y z e q p = p ∙ looks-same n a b ∙ rw (e, q)
 
 -- one byte says enough
-pub look-one : (n a x y : ℕ) (f : Found) (z : Look) → a ≡ x → z ≡ looksOf n a y f → z ≡ lookBytes n x y f
-look-one n a x y f z e p = look-is n a y x y f z e refl p
+pub look-one : (n a x y : ℕ) (z : Look) → a ≡ x → z ≡ looksOf n a y → z ≡ lookBytes n x y missing
+look-one n a x y z e p = look-is n a y x y z e refl p
 
 pub plain-crlf : (n a b x y w : ℕ) → a ≡ x → b ≡ y → (eqb n 1 && (leb a 0x1F || eqb a 0x7F)) ≡ false → (eqb n 2 && (eqb a 0x0D && eqb b 0x0A)) ≡ true → false ≡ plainBytes n x y w
 unfolding plainBytes
@@ -271,9 +294,15 @@ module _ (P : Profile) (t : List ℕ) (at stop i : ℕ) (z : SkipLoop P t at sto
   pub skip-done : stop ≤ i → Skip P t at stop i
   skip-done h = let k : stop - i ≡ 0 = omega arith in record { same = omega (arith, z .same, skip-none P (stop - i) (clustersAt P (drop i t)) k); run = z .run }
 
--- ---- `special_span`
+behind-skipped : (P : Profile) (t : List ℕ) (at : ℕ) (g : List Scalar) (gs : List (List Scalar)) → clustersAt P (drop at t) ≡ g ∷ gs → (end k : ℕ) → end ≡ at + extent g
+    → end + skipped P (at + k - end) (clustersAt P (drop end t)) ≡ at + (extent g + skipped P (k - extent g) gs)
+behind-skipped P t at g gs e end k f =
+    let v : at + k - (at + extent g) ≡ k - extent g = omega arith in
+    rw (f, v, behind-clusters P t at g gs e) (omega arith)
 
-escape-fits : (f : Found) (m : ℕ) → 1 ≤ m → ((q : Sequence) (n : ℕ) → f ≡ found q n → n ≤ m) → escapeLook (told f) .len ≤ m
+-- ---- a cluster that is no part of a text
+
+escape-fits : (f : Found) (m : ℕ) → 1 ≤ m → ((q : found.Sequence) (n : ℕ) → f ≡ found q n → n ≤ m) → escapeLook (told f) .len ≤ m
 unfolding escapeLook told
 escape-fits missing m h k = h
 escape-fits (found (sgr os) n) m h k = k (sgr os) n refl
@@ -321,98 +350,159 @@ unfolding isPlain lookOf
 special-is plain l e f h = absurd (let z : _≡_ {A = ℕ} 0 1 = cc in omega arith)
 special-is (special c k) l e f h = record { content = c; is = ap (λ (x : Look). special c (x .len)) f; kind = ap (λ (x : Look). x .kind) f; unmatched = no-match c k h }
 
-module _ (P : Profile) (t : List ℕ) (at run : ℕ) (z : Special P t at run) where
-  -- the cluster there
+-- the cluster from `at` to `end` is no part of a text
+module _ (P : Profile) (t : List ℕ) (at end : ℕ) (z : plainSize P (clustersAt P (drop at t)) ≡ 0) (f : end ≡ at + firstSize P (runOf (decode (drop at t)))) (h : at < end) where
   record Here : Type 0 where
     g : List Scalar
     gs : List (List Scalar)
     is : clustersAt P (drop at t) ≡ g ∷ gs
     special : plainCluster P g ≡ false
-    size : extent g ≤ run - at
-    some : 1 ≤ extent g
+    ends : end ≡ at + extent g
+    run : runAt t end ≡ runAt t at
 
-  special-here : Here
+  here-is : Here
   unfolding plainSize
-  special-here =
+  here-is =
       by-first (clustersAt P (drop at t))
-      (λ e. absurd (omega (arith, z .within .first, z .ends, size-none P (drop at t) e)))
+      (λ e. absurd (omega (arith, first-none P (runOf (decode (drop at t))) e)))
       (λ g gs e.
-      let k = cluster-some P (drop at t) g gs e in
+      let k : end ≡ at + extent g = rw (first-size P (runOf (decode (drop at t))) g gs e) at f in
       record {
         g = g;
         gs = gs;
         is = e;
-        special = cases (plainCluster P g) (λ b. absurd (let n : extent g + plainSize P gs ≡ 0 = rw (e, b) at (z .special) in omega arith)) (λ b. b);
-        size = omega (arith, z .ends, behind-size P t at g gs e);
-        some = k;
+        special = cases (plainCluster P g) (λ b. absurd (let n : extent g + plainSize P gs ≡ 0 = rw (e, b) at z in omega (arith, cluster-some P (drop at t) g gs e))) (λ b. b);
+        ends = k;
+        run = rw k (omega (arith, behind-size P t at g gs e));
       })
 
-  behind-length : length (slice (at + 1) run t) ≡ run - (at + 1)
-  behind-length = length-slice (at + 1) run t (z .within .last)
+  -- the run's end, and the cluster's before it
+  run-room : (end ≤ runAt t at) × (runAt t at ≤ length t)
+  run-room =
+      let w = here-is in
+      (omega (arith, w .run), omega (arith, w .run, run-inside t at, h))
 
-  module _ (end : ℕ) (f : end ≡ at + firstSize P (runOf (decode (drop at t)))) where
-    end-is : end ≡ at + extent (special-here .g)
-    end-is = let w = special-here in rw (first-size P (runOf (decode (drop at t))) (w .g) (w .gs) (w .is)) at f
+  module _ (l : Look) (q : l ≡ lookBytes (end - at) (getD t at 0) (getD t (at + 1) 0) (parse (slice (at + 1) (runAt t at) t))) where
+    -- what stands at an ESC is what stands behind it in the run
+    seen-is : lookOf (seen P (here-is .g) (bytesOf (joinAll (here-is .gs)))) ≡ l
+    seen-is =
+        let w = here-is in
+        let run : ℕ = runAt t at in
+        let n : end - at ≡ extent (w .g) = omega (arith, w .ends) in
+        let b : bytesOf (joinAll (w .gs)) ≡ slice (at + extent (w .g)) run t =
+        cluster-behind P (drop at t) (w .g) (w .gs) (w .is) (run - (at + extent (w .g))) (omega (arith, size-is (runOf (decode (drop at t)))))
+        ∙ ap (take (run - (at + extent (w .g)))) (drop-drop (extent (w .g)) at t) ∙ part-slice t (at + extent (w .g)) run in
+        let k : lookOf (seen P (w .g) (bytesOf (joinAll (w .gs)))) ≡ lookBytes (extent (w .g)) (getD t at 0) (getD t (at + 1) 0) (parse (bytesOf (joinAll (w .gs)))) =
+        rw (← byte-here P t at, ← byte-next P t at) (look-bytes P (drop at t) (w .g) (w .gs) (w .is) (bytesOf (joinAll (w .gs))) (w .special)) in
+        k ∙ cases (eqb (extent (w .g)) 1)
+        (λ e. ap (λ (x : List ℕ). lookBytes (extent (w .g)) (getD t at 0) (getD t (at + 1) 0) (parse x)) (b ∙ ap (λ (i : ℕ). slice (at + i) run t) (eqb-true (extent (w .g)) 1 e)) ∙ rw (← n) (sym q))
+        (λ e. look-any (extent (w .g)) (getD t at 0) (getD t (at + 1) 0) (parse (bytesOf (joinAll (w .gs)))) (parse (slice (at + 1) run t)) e ∙ rw (← n) (sym q))
 
-    pub special-look : Looked t at end run
-    special-look = record { ordered = omega arith; within = z .within }
+    special-step : (next run : ℕ) (r : Record) → Skip P t end (at + l .len) next → r ≡ aRecord (l .kind) at (l .len) 0 → Fresh t (record { at = next; run = run })
+        → SpecialStep P t at (record { span = r; place = record { at = next; run = run } })
+    unfolding recordsFrom records recordOf
+    special-step next run r s e u m =
+        let w = here-is in
+        let b : List ℕ = bytesOf (joinAll (w .gs)) in
+        let y = special-is (seen P (w .g) b) l (plain-same P (w .g) b ∙ w .special) seen-is (seen-noText P (w .g) b) in
+        let n : ℕ = extent (w .g) + skipped P (l .len - extent (w .g)) (w .gs) in
+        let k : next ≡ at + n = s .same ∙ behind-skipped P t at (w .g) (w .gs) (w .is) end (l .len) (w .ends) in
+        let d : drop n (drop at t) ≡ drop next t = drop-drop n at t ∙ ap (λ (i : ℕ). drop i t) (sym k) in
+        record {
+          same = ap (map recordOf) (step-special P (matchIn m) at (drop at t) (w .g) (w .gs) (y .content) (l .len) (w .is) (y .is))
+              ∙ ap₂ (λ (x : Record) (a : List Span). x ∷ map recordOf a) (rw (e, y .kind, y .unmatched) refl) (ap₂ (λ (i : ℕ) (a : List ℕ). spansAt P (matchIn m) i a) (sym k) d);
+          fresh = u;
+          up = omega (arith, k, w .ends);
+          low = omega (arith, s .run, w .run, run-room .1);
+        }
 
-    end-run : runAt t end ≡ run
-    end-run = let w = special-here in rw end-is (omega (arith, z .ends, behind-size P t at (w .g) (w .gs) (w .is)))
+-- ---- `escape_span`
 
-    module _ (l : Look) (q : l ≡ lookBytes (end - at) (getD t at 0) (getD t (at + 1) 0) (parse (slice (at + 1) run t))) where
-      special-fits : l .len ≤ run - at
-      special-fits =
-          let w = special-here in
-          let n : end - at ≡ extent (w .g) = omega (arith, end-is) in
-          rw q (look-fits (end - at) (getD t at 0) (getD t (at + 1) 0) (slice (at + 1) run t) (run - at) (omega (arith, z .within .first)) (omega (arith, n, w .size)) (omega (arith, behind-length, z .within .first)))
+module _ (t : List ℕ) (c : Place) (z : Escaping t c) where
+  escape-alone : alone (getD t (c .at) 0) ≡ true
+  escape-alone = rw (z .escape)
 
-      pub special-room : at + l .len ≤ length t
-      special-room = omega (arith, special-fits, z .within .first, z .within .last)
+  escape-size : (p : code.Profile) → plainSize (profileOf p) (clustersAt (profileOf p) (drop (c .at) t)) ≡ 0
+  escape-size p = control-size p t (c .at) (z .ready .here) escape-alone
 
-      pub special-ahead : Ahead t end (at + l .len)
-      special-ahead = omega (arith, end-run, special-fits, z .within .first)
+  escape-end : (p : code.Profile) → c .at + 1 ≡ c .at + firstSize (profileOf p) (runOf (decode (drop (c .at) t)))
+  escape-end p = control-end p t (c .at) (z .ready .here) escape-alone
 
-      -- what stands at an ESC is what stands behind it in the run
-      seen-is : lookOf (seen P (special-here .g) (bytesOf (joinAll (special-here .gs)))) ≡ l
-      seen-is =
-          let w = special-here in
-          let n : end - at ≡ extent (w .g) = omega (arith, end-is) in
-          let b : bytesOf (joinAll (w .gs)) ≡ slice (at + extent (w .g)) run t =
-          cluster-behind P (drop at t) (w .g) (w .gs) (w .is) (run - (at + extent (w .g))) (omega (arith, z .ends, size-is (runOf (decode (drop at t)))))
-          ∙ ap (take (run - (at + extent (w .g)))) (drop-drop (extent (w .g)) at t) ∙ part-slice t (at + extent (w .g)) run in
-          let k : lookOf (seen P (w .g) (bytesOf (joinAll (w .gs)))) ≡ lookBytes (extent (w .g)) (getD t at 0) (getD t (at + 1) 0) (parse (bytesOf (joinAll (w .gs)))) =
-          rw (← byte-here P t at, ← byte-next P t at) (look-bytes P (drop at t) (w .g) (w .gs) (w .is) (bytesOf (joinAll (w .gs))) (w .special)) in
-          k ∙ cases (eqb (extent (w .g)) 1)
-          (λ e. ap (λ (x : List ℕ). lookBytes (extent (w .g)) (getD t at 0) (getD t (at + 1) 0) (parse x)) (b ∙ ap (λ (i : ℕ). slice (at + i) run t) (eqb-true (extent (w .g)) 1 e)) ∙ rw (← n) (sym q))
-          (λ e. look-any (extent (w .g)) (getD t at 0) (getD t (at + 1) 0) (parse (bytesOf (joinAll (w .gs)))) (parse (slice (at + 1) run t)) e ∙ rw (← n) (sym q))
+  escape-room : (runAt t (c .at + 1) ≡ runAt t (c .at)) × ((c .at + 1 ≤ runAt t (c .at)) × (runAt t (c .at) ≤ length t))
+  escape-room =
+      let p : code.Profile = record { version = 0 } in
+      (here-is (profileOf p) t (c .at) (c .at + 1) (escape-size p) (escape-end p) (omega arith) .run, run-room (profileOf p) t (c .at) (c .at + 1) (escape-size p) (escape-end p) (omega arith))
 
-      pub special-step : (next : ℕ) (r : Record) → Skip P t end (at + l .len) next → r ≡ aRecord (l .kind) at (l .len) 0
-          → SpecialStep P t at run (record { span = r; place = record { at = next; run = run } })
-      unfolding recordsFrom records recordOf
-      special-step next r s e m =
-          let w = special-here in
-          let b : List ℕ = bytesOf (joinAll (w .gs)) in
-          let y = special-is (seen P (w .g) b) l (plain-same P (w .g) b ∙ w .special) seen-is (seen-noText P (w .g) b) in
-          let n : ℕ = extent (w .g) + skipped P (l .len - extent (w .g)) (w .gs) in
-          let u : at + l .len - (at + extent (w .g)) ≡ l .len - extent (w .g) = omega arith in
-          let k : next ≡ at + n = s .same ∙ rw (end-is, u, behind-clusters P t at (w .g) (w .gs) (w .is)) (omega arith) in
-          let d : drop n (drop at t) ≡ drop next t = drop-drop n at t ∙ ap (λ (i : ℕ). drop i t) (sym k) in
-          record {
-            same = ap (map recordOf) (step-special P (matchIn m) at (drop at t) (w .g) (w .gs) (y .content) (l .len) (w .is) (y .is))
-                ∙ ap₂ (λ (x : Record) (a : List Span). x ∷ map recordOf a) (rw (e, y .kind, y .unmatched) refl) (ap₂ (λ (i : ℕ) (a : List ℕ). spansAt P (matchIn m) i a) (sym k) d);
-            fresh = λ h. sym (s .run ∙ end-run);
-            up = omega (arith, k, w .some);
-            low = omega (arith, s .run, end-run, z .within .last);
-          }
+  module _ (run : ℕ) (f : run ≡ runAt t (c .at)) where
+    pub escape-within : Within t (c .at) run
+    escape-within = let r = escape-room in record { first = omega (arith, r .1 .0); last = omega (arith, r .1 .1); small = z .ready .small }
+
+    module _ (o : sequence.Sequence) (g : o ≡ told (parse (slice (c .at + 1) run t))) (l : Look) (e : l ≡ escapeLook o) where
+      escape-looks : l ≡ lookBytes (c .at + 1 - c .at) (getD t (c .at) 0) (getD t (c .at + 1) 0) (parse (slice (c .at + 1) (runAt t (c .at)) t))
+      unfolding lookBytes
+      escape-looks = let n : c .at + 1 - c .at ≡ 1 = omega arith in rw (n, z .escape, ← f) (e ∙ ap escapeLook g)
+
+      escape-length : l .len ≤ run - c .at
+      escape-length =
+          let w = escape-within in
+          rw (e, g) (escape-fits (parse (slice (c .at + 1) run t)) (run - c .at) (omega (arith, w .first))
+          (λ q i u. omega (arith, parse-length (slice (c .at + 1) run t) q i u, length-slice (c .at + 1) run t (w .last), w .first)))
+
+      pub escape-fit : c .at + l .len ≤ length t
+      escape-fit = omega (arith, escape-length, escape-within .first, escape-within .last)
+
+      pub escape-ahead : Ahead t (c .at + 1) (c .at + l .len)
+      escape-ahead = omega (arith, escape-room .0, escape-length, escape-within .first)
+
+      pub escape-step : (p : code.Profile) (next : ℕ) (r : Record) → Skip (profileOf p) t (c .at + 1) (c .at + l .len) next → r ≡ aRecord (l .kind) (c .at) (l .len) 0
+          → SpecialStep (profileOf p) t (c .at) (record { span = r; place = record { at = next; run = run } })
+      escape-step p next r s q =
+          special-step (profileOf p) t (c .at) (c .at + 1) (escape-size p) (escape-end p) (omega arith) l escape-looks next run r s q (λ h. f ∙ sym (s .run ∙ escape-room .0))
+
+-- ---- `mark_span`
+
+-- the run's end that is known at a place is that of a place behind it in the run
+fresh-on : (t : List ℕ) (c : Place) (next : ℕ) → Ready t c → c .at ≤ next → runAt t next ≡ runAt t (c .at) → Fresh t (record { at = next; run = c .run })
+fresh-on t c next z h e k = z .fresh (omega arith) ∙ sym e
+
+look-other : (n a b : ℕ) (f : Found) → a ≢ 0x1B → lookBytes n a b missing ≡ lookBytes n a b f
+unfolding lookBytes
+look-other n a b f h = rw (ne-eqb a 0x1B h)
+
+look-whole : (n a b : ℕ) → 1 ≤ n → lookBytes n a b missing .len ≤ n
+unfolding parse
+look-whole n a b h = look-fits n a b [] n h (omega arith) (omega arith)
+
+module _ (P : Profile) (t : List ℕ) (c : Place) (end : ℕ) (z : Mark P t c end) where
+  pub mark-part : Part t (c .at) end
+  mark-part = record { here = z .ready .here; ordered = omega (arith, z .some); inside = let r = run-room P t (c .at) end (z .special) (z .ends) (z .some) in omega (arith, r .0, r .1) }
+
+  pub mark-step : (l : Look) (r : Record) → l ≡ lookBytes (end - c .at) (getD t (c .at) 0) (getD t (c .at + 1) 0) missing → r ≡ aRecord (l .kind) (c .at) (l .len) 0
+      → SpecialStep P t (c .at) (record { span = r; place = record { at = end; run = c .run } })
+  mark-step l r e q =
+      let n : c .at + l .len - end ≡ 0 = rw e (omega (arith, look-whole (end - c .at) (getD t (c .at) 0) (getD t (c .at + 1) 0) (omega (arith, z .some)))) in
+      let s : Skip P t end (c .at + l .len) end = record { same = rw (skip-none P (c .at + l .len - end) (clustersAt P (drop end t)) n) (omega arith); run = refl } in
+      special-step P t (c .at) end (z .special) (z .ends) (z .some) l
+      (e ∙ look-other (end - c .at) (getD t (c .at) 0) (getD t (c .at + 1) 0) (parse (slice (c .at + 1) (runAt t (c .at)) t)) (z .other))
+      end (c .run) r s q (fresh-on t c end (z .ready) (omega (arith, z .some)) (here-is P t (c .at) end (z .special) (z .ends) (z .some) .run))
+
+-- ---- `control_span`
+
+module _ (p : code.Profile) (t : List ℕ) (c : Place) (z : ControlReady t c) (a : ℕ) (e : a ≡ getD t (c .at) 0) where
+  pub control-escape : a ≡ 0x1B → Escaping t c
+  control-escape h = record { ready = z .ready; escape = sym e ∙ h }
+
+  pub control-mark : (a ≡ 0x1B → ⊥) → Mark (profileOf p) t c (c .at + 1)
+  control-mark h =
+      record {
+        ready = z .ready;
+        special = control-size p t (c .at) (z .ready .here) (z .control);
+        ends = control-end p t (c .at) (z .ready .here) (z .control);
+        some = omega arith;
+        other = λ q. h (e ∙ q);
+      }
 
 -- ---- `next_span`
-
-no-size : (P : Profile) (t : List ℕ) (at : ℕ) → size (runOf (decode (drop at t))) ≡ 0 → runOf (decode (drop at t)) ≡ []
-no-size P t at h =
-    by-first (clustersAt P (drop at t))
-    (λ e. run-none P (drop at t) e)
-    (λ g gs e. absurd (omega (arith, behind-size P t at g gs e, cluster-some P (drop at t) g gs e)))
 
 -- behind the plain clusters in front the run's end stays where it is
 text-run : (P : Profile) (gs : List (List Scalar)) → (t : List ℕ) (at : ℕ) → clustersAt P (drop at t) ≡ gs → runAt t (at + plainSize P gs) ≡ runAt t at
@@ -430,26 +520,53 @@ text-record : (m : Matched) (at n : ℕ) (s : List Scalar) → recordOf (span at
 unfolding recordOf kindOf matchOf matchIn textRecord
 text-record m at n s = cases (m .inside) (λ b. rw b) (λ b. rw b)
 
-module _ (P : Profile) (t : List ℕ) (c : Place) (z : Ready t c) (run : ℕ) (f : run ≡ runAt t (c .at)) where
-  pub invalid-step : (m : Matched) (r : Record) → run ≡ c .at → r ≡ aRecord 4 (c .at) 1 0 → Stepped P t m (c .at) (record { span = r; place = record { at = c .at + 1; run = run } })
-  unfolding recordsFrom records recordOf kindOf matchOf
-  invalid-step m r h e =
-      let at : ℕ = c .at in
-      let n : runOf (decode (drop at t)) ≡ [] = no-size P t at (omega arith) in
-      let d : drop at t ≡ getD t at 0 ∷ drop (suc at) t = drop-cons t at 0 (z .here) in
-      record {
-        same = ap (λ (l : List ℕ). map recordOf (spansAt P (matchIn m) at l)) d ∙ ap (map recordOf) (step-invalid P (matchIn m) at (getD t at 0) (drop (suc at) t) (rw d at n))
-            ∙ ap₂ (λ (x : Record) (i : ℕ). x ∷ map recordOf (spansAt P (matchIn m) i (drop i t))) (sym e) (sym (add-one at));
-        fresh = λ k. absurd (omega arith);
-        up = omega arith;
-        low = omega (arith, z .here);
-      }
+pub invalid-is : (c : Place) (r : Record) → r ≡ aRecord 4 (c .at) 1 0 → record { span = r; place = record { at = c .at + 1; run = c .run } } ≡ invalidAt c
+invalid-is c r e = rw e
+
+pub control-ready : (t : List ℕ) (c : Place) (a : ℕ) (x : Bool) → Ready t c → a ≡ getD t (c .at) 0 → x ≡ alone a → x ≡ true → ControlReady t c
+control-ready t c a x z e f q = record { ready = z; control = rw e at (sym f ∙ q) }
+
+module _ (P : Profile) (t : List ℕ) (c : Place) (z : Ready t c) where
+  pub here-fits : c .at < 65536
+  here-fits = omega (arith, z .here, z .small)
+
+  module _ (u : Sequence) (f : u ≡ firstSequence (decode (drop (c .at) t))) where
+    pub invalid-step : (m : Matched) (r : NextSpan) → u .len ≡ 0 → r ≡ invalidAt c → Stepped P t m (c .at) r
+    unfolding recordsFrom records recordOf kindOf matchOf size
+    invalid-step m r h e =
+        let at : ℕ = c .at in
+        let n : runOf (decode (drop at t)) ≡ [] = none-at t at u (z .here) f h in
+        let d : drop at t ≡ getD t at 0 ∷ drop (suc at) t = drop-cons t at 0 (z .here) in
+        let v : c .at < c .run → c .run ≡ c .at = λ k. z .fresh k ∙ rw n (add-zero at) in
+        rw e (record {
+          same = ap (λ (l : List ℕ). map recordOf (spansAt P (matchIn m) at l)) d ∙ ap (map recordOf) (step-invalid P (matchIn m) at (getD t at 0) (drop (suc at) t) (rw d at n))
+              ∙ ap (λ (i : ℕ). aRecord 4 at 1 0 ∷ map recordOf (spansAt P (matchIn m) i (drop i t))) (sym (add-one at));
+          fresh = λ k. absurd (omega (arith, v (omega arith)));
+          up = omega arith;
+          low = omega (arith, z .here);
+        })
+
+    pub mark-ready : (x : Bool) (a end e : ℕ) → a ≡ getD t (c .at) 0 → x ≡ alone a → x ≡ false → (u .len ≡ 0 → ⊥) → end ≡ c .at + plainSize P (clustersAt P (drop (c .at) t)) → end ≤ c .at
+        → e ≡ c .at + firstSize P (runOf (decode (drop (c .at) t))) → Mark P t c e
+    unfolding size
+    mark-ready x a end e b q w n g h k =
+        let v = scalar-at t (c .at) u (z .here) f n in
+        let i : c .at < runAt t (c .at) = rw (v .run) (omega (arith, v .len, v .some)) in
+        record {
+          ready = z;
+          special = omega arith;
+          ends = k;
+          some = by-first (clustersAt P (drop (c .at) t))
+              (λ y. absurd (omega (arith, size-none P (drop (c .at) t) y)))
+              (λ y ys r. omega (arith, first-size P (runOf (decode (drop (c .at) t))) y ys r, cluster-some P (drop (c .at) t) y ys r));
+          other = λ y. let j : a ≡ 0x1B = b ∙ y in let o : true ≡ false = rw j at (sym q ∙ w) in absurd (true≢false o);
+        }
 
   module _ (end : ℕ) (g : end ≡ c .at + plainSize P (clustersAt P (drop (c .at) t))) where
     pub text-order : c .at < end → c .at ≤ end
     text-order h = omega arith
 
-    pub text-step : (m : Matched) (r : Record) → c .at < end → r ≡ textRecord m (c .at) (end - c .at) → Stepped P t m (c .at) (record { span = r; place = record { at = end; run = run } })
+    pub text-step : (m : Matched) (r : Record) → c .at < end → r ≡ textRecord m (c .at) (end - c .at) → Stepped P t m (c .at) (record { span = r; place = record { at = end; run = c .run } })
     unfolding recordsFrom records plainSize
     text-step m r h e =
         let at : ℕ = c .at in
@@ -464,18 +581,10 @@ module _ (P : Profile) (t : List ℕ) (c : Place) (z : Ready t c) (run : ℕ) (f
         record {
           same = ap (map recordOf) (step-text P (matchIn m) at (drop at t) x xs q b)
               ∙ ap₂ (λ (y : Record) (a : List Span). y ∷ map recordOf a) (text-record m at (plainSize P gs) (plainText P gs) ∙ rw (← k) (sym e)) (ap₂ (λ (i : ℕ) (a : List ℕ). spansAt P (matchIn m) i a) (sym g) d);
-          fresh = λ y. f ∙ sym w;
+          fresh = fresh-on t c end z (omega arith) w;
           up = h;
           low = omega (arith, w, run-inside t at, z .here);
         })
 
-    pub special-ready : (run ≡ c .at → ⊥) → end ≤ c .at → Special P t (c .at) run
-    special-ready h k =
-        record {
-          within = record { first = omega arith; last = omega (arith, run-inside t (c .at), z .here); small = z .small };
-          ends = f;
-          special = omega arith;
-        }
-
-  pub special-done : (m : Matched) (r : NextSpan) → SpecialStep P t (c .at) run r → Stepped P t m (c .at) r
+  pub special-done : (m : Matched) (r : NextSpan) → SpecialStep P t (c .at) r → Stepped P t m (c .at) r
   special-done m r h = h m

@@ -1,6 +1,7 @@
 -- What the contracts of the code say beyond the definitions.
 use mathlib.Core.Path.{_≡_}
 use Prim.Native.Nat.{ℕ, zero, suc, _+_, _-_, _*_, _/_, _%_, _≤_, _<_}
+use mathlib.Core.Logic.{_≢_}
 use mathlib.Core.Bool.{Bool, true, false, not, cond, _&&_, _||_}
 use mathlib.Core.Option.{Option, none, some}
 use mathlib.Core.List.{List, [], _∷_, _++_}
@@ -9,7 +10,7 @@ use lib.Dec.{eqb, leb, ltb}
 use Rattle.text.specs.Utf8.{Scalar, decode, runOf, bytesOf}
 use Rattle.text.specs.Class.{Profile}
 use Rattle.text.specs.Cluster.{clusters}
-use Rattle.text.specs.Code.{size}
+use Rattle.text.specs.Code.{size, firstSize}
 use Rattle.text.specs.Width.{profile01}
 use Rattle.text.specs.Overstrike.{convert}
 use Rattle.text.specs.Calls.{decide, counted, question1, question2}
@@ -162,6 +163,10 @@ pub record Within (s : List ℕ) (at end : ℕ) : Type 0 where
 abbrev pub printable : ℕ → Bool
 printable b = leb 0x20 b && leb b 0x7E
 
+-- a control below 20, CR apart
+abbrev pub alone : ℕ → Bool
+alone b = leb b 0x1F && not (eqb b 0x0D)
+
 -- a cluster of n bytes, the first of them a and b, that is w columns wide is a part of a text
 unfoldable pub plainBytes : ℕ → ℕ → ℕ → ℕ → Bool
 plainBytes n a b w = cond (eqb n 1 && (leb a 0x1F || eqb a 0x7F)) false (cond (eqb n 2 && (eqb a 0x0D && eqb b 0x0A)) false (not (eqb w 0)))
@@ -199,11 +204,6 @@ pub record Part (t : List ℕ) (at end : ℕ) : Type 0 where
   pub here : at < length t
   pub ordered : at ≤ end
   pub inside : end ≤ length t
-
--- the cluster from `at` to `end` lies in a run that ends at `run`
-pub record Looked (t : List ℕ) (at end run : ℕ) : Type 0 where
-  pub ordered : at ≤ end
-  pub within : Within t at run
 
 -- the end of the run at a place
 abbrev pub runAt : List ℕ → ℕ → ℕ
@@ -247,14 +247,27 @@ pub record Stepped (P : Profile) (t : List ℕ) (m : Matched) (at : ℕ) (r : Ne
   pub up : at < r .place .at
   pub low : r .place .at ≤ length t
 
--- a cluster that is no part of a text stands at the place, in a run that ends at `run`
-pub record Special (P : Profile) (t : List ℕ) (at run : ℕ) : Type 0 where
-  pub within : Within t at run
-  pub ends : run ≡ runAt t at
-  pub special : plainSize P (clustersAt P (drop at t)) ≡ 0
+abbrev pub invalidAt : Place → NextSpan
+invalidAt c = record { span = aRecord 4 (c .at) 1 0; place = record { at = c .at + 1; run = c .run } }
 
-abbrev pub SpecialStep : Profile → List ℕ → ℕ → ℕ → NextSpan → Type 0
-SpecialStep P t at run r = (m : Matched) → Stepped P t m at r
+pub record ControlReady (t : List ℕ) (c : Place) : Type 0 where
+  pub ready : Ready t c
+  pub control : alone (getD t (c .at) 0) ≡ true
+
+pub record Escaping (t : List ℕ) (c : Place) : Type 0 where
+  pub ready : Ready t c
+  pub escape : getD t (c .at) 0 ≡ 0x1B
+
+-- the cluster from the place to `end` is no part of a text, and no ESC
+pub record Mark (P : Profile) (t : List ℕ) (c : Place) (end : ℕ) : Type 0 where
+  pub ready : Ready t c
+  pub special : plainSize P (clustersAt P (drop (c .at) t)) ≡ 0
+  pub ends : end ≡ c .at + firstSize P (runOf (decode (drop (c .at) t)))
+  pub some : c .at < end
+  pub other : getD t (c .at) 0 ≢ 0x1B
+
+abbrev pub SpecialStep : Profile → List ℕ → ℕ → NextSpan → Type 0
+SpecialStep P t at r = (m : Matched) → Stepped P t m at r
 
 -- ---- matches
 

@@ -6,6 +6,7 @@ use super::sequence::sequence_at;
 use text::BytePlace;
 use text::class::Profile;
 use text::cluster::first_end;
+use text::utf8::decode;
 use text::utf8::run_end;
 use text::width::text_width;
 ghost use mathlib.Core.Path.{_≡_};
@@ -15,10 +16,10 @@ ghost use lib.Seq.{slice};
 ghost use Rattle.text.specs.Utf8.{decode, runOf};
 ghost use Rattle.text.specs.Width.{widthOf};
 ghost use Rattle.text.specs.Code.{profileOf};
-ghost use Rattle.spans.specs.Sequence.{parse};
+ghost use Rattle.spans.specs.Sequence.{missing};
 ghost use Rattle.spans.specs.Spans.{aRecord};
 ghost use Rattle.spans.specs.Spans.Steps.{plainSize};
-ghost use Rattle.spans.specs.Contracts.{printable, plainBytes, clustersAt, plainFirst, escapeLook, lookBytes, Part, Looked, Ahead, Skip, runAt, textRecord, Special, SpecialStep, Ready, Stepped};
+ghost use Rattle.spans.specs.Contracts.{printable, alone, plainBytes, clustersAt, plainFirst, escapeLook, lookBytes, Part, Ahead, Skip, runAt, textRecord, invalidAt, Escaping, Mark, ControlReady, SpecialStep, Ready, Stepped};
 
 // What a cluster that is no part of a text is: a kind of span, and its length.
 pub struct Look {
@@ -50,6 +51,13 @@ fn is_printable(b: u8) -> bool
     (0x20 <= b) & (b <= 0x7E)
 }
 
+// Is the byte a control, CR apart? No rule joins what stands behind it.
+fn is_alone(b: u8) -> bool
+    ensures { λ r. ⌜ r ≡ alone b ⌝ }
+{
+    (b <= 0x1F) & (b != 0x0D)
+}
+
 // Is the cluster from `at` to `end` a part of a text?
 fn is_plain(profile: Profile, t: &[u8], at: usize, end: usize) -> bool
     requires { ⌜ Part (now t) at end ⌝ }
@@ -74,6 +82,9 @@ fn plain_end(profile: Profile, t: &[u8], at: usize) -> usize
 {
     let a = byte_at(t, at);
     let b = byte_at(t, at + 1);
+    if is_alone(a) {
+        return at;
+    }
     if is_printable(a) {
         if is_printable(b) {
             return at + 1;
@@ -116,17 +127,14 @@ fn escape_look(q: Sequence) -> Look
     }
 }
 
-// What the cluster from `at` to `end` is that is no part of a text, in a run that ends at `run`.
-fn look_at(t: &[u8], at: usize, end: usize, run: usize) -> Look
-    requires { ⌜ Looked (now t) at end run ⌝ }
-    ensures { λ r. ⌜ r ≡ lookBytes (end - at) (getD (now (t .entry)) at 0) (getD (now (t .entry)) (at + 1) 0) (parse (slice (at + 1) run (now (t .entry)))) ⌝ }
+// What the cluster from `at` to `end` is that is no part of a text, where no sequence begins.
+fn look_at(t: &[u8], at: usize, end: usize) -> Look
+    requires { ⌜ Part (now t) at end ⌝ }
+    ensures { λ r. ⌜ r ≡ lookBytes (end - at) (getD (now (t .entry)) at 0) (getD (now (t .entry)) (at + 1) 0) missing ⌝ }
 {
     let n = end - at;
     let a = byte_at(t, at);
     if n == 1 {
-        if a == 0x1B {
-            return escape_look(sequence_at(t, at, run));
-        }
         if a == 0x0A {
             return Look { kind: 12, len: 1 };
         }
@@ -190,18 +198,64 @@ fn text_span(at: usize, end: usize, m: Matched) -> Span
     span_of(1, at, end - at, 0)
 }
 
-// The span of the cluster at a place that is no part of a text, in a run that ends at `run`, and the place behind what is dropped.
-fn special_span(profile: Profile, t: &[u8], at: usize, run: usize) -> NextSpan
-    requires { ⌜ Special (profileOf profile) (now t) at run ⌝ }
-    ensures { λ r. ⌜ SpecialStep (profileOf profile) (now (t .entry)) at run r ⌝ }
+// The span of an ESC, and the place behind what is dropped. The end of the run is looked for here alone, and kept for the next ESC.
+fn escape_span(profile: Profile, t: &[u8], c: Place) -> NextSpan
+    requires { ⌜ Escaping (now t) c ⌝ }
+    ensures { λ r. ⌜ SpecialStep (profileOf profile) (now (t .entry)) (c .at) r ⌝ }
 {
-    let end = first_end(profile, t, at);
-    let l = look_at(t, at, end, run);
-    let next = skip_to(profile, t, end, at + l.len);
+    let at = c.at;
+    let run = run_at(t, c);
+    let l = escape_look(sequence_at(t, at, run));
+    let next = skip_to(profile, t, at + 1, at + l.len);
     let span = span_of(l.kind, at, l.len, 0);
     NextSpan {
         span: span,
         place: Place { at: next, run: run },
+    }
+}
+
+// The span of the cluster from a place to `end` that is no part of a text, and no ESC.
+fn mark_span(profile: Profile, t: &[u8], c: Place, end: usize) -> NextSpan
+    requires { ⌜ Mark (profileOf profile) (now t) c end ⌝ }
+    ensures { λ r. ⌜ SpecialStep (profileOf profile) (now (t .entry)) (c .at) r ⌝ }
+{
+    let at = c.at;
+    let l = look_at(t, at, end);
+    let span = span_of(l.kind, at, l.len, 0);
+    NextSpan {
+        span: span,
+        place: Place {
+            at: end,
+            run: c.run,
+        },
+    }
+}
+
+// The span of a control byte that is a cluster by itself.
+fn control_span(profile: Profile, t: &[u8], c: Place) -> NextSpan
+    requires { ⌜ ControlReady (now t) c ⌝ }
+    ensures { λ r. ⌜ SpecialStep (profileOf profile) (now (t .entry)) (c .at) r ⌝ }
+{
+    let at = c.at;
+    if byte_at(t, at) == 0x1B {
+        return escape_span(profile, t, c);
+    }
+    mark_span(profile, t, c, at + 1)
+}
+
+// The span of a damaged byte.
+fn invalid_span(c: Place) -> NextSpan
+    requires { ⌜ c .at < 65536 ⌝ }
+    ensures { λ r. ⌜ r ≡ invalidAt c ⌝ }
+{
+    let at = c.at;
+    let span = span_of(4, at, 1, 0);
+    NextSpan {
+        span: span,
+        place: Place {
+            at: at + 1,
+            run: c.run,
+        },
     }
 }
 
@@ -211,24 +265,23 @@ pub fn next_span(profile: Profile, t: &[u8], c: Place, m: Matched) -> NextSpan
     ensures { λ r. ⌜ Stepped (profileOf profile) (now (t .entry)) m (c .at) r ⌝ }
 {
     let at = c.at;
-    let run = run_at(t, c);
-    if run == at {
-        let span = span_of(4, at, 1, 0);
-        return NextSpan {
-            span: span,
-            place: Place {
-                at: at + 1,
-                run: run,
-            },
-        };
+    if is_alone(byte_at(t, at)) {
+        return control_span(profile, t, c);
+    }
+    let u = decode(t, at);
+    if u.len == 0 {
+        return invalid_span(c);
     }
     let end = text_end(profile, t, at);
     if at < end {
         let span = text_span(at, end, m);
         return NextSpan {
             span: span,
-            place: Place { at: end, run: run },
+            place: Place {
+                at: end,
+                run: c.run,
+            },
         };
     }
-    special_span(profile, t, at, run)
+    mark_span(profile, t, c, first_end(profile, t, at))
 }

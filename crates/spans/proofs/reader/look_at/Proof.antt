@@ -1,4 +1,4 @@
-use Rattle.spans.proofs.ReaderLaws.{looksOf, look-is, look-one, look-escape}
+use Rattle.spans.proofs.ReaderLaws.{looksOf, look-is, look-one}
 use Rattle.spans.proofs.Branch.{branch}
 use borrow.Author.Needs.{needs}
 use Rattle.spans.proofs.reader.look_at.Statement.{statement}
@@ -10,15 +10,9 @@ sub-n c = search needs
 byte-at-requires : tie.Need-byte-at-requires
 byte-at-requires c κs = search needs
 
-sequence-at-requires : tie.Need-sequence-at-requires
-sequence-at-requires c κs = search needs
-
-escape-look-requires : tie.Need-escape-look-requires
-escape-look-requires c κs = search needs
-
 returns : tie.Need-returns
 unfolding looksOf
-returns c = search (look-one, look-escape, branch) depth 12 fits 20000
+returns c = search (look-one, branch) depth 12 fits 20000
 
 returns-2 : tie.Need-returns-2
 unfolding looksOf
@@ -34,7 +28,7 @@ returns-4 c = search (look-one, branch) depth 12 fits 20000
 
 returns-5 : tie.Need-returns-5
 unfolding looksOf
-returns-5 c = search (look-one, branch) depth 12 fits 20000
+returns-5 c = search (look-is, branch) depth 12 fits 20000
 
 add-byte-at : tie.Need-add-byte-at
 add-byte-at c = search needs
@@ -46,24 +40,17 @@ returns-6 : tie.Need-returns-6
 unfolding looksOf
 returns-6 c = search (look-is, branch) depth 12 fits 20000
 
-returns-7 : tie.Need-returns-7
-unfolding looksOf
-returns-7 c = search (look-is, branch) depth 12 fits 20000
-
 pub look-at-spec : {M : Type 1} → statement M
 look-at-spec =
     tie.close
     (tie.spec
     sub-n
     byte-at-requires
-    sequence-at-requires
-    escape-look-requires
     returns
     returns-2
     returns-3
     returns-4
-    returns-5
     add-byte-at
     byte-at-requires-2
-    returns-6
-    returns-7)
+    returns-5
+    returns-6)

@@ -1,19 +1,28 @@
-use Rattle.spans.proofs.ReaderLaws.{invalid-step, text-order, text-step, special-ready, special-done}
+use Rattle.spans.proofs.ReaderLaws.{control-ready, invalid-step, text-step, mark-ready, special-done}
 use borrow.Author.Needs.{needs}
 use Rattle.spans.proofs.reader.next_span.Statement.{statement}
 use Rattle.spans.proofs.reader.next_span.Tie as tie
 
-run-at-requires : tie.Need-run-at-requires
-run-at-requires c κs = search needs
+byte-at-requires : tie.Need-byte-at-requires
+byte-at-requires c κs = search needs
 
-span-of-requires : tie.Need-span-of-requires
-span-of-requires c κs = search needs
+is-alone-requires : tie.Need-is-alone-requires
+is-alone-requires c κs = search needs
 
-add-t11 : tie.Need-add-t11
-add-t11 c = search needs
+control-span-requires : tie.Need-control-span-requires
+control-span-requires c κs = search control-ready
 
 returns : tie.Need-returns
-returns c = search invalid-step
+returns c = search special-done
+
+decode-requires : tie.Need-decode-requires
+decode-requires c κs = search needs
+
+invalid-span-requires : tie.Need-invalid-span-requires
+invalid-span-requires c κs = search needs
+
+returns-2 : tie.Need-returns-2
+returns-2 c = search invalid-step
 
 text-end-requires : tie.Need-text-end-requires
 text-end-requires c κs = search needs
@@ -21,25 +30,32 @@ text-end-requires c κs = search needs
 text-span-requires : tie.Need-text-span-requires
 text-span-requires c κs = search needs
 
-returns-2 : tie.Need-returns-2
-returns-2 c = search text-step
-
-special-span-requires : tie.Need-special-span-requires
-special-span-requires c κs = search special-ready
-
 returns-3 : tie.Need-returns-3
-returns-3 c = search special-done
+returns-3 c = search text-step
+
+first-end-requires : tie.Need-first-end-requires
+first-end-requires c κs = search needs
+
+mark-span-requires : tie.Need-mark-span-requires
+mark-span-requires c κs = mark-ready _ _ _ (c .before .before .before .before .before .before .before .before .before .before .pre) _ (c .before .before .before .before .before .decode .ensures) _ _ _ _ (c .before .before .before .before .before .before .before .before .byte-at .ensures) (c .before .before .before .before .before .before .before .is-alone .ensures) (c .before .before .before .before .before .before .if1 .left) (c .before .before .before .if2 .left) (c .before .before .text-end .ensures) (c .before .if3 .left) (c .first-end .ensures)
+
+returns-4 : tie.Need-returns-4
+returns-4 c = search special-done
 
 pub next-span-spec : {M : Type 1} → statement M
 next-span-spec =
     tie.close
     (tie.spec
-    run-at-requires
-    span-of-requires
-    add-t11
+    byte-at-requires
+    is-alone-requires
+    control-span-requires
     returns
+    decode-requires
+    invalid-span-requires
+    returns-2
     text-end-requires
     text-span-requires
-    returns-2
-    special-span-requires
-    returns-3)
+    returns-3
+    first-end-requires
+    mark-span-requires
+    returns-4)
