@@ -8,3 +8,5 @@ pub mod ReaderLaws
 pub mod Searching
 pub mod StretchLaws
 pub mod CallLaws
+pub mod NumberLaws
+pub mod Local

@@ -22,6 +22,7 @@ ghost use Rattle.spans.specs.Calls.{noRecord, readCall};
 ghost use Rattle.spans.specs.Search.{searchedLength, inOrder};
 ghost use Rattle.spans.specs.Contracts.{refusedBy, Planned, Prepared, Ongoing, NextHolds, Fillable, Filled, Holds, numberOf, Finished, readAs};
 
+pub mod numbers;
 pub mod reader;
 pub mod search;
 pub mod sequence;
