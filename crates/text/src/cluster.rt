@@ -3,7 +3,6 @@ use super::class::Profile;
 use super::class::class;
 use super::utf8::byte_at;
 use super::utf8::decode;
-use super::utf8::is_ascii_pair;
 ghost use mathlib.Core.Path.{_≡_};
 ghost use Prim.Native.Nat.{_+_, _≤_, _<_};
 ghost use mathlib.Core.List.{reverse};
@@ -12,7 +11,7 @@ ghost use lib.Seq.{slice};
 ghost use Rattle.text.specs.Utf8.{decode};
 ghost use Rattle.text.specs.Class.{number};
 ghost use Rattle.text.specs.Cluster.{start, after, joined};
-ghost use Rattle.text.specs.Code.{profileOf, firstSequence, unitOf, markBytes, ideographBytes, singleAt, endsBefore, runOf, size, contextOf, seen, moreFrom, firstSize, back, whole, withoutLast, OddTo, JoinsAt, regionalAt, IndicatorsTo};
+ghost use Rattle.text.specs.Code.{profileOf, firstSequence, unitOf, markBytes, ideographBytes, singleAt, loneByte, beginsCluster, runOf, size, contextOf, seen, moreFrom, firstSize, back, whole, withoutLast, OddTo, JoinsAt, regionalAt, IndicatorsTo};
 
 // What the rules ask of the scalars before a place: the last one's class, and whether an odd number of regional indicators ends there.
 pub struct Seen {
@@ -124,11 +123,18 @@ fn is_single(s: &[u8], at: usize) -> bool
     ((a < 0x20) | ((a < 0x80) & (b < 0x80))) & (a != 0x0D)
 }
 
-// Does the next byte begin no scalar that joins one of this class? Those below 80 join CR alone, those of U+3000 to U+9FFF none.
-fn ends_before(class: u8, b: u32) -> bool
-    ensures { λ r. ⌜ r ≡ endsBefore class b ⌝ }
+// Is it a byte below 80, LF apart? No rule joins it to what stands before.
+fn is_lone(b: u32) -> bool
+    ensures { λ r. ⌜ r ≡ loneByte b ⌝ }
 {
-    ((b < 0x80) | ((0xE3 <= b) & (b <= 0xE9))) & (class != 0)
+    (b < 0x80) & (b != 0x0A)
+}
+
+// Is it such a byte, or the first of U+3000 to U+9FFF, which no rule joins to what stands before?
+fn begins_cluster(b: u32) -> bool
+    ensures { λ r. ⌜ r ≡ beginsCluster b ⌝ }
+{
+    ((b < 0x80) & (b != 0x0A)) | ((0xE3 <= b) & (b <= 0xE9))
 }
 
 // The end of the cluster that a scalar of class c begins, whose next scalar stands at `from`.
@@ -139,7 +145,7 @@ fn more_end(profile: Profile, s: &[u8], from: usize, c: u8) -> usize
     let mut p = from;
     let mut before = with_scalar(false, c);
     while p < s.len() {
-        if ends_before(before.class, byte_at(s, p)) {
+        if begins_cluster(byte_at(s, p)) {
             return p;
         }
         let u = unit_at(profile, s, p);
@@ -267,7 +273,7 @@ fn joins_at(profile: Profile, t: &[u8], q: usize) -> bool
     if q == 0 {
         return false;
     }
-    if is_ascii_pair(t, q - 1) {
+    if begins_cluster(byte_at(t, q)) {
         return false;
     }
     let p = class_at(profile, t, scalar_start(t, q));
@@ -292,6 +298,9 @@ pub fn last_start(profile: Profile, t: &[u8]) -> usize
 {
     if t.len() == 0 {
         return 0;
+    }
+    if is_lone(byte_at(t, t.len() - 1)) {
+        return t.len() - 1;
     }
     let mut q = scalar_start(t, t.len());
     while 0 < q {
