@@ -26,7 +26,7 @@ flip-not true true = refl
 flip-not true false = refl
 flip-not false b = refl
 
-flip-false : (a : Bool) → flip a false ≡ a
+pub flip-false : (a : Bool) → flip a false ≡ a
 unfolding flip
 flip-false true = refl
 flip-false false = refl
