@@ -11,7 +11,7 @@ use lib.Seq.{drop-cons}
 use borrow.Author.Tests.{eqb-false, eqb-true, le-leb, lt-leb, ne-eqb, not-true}
 use Rattle.text.specs.Class.{Profile, among, class01, control, controls, cr, extends, inAny, isControl, lf, number, other}
 use Rattle.text.specs.Cluster.{Context, joined}
-use Rattle.text.specs.Code.{asciiPair, back, firstSequence, isTail, plain, profileOf, quiets, regionalAt, sequenceOf}
+use Rattle.text.specs.Code.{back, firstSequence, isTail, loneByte, profileOf, quiets, regionalAt, sequenceOf}
 use Rattle.text.specs.Tests.{and-T, cases, is-false, is-true, or-T, true-T}
 use Rattle.text.specs.Utf8.{Range, decode, fits, lengthIn, sequence, table, to, value, within}
 use Rattle.text.specs.Width.{wides, width01}
@@ -53,34 +53,68 @@ after-each : T (eachFrom 0 128 after-class)
 unfolding eachFrom after-class among number class01
 after-each = tt
 
+-- these join nothing that stands before them
+abbrev pub alone : ℕ → Bool
+alone c = among c (cr ∷ control ∷ other ∷ [])
+
+pub alone-numbers : (p : ℕ) (k : Context) (c : ℕ) → alone c ≡ true → joined p k c ≡ false
+unfolding joined among number
+alone-numbers p k c g =
+    cases (eqb p 2 || (eqb p 0 || eqb p 1))
+    (λ e.
+    cases (eqb c 0) (λ d. rw (eqb-true c 0 d, and-false (eqb p 0), e) refl)
+    (λ d₀. cases (eqb c 2) (λ d. rw (eqb-true c 2 d, and-false (eqb p 0), e) refl)
+    (λ d₂. let y : c ≡ 11 = eqb-true c 11 (rw (d₀, d₂) at g) in rw (y, and-false (eqb p 0), e) refl)))
+    (λ e.
+    cases (eqb c 0) (λ d. rw (eqb-true c 0 d, and-false (eqb p 0), e) refl)
+    (λ d₀. cases (eqb c 2) (λ d. rw (eqb-true c 2 d, and-false (eqb p 0), e) refl)
+    (λ d₂. let y : c ≡ 11 = eqb-true c 11 (rw (d₀, d₂) at g) in
+    rw (y, and-false (eqb p 0), e, and-false (eqb p 5), and-false (eqb p 8 || eqb p 6), and-false (eqb p 9 || eqb p 7), and-false (k .odd)) refl)))
+
+pub other-alone : alone 11 ≡ true
+unfolding among number
+other-alone = refl
+
+-- and LF joins CR alone
 apart-numbers : (p : ℕ) (k : Context) (c : ℕ) → (p ≢ 0) → among c (cr ∷ lf ∷ control ∷ other ∷ []) ≡ true → joined p k c ≡ false
 unfolding joined among number
 apart-numbers p k c f g =
-    rw (ne-eqb p 0 f)
-    (cases (eqb p 2) (λ e. rw (eqb-true p 2 e) refl)
-    (λ e₂. cases (eqb p 1) (λ e. rw (eqb-true p 1 e) refl)
-    (λ e₁.
-    cases (eqb c 0) (λ e. rw (e₂, e₁, eqb-true c 0 e) refl)
-    (λ d₀. cases (eqb c 1) (λ e. rw (e₂, e₁, eqb-true c 1 e) refl)
-    (λ d₁. cases (eqb c 2) (λ e. rw (e₂, e₁, eqb-true c 2 e) refl)
-    (λ d₂. let y : c ≡ 11 = eqb-true c 11 (rw (d₀, d₁, d₂) at g) in
-    rw (e₂, e₁, y, and-false (eqb p 5), and-false (eqb p 8 || eqb p 6), and-false (eqb p 9 || eqb p 7), and-false (k .odd)) refl))))))
+    cases (eqb c 1)
+    (λ e. rw (eqb-true c 1 e, ne-eqb p 0 f) (cases (eqb p 2 || eqb p 1) (λ d. rw d refl) (λ d. rw d refl)))
+    (λ e. alone-numbers p k c (rw e at g))
 
-pub other-after : (p : ℕ) (k : Context) → (p ≢ 0) → joined p k 11 ≡ false
-unfolding among number
-other-after p k f = apart-numbers p k 11 f refl
+lone-class : ℕ → Bool
+lone-class x = eqb x 0x0A || alone (number (class01 x))
 
--- a scalar below 80 joins nothing before it that is not CR
-pub ascii-after : (p : ℕ) (k : Context) (a : ℕ) → (p ≢ 0) → a < 128 → joined p k (number (class01 a)) ≡ false
-unfolding after-class
-ascii-after p k a f h = apart-numbers p k (number (class01 a)) f (each-at 128 0 a after-class after-each (omega arith) (omega arith))
+lone-each : T (eachFrom 0 128 lone-class)
+unfolding eachFrom lone-class among number class01
+lone-each = tt
 
-pub ascii-apart : (b a : ℕ) (k : Context) → b < 128 → a < 128 → (b ≢ 13) → joined (number (class01 b)) k (number (class01 a)) ≡ false
-unfolding before-class
+lone-alone : (b : ℕ) → loneByte b ≡ true → alone (number (class01 b)) ≡ true
+unfolding lone-class
+lone-alone b e =
+    let q = and-T (ltb b 0x80) (not (eqb b 0x0A)) (true-T e) in
+    let h : b < 128 = ltb→lt _ _ (q .0) in
+    rw (not-true (eqb b 0x0A) (is-true _ (q .1))) at (each-at 128 0 b lone-class lone-each (omega arith) (omega arith))
+
+pub lone-low : (b : ℕ) → loneByte b ≡ true → b < 128
+lone-low b e = ltb→lt _ _ (and-T (ltb b 0x80) (not (eqb b 0x0A)) (true-T e) .0)
+
+pub lone : (p : code.Profile) (b : ℕ) → loneByte b ≡ true → alone (number (profileOf p .class b)) ≡ true
+unfolding profileOf
+lone p b e = lone-alone b e
+
+-- a damaged byte counts as U+0000
+pub damaged-alone : (p : code.Profile) → alone (number (profileOf p .class 0)) ≡ true
+unfolding profileOf
+damaged-alone p = lone-alone 0 refl
+
+ascii-apart : (b a : ℕ) (k : Context) → b < 128 → a < 128 → (b ≢ 13) → joined (number (class01 b)) k (number (class01 a)) ≡ false
+unfolding before-class after-class
 ascii-apart b a k h g n =
     let f : (eqb b 13 || not (eqb (number (class01 b)) 0)) ≡ true = each-at 128 0 b before-class before-each (omega arith) (omega arith) in
     let m : not (eqb (number (class01 b)) 0) ≡ true = rw (ne-eqb b 13 n) at f in
-    ascii-after (number (class01 b)) k a (eqb-false _ _ (not-true _ m)) g
+    apart-numbers (number (class01 b)) k (number (class01 a)) (eqb-false _ _ (not-true _ m)) (each-at 128 0 a after-class after-each (omega arith) (omega arith))
 
 -- behind a control below 20, CR apart, nothing joins
 break-class : ℕ → Bool
@@ -120,35 +154,14 @@ pub ascii-first : (s : List ℕ) (p a : ℕ) → p < length s → a ≡ getD s p
 ascii-first s p a h e l = ascii-sequence s p a h e (omega arith)
 
 -- of two bytes below 80, the first not CR, no rule of the profile joins the second to the first
-abbrev pub Apart : Profile → Type 0
-Apart P = (b a : ℕ) (k : Context) → b < 128 → a < 128 → (b ≢ 13) → joined (number (P .class b)) k (number (P .class a)) ≡ false
-
-pub apart : (p : code.Profile) → Apart (profileOf p)
+pub apart : (p : code.Profile) (b a : ℕ) (k : Context) → b < 128 → a < 128 → (b ≢ 13) → joined (number (profileOf p .class b)) k (number (profileOf p .class a)) ≡ false
 unfolding profileOf
 apart p b a k h g n = ascii-apart b a k h g n
 
--- no rule of the profile joins anything to a control below 20 that is not CR
-abbrev pub Breaks : Profile → Type 0
-Breaks P = (a : ℕ) (k : Context) (c : ℕ) → a < 0x20 → (a ≢ 13) → joined (number (P .class a)) k c ≡ false
-
-pub breaks : (p : code.Profile) → Breaks (profileOf p)
+-- nor anything to a control below 20 that is not CR
+pub breaks : (p : code.Profile) (a : ℕ) (k : Context) (c : ℕ) → a < 0x20 → (a ≢ 13) → joined (number (profileOf p .class a)) k c ≡ false
 unfolding profileOf
 breaks p a k c h n = control-breaks a k c h n
-
-pub record PairBytes (s : List ℕ) (i : ℕ) : Type 0 where
-  pub first : getD s i 0 < 128
-  pub plain : getD s i 0 ≢ 13
-  pub second : getD s (i + 1) 0 < 128
-
-pub pair-bytes : (s : List ℕ) (i : ℕ) → asciiPair s i ≡ true → PairBytes s i
-pair-bytes s i e =
-    let p = and-T (ltb (getD s i 0) 128) _ (true-T e) in
-    let q = and-T (not (eqb (getD s i 0) 13)) _ (p .1) in
-    record {
-      first = ltb→lt _ _ (p .0);
-      plain = eqb-false _ _ (not-true _ (is-true _ (q .0)));
-      second = ltb→lt _ _ (q .1);
-    }
 
 pub low-tail : (b : ℕ) → b < 128 → isTail b ≡ false
 low-tail b h = rw (lt-leb 0x80 b h) refl

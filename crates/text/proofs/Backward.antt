@@ -10,11 +10,12 @@ use lib.ListN.{drop, getD, length}
 use borrow.Author.Tests.{eqb-false, ne-eqb}
 use Rattle.text.specs.Class.{Profile, among, number}
 use Rattle.text.specs.Cluster.{Context, after, context, joined, joins}
-use Rattle.text.specs.Code.{JoinsAt, Left, OddTo, asciiPair, back, contextOf, firstSequence, flip, regionalAt, size, whole, withoutLast}
+use Rattle.text.specs.Code.{JoinsAt, Left, OddTo, back, beginsCluster, contextOf, firstSequence, flip, isTail, loneByte, profileOf, regionalAt, sequenceOf, size, whole, withoutLast}
 use Rattle.text.specs.Tests.{cases}
 use Rattle.text.specs.Utf8.{Scalar, decode, decodeFrom, runOf}
 use Rattle.text.specs.declared.utf8.Sequence.{Sequence}
-use Rattle.text.proofs.Ascii.{Apart, ascii-sequence, low-tail, pair-bytes, regional-back}
+use Rattle.text.proofs.Ascii.{alone, alone-numbers, ascii-sequence, lone, lone-low, low-tail, regional-back}
+use Rattle.text.proofs.Common.{begins-alone}
 use Rattle.text.proofs.Runs.{back-scalar, run-drop, run-head, run-inside, size-bytes, size-pos, size-reverse}
 use Rattle.text.proofs.Tails.{back-here}
 use Rattle.text.specs.declared.class.Profile as code
@@ -25,7 +26,7 @@ flip-not true true = refl
 flip-not true false = refl
 flip-not false b = refl
 
-flip-false : (a : Bool) → flip a false ≡ a
+pub flip-false : (a : Bool) → flip a false ≡ a
 unfolding flip
 flip-false true = refl
 flip-false false = refl
@@ -134,23 +135,13 @@ module _ (P : Profile) where
     pub joins-single : odd ≡ false → (eqb p 10 && eqb k 10) ≡ false → JoinsAt P t q r
     joins-single n m = cases (eqb p 10) (λ i. joins-plain (eqb-false k 10 (rw i at m))) (λ i. joins-other n (eqb-false p 10 i))
 
-  -- a pair of bytes below 80
-  joins-ascii-at : (t : List ℕ) (q i : ℕ) → (q ≢ 0) → q < length t → i ≡ q - 1 → Apart P → asciiPair t i ≡ true → JoinsAt P t q false
-  unfolding joins size
-  joins-ascii-at t q i z h j g f c [] es p s = refl
-  joins-ascii-at t q i z h j g f c (d ∷ rest) es p s =
-      let n : i + 1 ≡ q = omega arith in
-      let w = pair-bytes t i f in
-      let u : back t q ≡ i = sym (back-here t q i (getD t i 0) (omega arith) j refl (low-tail (getD t i 0) (w .first))) in
-      let v : i ≡ size rest = sym u ∙ ap (back t) (sym s) ∙ back-scalar d rest (c ∷ es) t p in
-      let x : number (P .class (getD t i 0)) ≡ number (P .class (d .code)) =
-      class-of t i (number (P .class (getD t i 0))) d rest (c ∷ es) p v (ap (λ (y : Sequence). number (P .class (y .code))) (ascii-sequence t i (getD t i 0) (omega arith) refl (w .first))) in
-      let y : number (P .class (getD t q 0)) ≡ number (P .class (c .code)) =
-      class-of t q (number (P .class (getD t q 0))) c (d ∷ rest) es p (sym s) (ap (λ (m : Sequence). number (P .class (m .code))) (ascii-sequence t q (getD t q 0) h refl (rw n at (w .second)))) in
-      sym (ap₂ (λ (m n : ℕ). joined m (context P (d ∷ rest)) n) (sym x) (sym y) ∙ g (getD t i 0) (getD t q 0) (context P (d ∷ rest)) (w .first) (rw n at (w .second)) (w .plain))
-
-  pub joins-ascii : (t : List ℕ) (q : ℕ) → (q ≢ 0) → q < length t → Apart P → asciiPair t (q - 1) ≡ true → JoinsAt P t q false
-  joins-ascii t q z h g f = joins-ascii-at t q (q - 1) z h refl g f
+  -- a class that joins nothing before it
+  joins-alone : (t : List ℕ) (q : ℕ) → alone (number (P .class (firstSequence (decode (drop q t)) .code))) ≡ true → JoinsAt P t q false
+  unfolding joins
+  joins-alone t q f c [] es p s = refl
+  joins-alone t q f c (d ∷ rest) es p s =
+      let y : number (P .class (firstSequence (decode (drop q t)) .code)) ≡ number (P .class (c .code)) = class-of t q (number (P .class (firstSequence (decode (drop q t)) .code))) c (d ∷ rest) es p (sym s) refl in
+      sym (alone-numbers (number (P .class (d .code))) (context P (d ∷ rest)) (number (P .class (c .code))) (rw y at f))
 
   -- ---- the last cluster
 
@@ -211,3 +202,17 @@ module _ (P : Profile) where
   last-le t w =
       let e : size (reverse (runOf (decode t))) ≡ length t = size-reverse (runOf (decode t)) ∙ size-bytes (runOf (decode t)) ∙ ap length w in
       let h = without-le (reverse (runOf (decode t))) in omega arith
+
+pub joins-begins : (v : code.Profile) (t : List ℕ) (q b : ℕ) (r : Bool) → q < length t → b ≡ getD t q 0 → r ≡ beginsCluster b → r ≡ true → JoinsAt (profileOf v) t q false
+joins-begins v t q b r h e f z = joins-alone (profileOf v) t q (begins-alone v t q h (ap beginsCluster (sym e) ∙ sym f ∙ z))
+
+-- a byte below 80 at the end, LF apart
+pub last-lone : (v : code.Profile) (t : List ℕ) (b : ℕ) (r : Bool) → whole t → (length t ≢ 0) → b ≡ getD t (length t - 1) 0 → r ≡ loneByte b → r ≡ true
+    → length t - 1 ≡ size (withoutLast (profileOf v) (reverse (runOf (decode t))))
+last-lone v t b r w h e f z =
+    let P : Profile = profileOf v in
+    let l : loneByte b ≡ true = sym f ∙ z in
+    let low : isTail b ≡ false = low-tail b (lone-low b l) in
+    let one : sequenceOf b 1 ≡ firstSequence (decode (drop (length t - 1) t)) = ascii-sequence t (length t - 1) b (omega arith) e (lone-low b l) in
+    let j : JoinsAt P t (length t - 1) false = joins-alone P t (length t - 1) (ap (λ (u : Sequence). alone (number (P .class (u .code)))) (sym one) ∙ lone v b l) in
+    last-stop P t (length t - 1) _ false j refl (last-begin P t (length t - 1) w h (back-here t (length t) (length t - 1) b (omega arith) refl e low))

@@ -10,12 +10,12 @@ use lib.Dec.{eqb, eqb→eq, leb, leb→le, ltb, ltb→lt}
 use lib.ListN.{drop, getD, length, take}
 use borrow.Author.Tests.{le-leb, lt-leb}
 use Rattle.text.specs.Class.{number}
-use Rattle.text.specs.Code.{firstSequence, ideographBytes, markBytes, profileOf, sequenceOf, unitOf}
-use Rattle.text.specs.Tests.{and-T, is-true, true-T}
+use Rattle.text.specs.Code.{beginsCluster, firstSequence, ideographBytes, loneByte, markBytes, profileOf, sequenceOf, unitOf}
+use Rattle.text.specs.Tests.{and-T, cases, is-true, true-T}
 use Rattle.text.specs.Utf8.{decode, more, sequence, tail, to, value, within}
 use Rattle.text.specs.declared.cluster.Unit.{Unit}
 use Rattle.text.specs.declared.utf8.Sequence.{Sequence}
-use Rattle.text.proofs.Ascii.{ascii-sequence, ideograph-class, mark-class, printable-class}
+use Rattle.text.proofs.Ascii.{alone, ascii-sequence, damaged-alone, ideograph-class, lone, lone-low, mark-class, other-alone, printable-class}
 use Rattle.text.proofs.Units.{by-chain, chain, decode-at}
 use Rattle.text.specs.declared.class.Profile as code
 
@@ -102,3 +102,19 @@ module _ (v : code.Profile) (s : List ℕ) (p a : ℕ) (here : p < length s) (ea
 
 pub unit-read : (v : code.Profile) (u w : Sequence) (k : ℕ) → u ≡ w → k ≡ number (profileOf v .class (u .code)) → unit (u .len) k ≡ unitOf (profileOf v) w
 unit-read v u w k e f = ap (unit (u .len)) f ∙ ap (unitOf (profileOf v)) e
+
+-- what a byte that begins a cluster begins joins nothing before it
+pub begins-alone : (v : code.Profile) (s : List ℕ) (p : ℕ) → p < length s → beginsCluster (getD s p 0) ≡ true → alone (number (profileOf v .class (firstSequence (decode (drop p s)) .code))) ≡ true
+begins-alone v s p h e =
+    let a : ℕ = getD s p 0 in
+    let b : ℕ = getD s (p + 1) 0 in
+    let c : ℕ = getD s (p + 2) 0 in
+    cases (loneByte a)
+    (λ l. ap (λ (u : Sequence). alone (number (profileOf v .class (u .code)))) (sym (ascii-sequence s p a h refl (lone-low a l))) ∙ lone v a l)
+    (λ l.
+    let q = and-T (leb 0xE3 a) (leb a 0xE9) (true-T (rw l at e)) in
+    let lo : 0xE3 ≤ a = leb→le _ _ (q .0) in
+    let hi : a ≤ 0xE9 = leb→le _ _ (q .1) in
+    cases (within tail b && within tail c)
+    (λ t. ap (λ (u : Unit). alone (u .class)) (sym (ideograph-read v s p a h refl b refl c refl lo hi t)) ∙ other-alone)
+    (λ t. ap (λ (u : Sequence). alone (number (profileOf v .class (u .code)))) (sym (ideograph-bad v s p a h refl b refl c refl lo hi t)) ∙ damaged-alone v))

@@ -9,12 +9,12 @@ use lib.ListN.{drop, length, take, take-append-drop}
 use lib.Seq.{take-take}
 use Rattle.text.specs.Class.{Profile, among, number}
 use Rattle.text.specs.Cluster.{Context, classOf, context, joined, joins}
-use Rattle.text.specs.Code.{EvenAt, back, profileOf, regionalAt, size, withoutLast}
+use Rattle.text.specs.Code.{EvenAt, Left, back, flip, profileOf, regionalAt, size, withoutLast}
 use Rattle.text.specs.Overstrike.{push}
 use Rattle.text.specs.Tests.{cases}
 use Rattle.text.specs.Utf8.{Scalar, bytesOf, decode, runOf}
 use Rattle.text.proofs.Ascii.{regional-back, regional-class}
-use Rattle.text.proofs.Backward.{class-of, odd-ri}
+use Rattle.text.proofs.Backward.{class-of, flip-false, odd-ri}
 use Rattle.text.proofs.Runs.{back-scalar, size-reverse}
 use Rattle.text.proofs.Texts.{run-append, run-prefix}
 use Rattle.text.specs.declared.class.Profile as code
@@ -57,6 +57,22 @@ even-front t q i h w =
       place = w .place;
       even = w .even;
     }
+
+-- ---- counting up to an even place
+
+-- what stands before a place of a text is one list of scalars
+front-same : (t : List ℕ) (rest es rest′ es′ : List Scalar) → runOf (decode t) ≡ reverseAux rest es → runOf (decode t) ≡ reverseAux rest′ es′ → size rest ≡ size rest′ → rest ≡ rest′
+front-same t rest es rest′ es′ p p′ s =
+    let a = run-prefix (reverse rest) es t (p ∙ reverseAux-eq rest es) .0 in
+    let b = run-prefix (reverse rest′) es′ t (p′ ∙ reverseAux-eq rest′ es′) .0 in
+    let n : size (reverse rest) ≡ size (reverse rest′) = size-reverse rest ∙ s ∙ sym (size-reverse rest′) in
+    sym (reverse-reverse rest) ∙ ap reverse (sym a ∙ ap (λ (k : ℕ). runOf (decode (take k t))) n ∙ b) ∙ reverse-reverse rest′
+
+pub odd-even : (v : code.Profile) (t : List ℕ) (i : ℕ) (odd total : Bool) (even : ℕ) → EvenAt t even → i ≡ even → Left (profileOf v) t i odd total → odd ≡ total
+odd-even v t i odd total even e z l =
+    let same : l .rest ≡ e .rest = front-same t (l .rest) (l .es) (e .rest) (e .es) (l .parts) (e .parts) (l .place ∙ z ∙ sym (e .place)) in
+    let o : context (profileOf v) (l .rest) .odd ≡ false = ap (λ (x : List Scalar). context (profileOf v) x .odd) same ∙ e .even v in
+    sym (l .parity ∙ ap (flip odd) o ∙ flip-false odd)
 
 -- ---- two regional indicators
 

@@ -6,20 +6,20 @@ use mathlib.Core.Bool.{Bool, _&&_, _||_, false, not, true}
 use mathlib.Core.List.{List, [], _∷_}
 use mathlib.Core.Logic.{_≢_}
 use mathlib.Core.Path.{_∙_, _≡_, ap, refl, sym}
-use lib.Dec.{eqb, leb, leb→le, ltb, ltb→lt}
+use lib.Dec.{eqb, ltb, ltb→lt}
 use lib.ListN.{drop, getD, length, take}
-use borrow.Author.Tests.{eqb-false, ltb-false, ltb-true, not-true}
+use borrow.Author.Tests.{eqb-false, eqb-true, ltb-false, ltb-true, not-true}
 use Rattle.text.specs.Class.{Profile, among, class01, classT, classV, control, cr, extend, inAny, lf, number, zwj}
 use Rattle.text.specs.Cluster.{Context, after, classOf, clusters, context, joined, joins, start}
 use Rattle.text.specs.Cluster.Laws.{clusters-first, further}
-use Rattle.text.specs.Code.{contextOf, endsBefore, firstOf, firstSequence, firstSize, moreFrom, profileOf, sequenceOf, singleAt, size, unitOf}
+use Rattle.text.specs.Code.{beginsCluster, contextOf, firstOf, firstSequence, firstSize, moreFrom, profileOf, sequenceOf, singleAt, size, unitOf}
 use Rattle.text.specs.Tests.{and-T, cases, is-true, or-T, true-T}
-use Rattle.text.specs.Utf8.{Scalar, decode, runOf, tail, to, within}
+use Rattle.text.specs.Utf8.{Scalar, decode, runOf}
 use Rattle.text.specs.Width.{wides, width01, widthOf}
 use Rattle.text.specs.declared.cluster.Unit.{Unit}
 use Rattle.text.specs.declared.utf8.Sequence.{Sequence}
-use Rattle.text.proofs.Ascii.{Apart, Breaks, ascii-after, ascii-sequence, other-after}
-use Rattle.text.proofs.Common.{ideograph-bad, ideograph-read}
+use Rattle.text.proofs.Ascii.{alone-numbers, apart, ascii-sequence, breaks}
+use Rattle.text.proofs.Common.{begins-alone}
 use Rattle.text.proofs.Units.{run-bad, run-end, run-good, run-room, run-size, scalarAt}
 use Rattle.text.specs.declared.class.Profile as code
 
@@ -57,28 +57,28 @@ more-ascii P s p prev k g l =
     rw (r, g k) refl)
     (λ e. rw (run-end s p (ltb-false p (length s) e)) refl)
 
-module _ (P : Profile) (s : List ℕ) (p : ℕ) (here : p < length s) where
-  -- a byte below 80 that nothing joins
-  first-byte : (a : ℕ) → a ≡ getD s p 0 → a < 128 → moreFrom P (number (P .class a)) (after start (number (P .class a))) (runOf (decode (drop (p + 1) s))) ≡ 0 → p + 1 ≡ p + firstSize P (runOf (decode (drop p s)))
-  first-byte a e l m =
-      let one : sequenceOf a 1 ≡ firstSequence (decode (drop p s)) = ascii-sequence s p a here e l in
-      let r : runOf (decode (drop p s)) ≡ scalarAt p a 1 s ∷ runOf (decode (drop (p + 1) s)) = run-good s p (sequenceOf a 1) here one (λ z. absurd (omega arith)) in
-      let n : length (take 1 (drop p s)) ≡ 1 = run-size s p (sequenceOf a 1) here one (λ z. absurd (omega arith)) in
-      sym (rw (r, first-size P (scalarAt p a 1 s) (runOf (decode (drop (p + 1) s))), n, m) refl)
+-- a byte below 80 that nothing joins
+first-byte : (P : Profile) (s : List ℕ) (p a : ℕ) → p < length s → a ≡ getD s p 0 → a < 128 → moreFrom P (number (P .class a)) (after start (number (P .class a))) (runOf (decode (drop (p + 1) s))) ≡ 0 → p + 1 ≡ p + firstSize P (runOf (decode (drop p s)))
+first-byte P s p a here e l m =
+    let one : sequenceOf a 1 ≡ firstSequence (decode (drop p s)) = ascii-sequence s p a here e l in
+    let r : runOf (decode (drop p s)) ≡ scalarAt p a 1 s ∷ runOf (decode (drop (p + 1) s)) = run-good s p (sequenceOf a 1) here one (λ z. absurd (omega arith)) in
+    let n : length (take 1 (drop p s)) ≡ 1 = run-size s p (sequenceOf a 1) here one (λ z. absurd (omega arith)) in
+    sym (rw (r, first-size P (scalarAt p a 1 s) (runOf (decode (drop (p + 1) s))), n, m) refl)
 
-  pub first-single : Apart P → Breaks P → singleAt s p ≡ true → p + 1 ≡ p + firstSize P (runOf (decode (drop p s)))
-  first-single g b f =
-      let a : ℕ = getD s p 0 in
-      let c : ℕ = number (P .class a) in
-      let q = and-T (ltb a 0x20 || (ltb a 0x80 && ltb (getD s (p + 1) 0) 0x80)) (not (eqb a 0x0D)) (true-T f) in
-      let n : a ≢ 13 = eqb-false _ _ (not-true _ (is-true _ (q .1))) in
-      or-T (ltb a 0x20) _ (q .0)
-      (λ t. let l : a < 0x20 = ltb→lt _ _ t in first-byte a refl (omega arith) (more-none P (runOf (decode (drop (p + 1) s))) c (after start c) (λ d. b a (after start c) d l n)))
-      (λ t.
-      let w = and-T (ltb a 0x80) (ltb (getD s (p + 1) 0) 0x80) t in
-      let l : a < 128 = ltb→lt _ _ (w .0) in
-      let m : getD s (p + 1) 0 < 128 = ltb→lt _ _ (w .1) in
-      first-byte a refl l (more-ascii P s (p + 1) c (after start c) (λ k. g a (getD s (p + 1) 0) k l m n) m))
+pub first-single : (v : code.Profile) (s : List ℕ) (p : ℕ) (r : Bool) → p < length s → r ≡ singleAt s p → r ≡ true → p + 1 ≡ p + firstSize (profileOf v) (runOf (decode (drop p s)))
+first-single v s p r here e t =
+    let P : Profile = profileOf v in
+    let a : ℕ = getD s p 0 in
+    let c : ℕ = number (P .class a) in
+    let q = and-T (ltb a 0x20 || (ltb a 0x80 && ltb (getD s (p + 1) 0) 0x80)) (not (eqb a 0x0D)) (true-T (sym e ∙ t)) in
+    let n : a ≢ 13 = eqb-false _ _ (not-true _ (is-true _ (q .1))) in
+    or-T (ltb a 0x20) _ (q .0)
+    (λ f. let l : a < 0x20 = ltb→lt _ _ f in first-byte P s p a here refl (omega arith) (more-none P (runOf (decode (drop (p + 1) s))) c (after start c) (λ d. breaks v a (after start c) d l n)))
+    (λ f.
+    let w = and-T (ltb a 0x80) (ltb (getD s (p + 1) 0) 0x80) f in
+    let l : a < 128 = ltb→lt _ _ (w .0) in
+    let m : getD s (p + 1) 0 < 128 = ltb→lt _ _ (w .1) in
+    first-byte P s p a here refl l (more-ascii P s (p + 1) c (after start c) (λ k. apart v a (getD s (p + 1) 0) k l m n) m))
 
 module _ (P : Profile) (s : List ℕ) (p : ℕ) (u : Unit) (here : p < length s) (read : u ≡ unitOf P (firstSequence (decode (drop p s)))) where
   none : u .len ≡ 0 → runOf (decode (drop p s)) ≡ []
@@ -129,37 +129,21 @@ module _ (P : Profile) (s : List ℕ) (p : ℕ) (u : Unit) (here : p < length s)
       unfolding moreFrom
       go-on t = let x = some z in rw (x .run, x .class, sym rr ∙ t, x .size, ← add-assoc) at same
 
--- one of U+3000 to U+9FFF, or a damaged byte
-more-ideograph : (v : code.Profile) (s : List ℕ) (p prev : ℕ) (k : Context) → (prev ≢ 0) → 0xE3 ≤ getD s p 0 → getD s p 0 ≤ 0xE9 → moreFrom (profileOf v) prev k (runOf (decode (drop p s))) ≡ 0
+-- a byte that begins a cluster ends one
+more-begins : (v : code.Profile) (s : List ℕ) (p prev : ℕ) (k : Context) → p < length s → beginsCluster (getD s p 0) ≡ true → moreFrom (profileOf v) prev k (runOf (decode (drop p s))) ≡ 0
 unfolding moreFrom
-more-ideograph v s p prev k n lo hi =
-    cases (ltb p (length s))
-    (λ e.
-    let h : p < length s = ltb-true p (length s) e in
-    let a : ℕ = getD s p 0 in
-    let b : ℕ = getD s (p + 1) 0 in
-    let c : ℕ = getD s (p + 2) 0 in
-    cases (within tail b && within tail c)
-    (λ t.
-    let x = some (profileOf v) s p (record { len = 3; class = 11 }) h (ideograph-read v s p a h refl b refl c refl lo hi t) (λ z. absurd (omega arith)) in
-    rw (x .run, x .class, other-after prev k n) refl)
-    (λ t. rw (run-bad s p (sequenceOf 0 0) h (ideograph-bad v s p a h refl b refl c refl lo hi t) refl) refl))
-    (λ e. rw (run-end s p (ltb-false p (length s) e)) refl)
+more-begins v s p prev k h e =
+    let u : Unit = unitOf (profileOf v) (firstSequence (decode (drop p s))) in
+    cases (eqb (u .len) 0)
+    (λ z. rw (none (profileOf v) s p u h refl (eqb-true (u .len) 0 z)) refl)
+    (λ z.
+    let x = some (profileOf v) s p u h refl (eqb-false (u .len) 0 z) in
+    rw (x .run, x .class, alone-numbers prev k (u .class) (begins-alone v s p h e)) refl)
 
-ascii-joins : (v : code.Profile) (prev : ℕ) (k : Context) (a : ℕ) → (prev ≢ 0) → a < 128 → joined prev k (number (profileOf v .class a)) ≡ false
-unfolding profileOf
-ascii-joins v prev k a n h = ascii-after prev k a n h
-
-pub stop-before : (v : code.Profile) (s : List ℕ) (p prev b : ℕ) (odd r : Bool) (total : ℕ) → b ≡ getD s p 0 → r ≡ endsBefore prev b → r ≡ true
+pub stop-before : (v : code.Profile) (s : List ℕ) (p prev b : ℕ) (odd r : Bool) (total : ℕ) → p < length s → b ≡ getD s p 0 → r ≡ beginsCluster b → r ≡ true
     → total ≡ p + moreFrom (profileOf v) prev (contextOf odd) (runOf (decode (drop p s))) → p ≡ total
-stop-before v s p prev b odd r total e f t same =
-    let q = and-T (ltb b 0x80 || within (to 0xE3 0xE9) b) (not (eqb prev 0)) (true-T (sym f ∙ t)) in
-    let n : prev ≢ 0 = eqb-false prev 0 (not-true (eqb prev 0) (is-true _ (q .1))) in
-    let m : moreFrom (profileOf v) prev (contextOf odd) (runOf (decode (drop p s))) ≡ 0 =
-    or-T (ltb b 0x80) (within (to 0xE3 0xE9) b) (q .0)
-    (λ l. let h : getD s p 0 < 128 = rw e at (ltb→lt b 0x80 l) in more-ascii (profileOf v) s p prev (contextOf odd) (λ k. ascii-joins v prev k (getD s p 0) n h) h)
-    (λ l. let w = and-T (leb 0xE3 b) (leb b 0xE9) l in more-ideograph v s p prev (contextOf odd) n (rw e at (leb→le 0xE3 b (w .0))) (rw e at (leb→le b 0xE9 (w .1)))) in
-    sym (rw (m, add-zero) at same)
+stop-before v s p prev b odd r total h e f t same =
+    sym (rw (more-begins v s p prev (contextOf odd) h (ap beginsCluster (sym e) ∙ sym f ∙ t), add-zero) at same)
 
 pub stop-end : (P : Profile) (s : List ℕ) (p prev : ℕ) (odd : Bool) (total : ℕ) → length s ≤ p → total ≡ p + moreFrom P prev (contextOf odd) (runOf (decode (drop p s))) → p ≡ total
 unfolding moreFrom

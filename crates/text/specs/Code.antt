@@ -52,10 +52,6 @@ size (c ∷ s) = length (c .bytes) + size s
 abbrev pub whole : List ℕ → Type 0
 whole t = bytesOf (runOf (decode t)) ≡ t
 
--- a byte below 80, CR apart, and behind it another, CR included, or nothing
-abbrev pub asciiPair : List ℕ → ℕ → Bool
-asciiPair s i = ltb (getD s i 0) 0x80 && (not (eqb (getD s i 0) 0x0D) && ltb (getD s (i + 1) 0) 0x80)
-
 -- the bytes of U+1F1E6 to U+1F1FF
 abbrev pub regionalAt : List ℕ → ℕ → Bool
 regionalAt s i = eqb (getD s i 0) 0xF0 && (eqb (getD s (i + 1) 0) 0x9F && (eqb (getD s (i + 2) 0) 0x87 && within (to 0xA6 0xBF) (getD s (i + 3) 0)))
@@ -81,9 +77,12 @@ ideographBytes a b c = within (to 0xE3 0xE9) a && (within tail b && within tail 
 abbrev pub singleAt : List ℕ → ℕ → Bool
 singleAt s i = (ltb (getD s i 0) 0x20 || (ltb (getD s i 0) 0x80 && ltb (getD s (i + 1) 0) 0x80)) && not (eqb (getD s i 0) 0x0D)
 
--- behind a scalar of class p, which is not CR, a byte below 80 or the first of U+3000 to U+9FFF
-abbrev pub endsBefore : ℕ → ℕ → Bool
-endsBefore p b = (ltb b 0x80 || within (to 0xE3 0xE9) b) && not (eqb p 0)
+-- a byte below 80, LF apart; such a byte, or the first of U+3000 to U+9FFF
+abbrev pub loneByte : ℕ → Bool
+loneByte b = ltb b 0x80 && not (eqb b 0x0A)
+
+abbrev pub beginsCluster : ℕ → Bool
+beginsCluster b = loneByte b || within (to 0xE3 0xE9) b
 
 abbrev pub contextOf : Bool → Context
 contextOf o = record { odd = o }

@@ -3,7 +3,6 @@ use super::class::Profile;
 use super::class::class;
 use super::utf8::byte_at;
 use super::utf8::decode;
-use super::utf8::is_ascii_pair;
 ghost use mathlib.Core.Path.{_≡_};
 ghost use Prim.Native.Nat.{_+_, _≤_, _<_};
 ghost use mathlib.Core.List.{reverse};
@@ -12,7 +11,7 @@ ghost use lib.Seq.{slice};
 ghost use Rattle.text.specs.Utf8.{decode};
 ghost use Rattle.text.specs.Class.{number};
 ghost use Rattle.text.specs.Cluster.{start, after, joined};
-ghost use Rattle.text.specs.Code.{profileOf, firstSequence, unitOf, markBytes, ideographBytes, singleAt, endsBefore, runOf, size, contextOf, seen, moreFrom, firstSize, back, whole, withoutLast, OddTo, JoinsAt, regionalAt, IndicatorsTo};
+ghost use Rattle.text.specs.Code.{profileOf, firstSequence, unitOf, markBytes, ideographBytes, singleAt, loneByte, beginsCluster, runOf, size, contextOf, seen, moreFrom, firstSize, back, whole, withoutLast, EvenAt, OddTo, JoinsAt, regionalAt, IndicatorsTo};
 
 // What the rules ask of the scalars before a place: the last one's class, and whether an odd number of regional indicators ends there.
 pub struct Seen {
@@ -124,11 +123,18 @@ fn is_single(s: &[u8], at: usize) -> bool
     ((a < 0x20) | ((a < 0x80) & (b < 0x80))) & (a != 0x0D)
 }
 
-// Does the next byte begin no scalar that joins one of this class? Those below 80 join CR alone, those of U+3000 to U+9FFF none.
-fn ends_before(class: u8, b: u32) -> bool
-    ensures { λ r. ⌜ r ≡ endsBefore class b ⌝ }
+// Is it a byte below 80, LF apart? No rule joins it to what stands before.
+fn is_lone(b: u32) -> bool
+    ensures { λ r. ⌜ r ≡ loneByte b ⌝ }
 {
-    ((b < 0x80) | ((0xE3 <= b) & (b <= 0xE9))) & (class != 0)
+    (b < 0x80) & (b != 0x0A)
+}
+
+// Is it such a byte, or the first of U+3000 to U+9FFF, which no rule joins to what stands before?
+fn begins_cluster(b: u32) -> bool
+    ensures { λ r. ⌜ r ≡ beginsCluster b ⌝ }
+{
+    ((b < 0x80) & (b != 0x0A)) | ((0xE3 <= b) & (b <= 0xE9))
 }
 
 // The end of the cluster that a scalar of class c begins, whose next scalar stands at `from`.
@@ -139,7 +145,7 @@ fn more_end(profile: Profile, s: &[u8], from: usize, c: u8) -> usize
     let mut p = from;
     let mut before = with_scalar(false, c);
     while p < s.len() {
-        if ends_before(before.class, byte_at(s, p)) {
+        if begins_cluster(byte_at(s, p)) {
             return p;
         }
         let u = unit_at(profile, s, p);
@@ -220,14 +226,17 @@ struct Indicators {
     odd: bool,
 }
 
-// Those that end at q, the end of a scalar of the text, by their bytes.
-fn indicators_to(t: &[u8], q: usize) -> Indicators
+// Those that end at q, the end of a scalar of the text, by their bytes; counted to `even` at most.
+fn indicators_to(t: &[u8], q: usize, even: usize) -> Indicators
     requires { ⌜ q ≤ length (now t) ⌝ }
     ensures { λ r. ⌜ IndicatorsTo (now (t .entry)) q r ⌝ }
 {
     let mut odd = false;
     let mut i = q;
     while 4 <= i {
+        if i == even {
+            return Indicators { at: i, odd: odd };
+        }
         let j = i - 4;
         if is_regional(t, j) {
             odd = !odd;
@@ -239,15 +248,18 @@ fn indicators_to(t: &[u8], q: usize) -> Indicators
     Indicators { at: i, odd: odd }
 }
 
-// Does an odd number of regional indicators end at q, the end of a scalar of the text?
-fn odd_to(profile: Profile, t: &[u8], q: usize) -> bool
-    requires { ⌜ q ≤ length (now t) ⌝ }
+// Does an odd number of regional indicators end at q, the end of a scalar of the text? An even number is known to end at `even`.
+fn odd_to(profile: Profile, t: &[u8], q: usize, even: usize) -> bool
+    requires { ⌜ (q ≤ length (now t)) × EvenAt (now t) even ⌝ }
     ensures { λ r. ⌜ OddTo (profileOf profile) (now (t .entry)) q r ⌝ }
 {
-    let run = indicators_to(t, q);
+    let run = indicators_to(t, q, even);
     let mut odd = run.odd;
     let mut i = run.at;
     while 0 < i {
+        if i == even {
+            return odd;
+        }
         let j = scalar_start(t, i);
         if class_at(profile, t, j) == 10 {
             odd = !odd;
@@ -260,20 +272,20 @@ fn odd_to(profile: Profile, t: &[u8], q: usize) -> bool
 }
 
 // Is there no boundary at q, the start of a scalar of the text?
-fn joins_at(profile: Profile, t: &[u8], q: usize) -> bool
-    requires { ⌜ q < length (now t) ⌝ }
+fn joins_at(profile: Profile, t: &[u8], q: usize, even: usize) -> bool
+    requires { ⌜ (q < length (now t)) × EvenAt (now t) even ⌝ }
     ensures { λ r. ⌜ JoinsAt (profileOf profile) (now (t .entry)) q r ⌝ }
 {
     if q == 0 {
         return false;
     }
-    if is_ascii_pair(t, q - 1) {
+    if begins_cluster(byte_at(t, q)) {
         return false;
     }
     let p = class_at(profile, t, scalar_start(t, q));
     let c = class_at(profile, t, q);
     if (p == 10) & (c == 10) {
-        let odd = odd_to(profile, t, q);
+        let odd = odd_to(profile, t, q, even);
         return is_joined(Seen { class: p, odd: odd }, c);
     }
     is_joined(
@@ -285,17 +297,20 @@ fn joins_at(profile: Profile, t: &[u8], q: usize) -> bool
     )
 }
 
-// Where the last cluster of a valid text begins.
-pub fn last_start(profile: Profile, t: &[u8]) -> usize
-    requires { ⌜ whole (now t) ⌝ }
+// Where the last cluster of a valid text begins, in which an even number of regional indicators is known to end at `even`.
+pub fn last_start(profile: Profile, t: &[u8], even: usize) -> usize
+    requires { ⌜ whole (now t) × EvenAt (now t) even ⌝ }
     ensures { λ r. ⌜ r ≡ size (withoutLast (profileOf profile) (reverse (runOf (decode (now (t .entry)))))) ⌝ }
 {
     if t.len() == 0 {
         return 0;
     }
+    if is_lone(byte_at(t, t.len() - 1)) {
+        return t.len() - 1;
+    }
     let mut q = scalar_start(t, t.len());
     while 0 < q {
-        if joins_at(profile, t, q) {
+        if joins_at(profile, t, q, even) {
             q = scalar_start(t, q);
         } else {
             return q;

@@ -66,11 +66,16 @@ fn is_between(t: &[u8], q: usize) -> bool
     is_regional(t, q) & is_regional(t, q - 4)
 }
 
-// An even place of the text without its last cluster, which begins at q.
+// An even place of the text without its last cluster, which begins at q: the one known while it is near, so that what is written and erased behind it does not move it.
 fn even_before(t: &[u8], q: usize, even: usize) -> usize
     requires { ⌜ q < length (now t) ⌝ }
     ensures { λ r. ⌜ EvenChoice (now (t .entry)) q even r ⌝ }
 {
+    if even <= q {
+        if q - even <= 128 {
+            return even;
+        }
+    }
     if is_between(t, q) {
         return q;
     }
@@ -95,7 +100,7 @@ fn kept(profile: Profile, t: &[u8], even: usize) -> Erasure
             even: n - 8,
         };
     }
-    let q = last_start(profile, t);
+    let q = last_start(profile, t, even);
     let u = decode(t, q);
     if is_control(u.code) {
         return Erasure { at: n, even: even };

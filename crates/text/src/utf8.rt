@@ -4,7 +4,7 @@ ghost use Prim.Native.Nat.{_+_, _<_, _≤_};
 ghost use mathlib.Core.List.{[], _∷_};
 ghost use lib.ListN.{length, getD, take, drop};
 ghost use Rattle.text.specs.Utf8.{sequence, value, decode};
-ghost use Rattle.text.specs.Code.{firstSequence, runOf, size, asciiPair};
+ghost use Rattle.text.specs.Code.{firstSequence, runOf, size};
 
 // A well-formed sequence: its scalar and the number of its bytes. Where none begins the length is 0.
 pub struct Sequence {
@@ -98,16 +98,6 @@ pub fn decode(s: &[u8], at: usize) -> Sequence
         code: value_of(n, a, b, c, d),
         len: n,
     }
-}
-
-// Is a byte below 80, CR apart, followed by another such byte, CR included, or by nothing? No rule joins the two.
-pub fn is_ascii_pair(s: &[u8], at: usize) -> bool
-    requires { ⌜ at < length (now s) ⌝ }
-    ensures { λ r. ⌜ r ≡ asciiPair (now (s .entry)) at ⌝ }
-{
-    let a = byte_at(s, at);
-    let b = byte_at(s, at + 1);
-    (a < 0x80) & ((a != 0x0D) & (b < 0x80))
 }
 
 // The end of the run of valid text that begins at a place.

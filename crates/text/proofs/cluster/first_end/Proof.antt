@@ -1,8 +1,6 @@
 use native.Mathlib.Omega.{arith}
 use borrow.Author.Needs.{needs}
 use Rattle.text.specs.Code.{profileOf}
-use Rattle.text.proofs.Ascii.{apart, breaks}
-use Rattle.text.proofs.Branch.{met}
 use Rattle.text.proofs.Walks.{first-bad, first-good, first-single, unit-room}
 use Rattle.text.proofs.cluster.first_end.Statement.{statement}
 use Rattle.text.proofs.cluster.first_end.Tie as tie
@@ -14,7 +12,7 @@ add-result : tie.Need-add-result
 add-result c = search needs
 
 returns : tie.Need-returns
-returns c = search (first-single, apart, breaks, met)
+returns c = search first-single
 
 unit-at-requires : tie.Need-unit-at-requires
 unit-at-requires c κs = search needs

@@ -25,8 +25,8 @@ loop-holds c = (search needs, rw (c .with-scalar .ensures))
 byte-at-requires : tie.Need-byte-at-requires Inv-loop μ-loop
 byte-at-requires c κs = search needs
 
-ends-before-requires : tie.Need-ends-before-requires Inv-loop μ-loop
-ends-before-requires c κs = search needs
+begins-cluster-requires : tie.Need-begins-cluster-requires Inv-loop μ-loop
+begins-cluster-requires c κs = search needs
 
 returns : tie.Need-returns Inv-loop μ-loop
 returns c = search stop-before
@@ -67,7 +67,7 @@ more-end-spec =
     with-scalar-requires
     loop-holds
     byte-at-requires
-    ends-before-requires
+    begins-cluster-requires
     returns
     unit-at-requires
     returns-2
