@@ -1,191 +1,60 @@
 -- The ends of the functions that make up the call `read`.
-use mathlib.Core.Path.{_≡_, refl, sym, ap, ap₂, _∙_}
+use mathlib.Core.Path.{_≡_, refl, sym, ap, ap₂, _∙_, subst}
 use Prim.Native.Nat.{ℕ, zero, suc, _+_, _-_, _*_, _≤_, _<_}
-use native.Mathlib.Nat.{add-zero, zero-add}
+use native.Mathlib.Nat.{not-suc-le-zero, le-of-suc-le-suc}
 use native.Mathlib.Omega.{arith}
-use mathlib.Core.Bool.{Bool, true, false, cond, _&&_, _||_}
-use mathlib.Core.List.{List, [], _∷_, _++_, map}
-use mathlib.Core.Logic.{_≢_}
-use lib.ListN.{length, take, drop, replicate, length-append, length-replicate, length-map}
-use lib.Seq.{take-append-seam, take-at, take-all}
-use lib.Dec.{T, eqb, leb, ltb, leb→le, ltb→lt}
-use borrow.Author.Tests.{eq-eqb, ne-eqb, eqb-true, le-leb, lt-leb, leb-true, leb-false, lt-ltb, le-ltb, ltb-true, ltb-false}
-use Rattle.text.specs.Tests.{cases, true-T}
+use mathlib.Core.Bool.{Bool, true, false, cond}
+use mathlib.Core.List.{List, [], _∷_, _++_, map, append-assoc, append-nil}
+use lib.ListN.{length, take, drop, set, replicate, length-set, length-append, length-replicate, length-map}
+use lib.Seq.{take-append-seam}
+use lib.Dec.{eqb, leb, ltb}
+use borrow.Author.Tests.{eq-eqb, ne-eqb, eqb-true, eqb-false, le-leb, lt-leb, leb-true, lt-ltb, le-ltb, ltb-true, ltb-false}
+use Rattle.text.specs.Tests.{cases}
 use Rattle.text.specs.Class.{Profile}
 use Rattle.text.specs.Width.{profile01}
 use Rattle.text.specs.Overstrike.{convert}
 use Rattle.text.specs.Overstrike.Length.{convert-size}
-use Rattle.text.specs.Calls.{Question, ask, decide, lent, counted, question1, question2, Converted, convertCall}
+use Rattle.text.specs.Calls.{decide, lent, counted, question1, question2, Converted, convertCall}
 use Rattle.text.specs.Code.{profileOf, converted}
 use Rattle.text.specs.declared.Answer.{Answer}
 use Rattle.text.specs.declared.class.Profile as code
 use Rattle.spans.specs.Search.{searchedLength, inOrder, read}
-use Rattle.spans.specs.Spans.{Span, Record, aRecord, recordOf, records}
+use Rattle.spans.specs.Spans.{Span, Record, recordOf, records}
 use Rattle.spans.specs.Calls.{question3, question4, noRecord, Read, readCall}
-use Rattle.spans.specs.Contracts.{remaining, Sound, Counting, firstRecord, Nexted, Begun, Started, uncounted, TallyReady, Tallied, refusedBy, laterQuestions, Planned, HeldIn, Holds, recordsOf, NextHolds, padded, answerOf, readAs, Prepared}
+use Rattle.spans.specs.Contracts.{remaining, Sound, Counting, firstRecord, Nexted, Begun, Started, refusedBy, AtStart, thirdQuestion, Planned, HeldIn, Holds, recordsOf, Ongoing, NextHolds, Fillable, Filled, numberOf, Finished, readAs, firstQuestions, Beginning, Prepared}
 use Rattle.spans.specs.declared.stretches.Cursor.{Cursor}
 use Rattle.spans.specs.declared.stretches.NextRecord.{NextRecord}
 use Rattle.spans.specs.declared.Reading.{Reading}
 use Rattle.spans.specs.declared.NextReading.{NextReading}
-use Rattle.spans.specs.declared.Tally.{Tally}
 
--- ---- counting
+-- ---- question 3
 
--- a step counts a record where there is one
-module _ (R S : List Record) (a b : ℕ) (t : S ≡ drop 1 R) (c : b + length S ≡ a + length R) where
-  counted-none : length R ≡ 0 → b ≡ a
-  counted-none h = go R t c h
-    where
-      go : (R : List Record) → S ≡ drop 1 R → b + length S ≡ a + length R → length R ≡ 0 → b ≡ a
-      go [] t c h = let k : length S ≡ 0 = ap length t in omega arith
-      go (r ∷ R) t c h = absurd (omega arith)
+pub in-order-none : (line matches : List ℕ) → length matches ≡ 0 → true ≡ inOrder (searchedLength line) 0 matches
+unfolding inOrder
+in-order-none line [] e = refl
+in-order-none line (m ∷ ms) e = absurd (omega arith)
 
-  counted-some : 1 ≤ length R → b ≡ a + 1
-  counted-some h = go R t c h
-    where
-      go : (R : List Record) → S ≡ drop 1 R → b + length S ≡ a + length R → 1 ≤ length R → b ≡ a + 1
-      go [] t c h = absurd (omega arith)
-      go (r ∷ R) t c h = let k : length S ≡ length R = ap length t in omega arith
+pub in-order-is : (line matches : List ℕ) (most : ℕ) (w : Bool) → most ≡ searchedLength line → w ≡ inOrder most 0 matches → w ≡ inOrder (searchedLength line) 0 matches
+in-order-is line matches most w e f = rw (← e) f
 
-  counted-same : b ≡ a → length R ≡ 0
-  counted-same e = cases (leb 1 (length R)) (λ f. absurd (omega (arith, counted-some (leb-true 1 (length R) f)))) (λ f. omega (arith, leb-false 1 (length R) f))
+-- ---- `plan`
 
-  counted-more : (b ≡ a → ⊥) → 1 ≤ length R
-  counted-more e = cases (leb 1 (length R)) (λ f. leb-true 1 (length R) f) (λ f. absurd (e (counted-none (omega (arith, leb-false 1 (length R) f)))))
+module _ (line matches : List ℕ) (places : ℕ) (w : Bool) (e : w ≡ inOrder (searchedLength line) 0 matches) where
+  pub begin-ready : length line ≤ 65536 → w ≡ true → Begun line matches
+  begin-ready h f = record { small = h; order = sym e ∙ f }
 
-uncounted-sound : (line matches : List ℕ) (c : Cursor) → Sound line matches c → Sound line matches (uncounted c)
-uncounted-sound line matches c z = record { small = z .small; last = z .last; from = z .from; order = z .order; index = z .index; few = z .few; fresh = z .fresh }
-
-pub uncounted-ready : (line matches : List ℕ) (c d : Cursor) → Sound line matches c → d ≡ uncounted c → Counting line matches d
-uncounted-ready line matches c d z e = rw e (record { sound = uncounted-sound line matches c z; counts = omega arith })
-
-uncounted-same : (P : Profile) (line matches : List ℕ) (c : Cursor) → remaining P line matches (uncounted c) ≡ remaining P line matches c
-unfolding remaining
-uncounted-same P line matches c = refl
-
-pub more-is : (P : Profile) (line matches : List ℕ) (c d : Cursor) (n : NextRecord) → d ≡ uncounted c → Nexted P line matches d n → ltb 0 (n .cursor .count) ≡ ltb 0 (length (remaining P line matches c))
-more-is P line matches c d n e z =
-    let R : List Record = remaining P line matches c in
-    let S : List Record = remaining P line matches (n .cursor) in
-    let k : remaining P line matches d ≡ R = ap (remaining P line matches) e ∙ uncounted-same P line matches c in
-    let t : S ≡ drop 1 R = z .tail ∙ ap (drop 1) k in
-    let w : n .cursor .count + length S ≡ 0 + length R = z .count ∙ ap₂ (λ (x : ℕ) (l : List Record). x + length l) (ap (λ (x : Cursor). x .count) e) k in
-    cases (leb 1 (length R))
-    (λ f. let g : 1 ≤ length R = leb-true 1 (length R) f in lt-ltb 0 (n .cursor .count) (omega (arith, counted-some R S 0 (n .cursor .count) t w g)) ∙ sym (lt-ltb 0 (length R) g))
-    (λ f. let g : length R ≡ 0 = omega (arith, leb-false 1 (length R) f) in le-ltb 0 (n .cursor .count) (omega (arith, counted-none R S 0 (n .cursor .count) t w g)) ∙ sym (le-ltb 0 (length R) (omega arith)))
-
-pub record TallyLoop (P : Profile) (line matches : List ℕ) (c : Cursor) (places : ℕ) (d : Cursor) : Type 0 where
-  pub sound : Sound line matches d
-  pub count : d .count + length (remaining P line matches d) ≡ length (remaining P line matches c)
-  pub few : d .count ≤ places
-
-pub tally-begins : (P : Profile) (line matches : List ℕ) (c : Cursor) (places : ℕ) → TallyReady line matches c → TallyLoop P line matches c places c
-tally-begins P line matches c places z = record { sound = z .sound; count = rw (z .none) (omega arith); few = rw (z .none) (omega arith) }
-
-module _ (P : Profile) (line matches : List ℕ) (c : Cursor) (places : ℕ) (d : Cursor) (z : TallyLoop P line matches c places d) where
-  module _ (n : NextRecord) (h : d .count < places) (m : Nexted P line matches d n) where
-    pub tally-ends : n .cursor .count ≡ d .count → Tallied P line matches c places (record { count = d .count; more = false })
-    tally-ends e =
-        let k : length (remaining P line matches d) ≡ 0 = counted-same (remaining P line matches d) (remaining P line matches (n .cursor)) (d .count) (n .cursor .count) (m .tail) (m .count) e in
-        record { more = sym (le-ltb places (length (remaining P line matches c)) (omega (arith, z .count))); count = λ f. omega (arith, z .count) }
-
-    one-more : (n .cursor .count ≡ d .count → ⊥) → n .cursor .count ≡ d .count + 1
-    one-more e = counted-some (remaining P line matches d) (remaining P line matches (n .cursor)) (d .count) (n .cursor .count) (m .tail) (m .count) (counted-more (remaining P line matches d) (remaining P line matches (n .cursor)) (d .count) (n .cursor .count) (m .tail) (m .count) e)
-
-    pub tally-more : (n .cursor .count ≡ d .count → ⊥) → TallyLoop P line matches c places (n .cursor)
-    tally-more e = record { sound = m .sound; count = m .count ∙ z .count; few = omega (arith, one-more e) }
-
-    pub tally-falls : (n .cursor .count ≡ d .count → ⊥) → places - n .cursor .count < places - d .count
-    tally-falls e = omega (arith, one-more e)
-
-  pub tally-full : (w : Bool) → places ≤ d .count → w ≡ ltb 0 (length (remaining P line matches d)) → Tallied P line matches c places (record { count = d .count; more = w })
-  tally-full w h e =
+  pub plan-begins : (c : Cursor) → w ≡ true → Started line matches c → Planned line matches places (record { number = 0; len = length line; places = places; cursor = c })
+  plan-begins c f s =
       record {
-        more = e ∙ cases (ltb 0 (length (remaining P line matches d)))
-            (λ f. f ∙ sym (lt-ltb places (length (remaining P line matches c)) (omega (arith, z .count, z .few, ltb-true 0 (length (remaining P line matches d)) f))))
-            (λ f. f ∙ sym (le-ltb places (length (remaining P line matches c)) (omega (arith, z .count, z .few, ltb-false 0 (length (remaining P line matches d)) f))));
-        count = λ f. omega (arith, z .count, ltb-false 0 (length (remaining P line matches d)) (sym e ∙ f));
+        number = rw (← e, f);
+        begins = λ _. record { len = refl; places = refl; same = s .same; sound = s .sound; count = s .count };
+        refuses = λ k. absurd (k refl);
       }
 
--- ---- questions 3 and 4
-
-pub begin-ready : (line matches : List ℕ) (most : ℕ) (w : Bool) → length line ≤ 65536 → most ≡ searchedLength line → w ≡ inOrder most 0 matches → w ≡ true → Begun line matches
-begin-ready line matches most w h e f g = record { small = h; order = rw (← e) (sym f ∙ g) }
-
-pub started-ready : (line matches : List ℕ) (c : Cursor) → Started line matches c → TallyReady line matches c
-started-ready line matches c z = record { sound = z .sound; none = z .count }
-
-records-length : (ss : List Span) → length (records ss) ≡ length ss
-unfolding records
-records-length ss = length-map ss recordOf
-
-module _ (P : Profile) (line matches : List ℕ) (places most : ℕ) (w : Bool) (e : most ≡ searchedLength line) (f : w ≡ inOrder most 0 matches) where
-  order-is : inOrder (searchedLength line) 0 matches ≡ w
-  order-is = rw (← e) (sym f)
-
-  pub plan-unordered : (r : Reading) → w ≡ false → r ≡ refusedBy 3 → Planned P line matches places r
-  unfolding laterQuestions counted
-  plan-unordered r g h = rw h (record { number = rw (order-is, g); count = refl; len = λ k. absurd (omega arith); same = λ k. absurd (omega arith); sound = λ k. absurd (omega arith) })
-
-  module _ (c : Cursor) (t : Tally) (g : w ≡ true) (s : Started line matches c) (y : Tallied P line matches c places t) where
-    left-length : length (remaining P line matches c) ≡ length (read P matches line)
-    left-length = ap length (s .same P) ∙ records-length (read P matches line)
-
-    pub plan-full : (r : Reading) → t .more ≡ true → r ≡ refusedBy 4 → Planned P line matches places r
-    unfolding laterQuestions counted
-    plan-full r h k =
-        let q : leb (length (read P matches line)) places ≡ false = lt-leb (length (read P matches line)) places (omega (arith, left-length, ltb-true places (length (remaining P line matches c)) (sym (y .more) ∙ h))) in
-        rw k (record { number = rw (order-is, g, q); count = refl; len = λ j. absurd (omega arith); same = λ j. absurd (omega arith); sound = λ j. absurd (omega arith) })
-
-    pub plan-fits : t .more ≡ false → Planned P line matches places (record { number = 0; count = t .count; len = length line; cursor = c })
-    unfolding laterQuestions counted
-    plan-fits h =
-        let q : leb (length (read P matches line)) places ≡ true = le-leb (length (read P matches line)) places (omega (arith, left-length, ltb-false places (length (remaining P line matches c)) (sym (y .more) ∙ h))) in
-        record { number = rw (order-is, g, q); count = y .count h ∙ left-length; len = λ j. refl; same = λ j. s .same P; sound = λ j. s .sound }
-
--- ---- `next_reading`
-
-module _ (p : code.Profile) (conv matches : List ℕ) (r : Reading) (z : Holds conv matches r) where
-  pub held-fits : r .number ≡ 0 → r .len ≤ length conv
-  held-fits e = z e .fits
-
-  pub held-ready : (d : Cursor) → r .number ≡ 0 → d ≡ uncounted (r .cursor) → Counting (take (r .len) conv) matches d
-  held-ready d e f = uncounted-ready (take (r .len) conv) matches (r .cursor) d (z e .sound) f
-
-  pub held-next : (d : Cursor) (n : NextRecord) → r .number ≡ 0 → d ≡ uncounted (r .cursor) → Nexted (profileOf p) (take (r .len) conv) matches d n
-      → NextHolds conv matches r (record { span = n .span; reading = record { number = 0; count = r .count; len = r .len; cursor = n .cursor } })
-  unfolding recordsOf profileOf
-  held-next d n e f m =
-      let k : remaining profile01 (take (r .len) conv) matches d ≡ remaining profile01 (take (r .len) conv) matches (r .cursor) = ap (remaining profile01 (take (r .len) conv) matches) f ∙ uncounted-same profile01 (take (r .len) conv) matches (r .cursor) in
-      let g : eqb (r .number) 0 ≡ true = eq-eqb (r .number) 0 e in
-      record { head = rw g (m .head ∙ ap firstRecord k); tail = rw g (m .tail ∙ ap (drop 1) k); holds = λ h. record { fits = z e .fits; sound = m .sound } }
-
-pub none-next : (conv matches : List ℕ) (r : Reading) → (r .number ≡ 0 → ⊥) → NextHolds conv matches r (record { span = aRecord 0 0 0 0; reading = r })
-unfolding recordsOf firstRecord
-none-next conv matches r h = let g : eqb (r .number) 0 ≡ false = ne-eqb (r .number) 0 h in record { head = rw g; tail = rw g; holds = λ e. absurd (h e) }
-
--- ---- places
-
-padded-none : (n : ℕ) → padded n [] ≡ replicate n noRecord
-unfolding padded firstRecord
-padded-none zero = refl
-padded-none (suc n) = ap (λ (l : List Record). noRecord ∷ l) (padded-none n)
-
-padded-some : (n : ℕ) (rs : List Record) → length rs ≤ n → padded n rs ≡ rs ++ replicate (n - length rs) noRecord
-unfolding padded firstRecord
-padded-some zero [] h = refl
-padded-some (suc n) [] h = let k : suc n - 0 ≡ suc n = omega arith in rw k (padded-none (suc n))
-padded-some zero (r ∷ rs) h = absurd (omega arith)
-padded-some (suc n) (r ∷ rs) h = let k : suc n - suc (length rs) ≡ n - length rs = omega arith in rw k (ap (λ (l : List Record). r ∷ l) (padded-some n rs (omega arith)))
+  pub plan-refuses : (r : Reading) → w ≡ false → r ≡ refusedBy 3 → Planned line matches places r
+  plan-refuses r f g = rw g (record { number = rw (← e, f); begins = λ k. absurd (omega arith); refuses = λ _. refl })
 
 -- ---- `prepare`
-
-later-room : (s matches : List ℕ) (places : ℕ) → laterQuestions profile01 s matches places ≡ 0 → length (read profile01 matches s) ≤ places
-unfolding laterQuestions
-later-room s matches places e =
-    cases (inOrder (searchedLength s) 0 matches)
-    (λ f. cases (leb (length (read profile01 matches s)) places) (λ g. leb-true _ _ g) (λ g. absurd (let z : _≡_ {A = ℕ} 4 0 = rw (f, g) at e in omega arith)))
-    (λ f. absurd (let z : _≡_ {A = ℕ} 3 0 = rw f at e in omega arith))
 
 -- a refused call leaves zeros
 cleared : {A : Type 0} (blank : A) (n : ℕ) (xs : List A) (r : ℕ) → (r ≡ 0 → ⊥) → lent blank n xs r ≡ replicate n blank
@@ -207,16 +76,13 @@ both-pass line size e =
     (λ f. cases (leb (8 * length line) size) (λ g. record { first = f; second = g }) (λ g. absurd (let z : _≡_ {A = ℕ} 2 0 = rw (f, g) at e in omega arith)))
     (λ f. absurd (let z : _≡_ {A = ℕ} 1 0 = rw f at e in omega arith))
 
-call-later : (size places : ℕ) (matches line : List ℕ) → two-questions line size ≡ 0
-    → (let s : List ℕ = convert profile01 line in let L : ℕ = laterQuestions profile01 s matches places in
-    readCall profile01 size places matches line ≡ record { number = L; count = counted (length (read profile01 matches s)) L; conv = lent 0 size s L; spans = lent noRecord places (records (read profile01 matches s)) L })
-unfolding readCall decide laterQuestions
-call-later size places matches line e = let b = both-pass line size e in rw (b .first, b .second)
+first-passed : (size : ℕ) (matches line : List ℕ) → two-questions line size ≡ 0 → firstQuestions size matches line ≡ thirdQuestion (convert profile01 line) matches
+unfolding firstQuestions decide
+first-passed size matches line e = let b = both-pass line size e in rw (b .first, b .second)
 
-call-refused : (size places : ℕ) (matches line : List ℕ) (k : ℕ) → two-questions line size ≡ k → (k ≡ 0 → ⊥)
-    → readCall profile01 size places matches line ≡ record { number = k; count = 0; conv = replicate size 0; spans = replicate places noRecord }
-unfolding readCall two-questions decide counted lent
-call-refused size places matches line k e h =
+first-refused : (size : ℕ) (matches line : List ℕ) (k : ℕ) → two-questions line size ≡ k → (k ≡ 0 → ⊥) → firstQuestions size matches line ≡ k
+unfolding firstQuestions two-questions decide
+first-refused size matches line k e h =
     cases (leb (length line) 4096)
     (λ f. cases (leb (8 * length line) size)
     (λ g. absurd (h (sym (rw (f, g) at e))))
@@ -224,16 +90,16 @@ call-refused size places matches line k e h =
     (λ f. let z : 1 ≡ k = rw f at e in rw (← z, f))
 
 module _ (line matches : List ℕ) (size places : ℕ) (a : Answer) (zs : List ℕ) (e : converted a zs ≡ convertCall profile01 size line) where
-  number-is : two-questions line size ≡ a .number
+  questions-are : two-questions line size ≡ a .number
   unfolding convertCall two-questions
-  number-is = sym (ap (λ (x : Converted). x .number) e)
+  questions-are = sym (ap (λ (x : Converted). x .number) e)
 
   abbrev s : List ℕ
   s = convert profile01 line
 
   module _ (h : a .number ≡ 0) where
     passed : two-questions line size ≡ 0
-    passed = number-is ∙ h
+    passed = questions-are ∙ h
 
     count-is : a .count ≡ length s
     unfolding convertCall counted two-questions
@@ -258,50 +124,341 @@ module _ (line matches : List ℕ) (size places : ℕ) (a : Answer) (zs : List �
     pub line-small : length (take (a .count) zs) ≤ 65536
     line-small = let b = both-pass line size passed in rw line-is (omega (arith, convert-size profile01 line, leb-true (length line) 4096 (b .first)))
 
-    module _ (p : code.Profile) (r : Reading) (w : Planned (profileOf p) (take (a .count) zs) matches places r) where
-      plan-is : Planned profile01 s matches places r
-      unfolding profileOf
-      plan-is = rw line-is at w
-
-      answer-is : (conv : List ℕ) → conv ≡ lent 0 size s (r .number) → padded places (recordsOf conv matches r) ≡ lent noRecord places (records (read profile01 matches s)) (r .number)
-          → readAs (answerOf r) conv (padded places (recordsOf conv matches r)) ≡ readCall profile01 size places matches line
-      answer-is conv f g = let y = plan-is in sym (call-later size places matches line passed ∙ rw (← (y .number), ← f, ← g, ← (y .count)))
-
-      pub prepare-done : r .number ≡ 0 → Prepared line matches size zs places r
-      unfolding lent recordsOf laterQuestions
-      prepare-done k =
-          let y = plan-is in
-          let l : r .len ≡ length s = y .len k in
-          let t : take (r .len) zs ≡ s = ap₂ take l conv-is ∙ take-append-seam s (replicate (size - length s) 0) in
-          let g : eqb (r .number) 0 ≡ true = eq-eqb (r .number) 0 k in
-          let ss : List Span = read profile01 matches s in
-          let o : recordsOf zs matches r ≡ records ss = rw (g, t) (y .same k) in
-          let m : length (records ss) ≤ places = rw (records-length ss) (later-room s matches places (sym (y .number) ∙ k)) in
-          record {
-            holds = λ j. record { fits = omega (arith, l, conv-length, fits); sound = rw t (y .sound k) };
-            outcome = answer-is zs (rw k conv-is) (rw (o, k) (padded-some places (records ss) m));
-            lengths = conv-length;
-          }
-
-      pub prepare-cleared : (out : List ℕ) → (r .number ≡ 0 → ⊥) → out ≡ take 0 zs ++ replicate (length zs - 0) 0 → Prepared line matches size out places r
-      unfolding recordsOf
-      prepare-cleared out k f =
-          let n : length zs - 0 ≡ size = omega (arith, conv-length) in
-          let c : out ≡ replicate size 0 = f ∙ ap (λ (n : ℕ). replicate n 0) n in
-          let g : eqb (r .number) 0 ≡ false = ne-eqb (r .number) 0 k in
-          record {
-            holds = λ j. absurd (k j);
-            outcome = answer-is out (c ∙ sym (cleared 0 size s (r .number) k)) (rw g (padded-none places ∙ sym (cleared noRecord places (records (read profile01 matches s)) (r .number) k)));
-            lengths = ap length c ∙ length-replicate size 0;
-          }
+    pub prepare-done : (r : Reading) → Planned (take (a .count) zs) matches places r → Prepared line matches size zs places r
+    prepare-done r w =
+        let y : Planned s matches places r = rw line-is at w in
+        record {
+          number = y .number ∙ sym (first-passed size matches line passed);
+          begins = λ k. record { conv = conv-is; fits = fits; starts = y .begins k };
+          refuses = y .refuses;
+          lengths = conv-length;
+        }
 
   pub prepare-refused : (r : Reading) → (a .number ≡ 0 → ⊥) → r ≡ refusedBy (a .number) → Prepared line matches size zs places r
-  unfolding recordsOf convertCall two-questions
+  unfolding convertCall two-questions
   prepare-refused r h f =
-      let g : eqb (a .number) 0 ≡ false = ne-eqb (a .number) 0 h in
-      let c : zs ≡ replicate size 0 = ap (λ (x : Converted). x .conv) e ∙ cleared 0 size s (two-questions line size) (λ j. h (sym number-is ∙ j)) in
+      let c : zs ≡ replicate size 0 = ap (λ (x : Converted). x .conv) e ∙ cleared 0 size s (two-questions line size) (λ j. h (sym questions-are ∙ j)) in
       rw f (record {
-        holds = λ j. absurd (h j);
-        outcome = sym (call-refused size places matches line (a .number) number-is h ∙ rw (← c, g, padded-none places));
+        number = sym (first-refused size matches line (a .number) questions-are h);
+        begins = λ k. absurd (h k);
+        refuses = λ _. refl;
         lengths = ap length c ∙ length-replicate size 0;
       })
+
+-- ---- `next_reading`
+
+-- a step counts a record where there is one
+step-counts : (R S : List Record) (a b : ℕ) → S ≡ drop 1 R → b + length S ≡ a + length R → ltb a b ≡ ltb 0 (length R)
+step-counts [] S a b t c = let k : length S ≡ 0 = ap length t in le-ltb a b (omega arith)
+step-counts (r ∷ R) S a b t c = let k : length S ≡ length R = ap length t in lt-ltb a b (omega arith) ∙ sym (lt-ltb 0 (suc (length R)) (omega arith))
+
+module _ (p : code.Profile) (conv matches : List ℕ) (r : Reading) (z : Ongoing conv matches r) where
+  pub ongoing-fits : r .len ≤ length conv
+  ongoing-fits = z .held .fits
+
+  pub ongoing-ready : Counting (take (r .len) conv) matches (r .cursor)
+  ongoing-ready = record { sound = z .held .sound; counts = z .counts }
+
+  pub ongoing-next : (n : NextRecord) (k : ℕ) → Nexted (profileOf p) (take (r .len) conv) matches (r .cursor) n → k ≡ cond (ltb (r .cursor .count) (n .cursor .count)) (r .places) 0
+      → NextHolds conv matches r (record { span = n .span; reading = record { number = 0; len = r .len; places = k; cursor = n .cursor } })
+  unfolding recordsOf profileOf
+  ongoing-next n k m e =
+      let g : eqb (r .number) 0 ≡ true = eq-eqb (r .number) 0 (z .accepted) in
+      let R : List Record = remaining profile01 (take (r .len) conv) matches (r .cursor) in
+      let S : List Record = remaining profile01 (take (r .len) conv) matches (n .cursor) in
+      record {
+        head = rw g (m .head);
+        tail = rw g (m .tail);
+        count = rw g (m .count);
+        places = rw g (e ∙ ap (λ (b : Bool). cond b (r .places) 0) (step-counts R S (r .cursor .count) (n .cursor .count) (m .tail) (m .count)));
+        accepted = refl;
+        held = record { fits = z .held .fits; sound = m .sound };
+      }
+
+-- ---- `fill`
+
+-- the list so far and the reading before its place i
+pub record Going (conv matches : List ℕ) (start : Reading) (n i : ℕ) (c : Reading) (ws : List Record) : Type 0 where
+  pub number : c .number ≡ start .number
+  pub holds : Holds conv matches c
+  pub same : take (c .cursor .count) ws ++ recordsOf conv matches c ≡ recordsOf conv matches start
+  pub few : c .cursor .count ≤ n
+  pub accepted : 0 < c .places → c .number ≡ 0
+  pub places : 0 < c .places → c .places ≡ n
+  pub count : 0 < c .places → c .cursor .count ≡ i
+  pub full : c .places ≡ 0 → 0 < length (recordsOf conv matches c) → n ≤ c .cursor .count
+
+take-set : {A : Type 0} (ws : List A) (i : ℕ) (x : A) → take i (set ws i x) ≡ take i ws
+take-set [] zero x = refl
+take-set [] (suc i) x = refl
+take-set (w ∷ ws) zero x = refl
+take-set {A} (w ∷ ws) (suc i) x = ap (λ (l : List A). w ∷ l) (take-set ws i x)
+
+take-set-next : {A : Type 0} (ws : List A) (i : ℕ) (x : A) → i < length ws → take (suc i) (set ws i x) ≡ take i ws ++ x ∷ []
+take-set-next [] i x h = absurd (not-suc-le-zero h)
+take-set-next (w ∷ ws) zero x h = refl
+take-set-next {A} (w ∷ ws) (suc i) x h = ap (λ (l : List A). w ∷ l) (take-set-next ws i x (le-of-suc-le-suc h))
+
+pub fill-begins : (conv matches : List ℕ) (start : Reading) (ws : List Record) → Fillable conv matches (length ws) start → Going conv matches start (length ws) 0 start ws
+unfolding recordsOf
+fill-begins conv matches start ws z =
+    record {
+      number = refl;
+      holds = z .holds;
+      same = ap (λ (k : ℕ). take k ws ++ recordsOf conv matches start) (z .count);
+      few = rw (z .count) (omega arith);
+      accepted = λ h. cases (eqb (start .number) 0) (λ f. eqb-true (start .number) 0 f) (λ f. absurd (let k : start .places ≡ 0 = z .places ∙ rw f in omega arith));
+      places = λ h. cases (eqb (start .number) 0) (λ f. z .places ∙ rw f) (λ f. absurd (let k : start .places ≡ 0 = z .places ∙ rw f in omega arith));
+      count = λ h. z .count;
+      full = λ h k. cases (eqb (start .number) 0) (λ f. let j : start .places ≡ length ws = z .places ∙ rw f in omega arith) (λ f. absurd (let j : 0 < length {A = Record} [] = rw f at k in omega arith));
+    }
+
+module _ (conv matches : List ℕ) (start : Reading) (n i : ℕ) (c : Reading) (ws : List Record) (z : Going conv matches start n i c ws) where
+  module _ (h : i < c .places) where
+    some-place : 0 < c .places
+    some-place = omega arith
+
+    pub going-within : i < n
+    going-within = omega (arith, z .places some-place)
+
+    pub going-ongoing : n < 18446744073709551616 → Ongoing conv matches c
+    going-ongoing k = let e : c .number ≡ 0 = z .accepted some-place in record { accepted = e; held = z .holds e; counts = omega (arith, z .count some-place, going-within) }
+
+    pub going-turn : length ws ≡ n → (x : NextReading) → NextHolds conv matches c x → Going conv matches start n (i + 1) (x .reading) (set ws i (x .span))
+    unfolding firstRecord
+    going-turn l x m = go (recordsOf conv matches c) refl
+      where
+        k : ℕ
+        k = x .reading .cursor .count
+
+        i-is : c .cursor .count ≡ i
+        i-is = z .count some-place
+
+        before : take i ws ++ recordsOf conv matches c ≡ recordsOf conv matches start
+        before = ap (λ (j : ℕ). take j ws ++ recordsOf conv matches c) (sym i-is) ∙ z .same
+
+        go : (R : List Record) → recordsOf conv matches c ≡ R → Going conv matches start n (i + 1) (x .reading) (set ws i (x .span))
+        go [] e =
+            let t : recordsOf conv matches (x .reading) ≡ [] = m .tail ∙ ap (drop 1) e in
+            let q : k ≡ i = omega (arith, m .count, ap length t, ap length e, i-is) in
+            let p : x .reading .places ≡ 0 = m .places ∙ rw e in
+            record {
+              number = m .accepted ∙ sym (z .accepted some-place) ∙ z .number;
+              holds = λ _. m .held;
+              same = ap₂ (λ (j : ℕ) (l : List Record). take j (set ws i (x .span)) ++ l) q t ∙ ap (λ (l : List Record). l ++ []) (take-set ws i (x .span)) ∙ ap (λ (l : List Record). take i ws ++ l) (sym e) ∙ before;
+              few = omega (arith, going-within);
+              accepted = λ _. m .accepted;
+              places = λ j. absurd (omega arith);
+              count = λ j. absurd (omega arith);
+              full = λ _ j. absurd (omega (arith, ap length t));
+            }
+        go (y ∷ R) e =
+            let t : recordsOf conv matches (x .reading) ≡ R = m .tail ∙ ap (drop 1) e in
+            let q : k ≡ suc i = omega (arith, m .count, ap length t, ap length e, i-is) in
+            let p : x .reading .places ≡ c .places = m .places ∙ rw (e, lt-ltb 0 (suc (length R)) (omega arith)) in
+            let f : x .span ≡ y = m .head ∙ ap firstRecord e in
+            record {
+              number = m .accepted ∙ sym (z .accepted some-place) ∙ z .number;
+              holds = λ _. m .held;
+              same = ap₂ (λ (j : ℕ) (l : List Record). take j (set ws i (x .span)) ++ l) q t
+                  ∙ ap (λ (l : List Record). l ++ R) (take-set-next ws i (x .span) (omega (arith, going-within, l)))
+                  ∙ append-assoc (take i ws) (x .span ∷ []) R
+                  ∙ ap (λ (u : Record). take i ws ++ u ∷ R) f ∙ ap (λ (l : List Record). take i ws ++ l) (sym e) ∙ before;
+              few = omega (arith, going-within);
+              accepted = λ _. m .accepted;
+              places = λ _. p ∙ z .places some-place;
+              count = λ _. omega arith;
+              full = λ j. absurd (omega arith);
+            }
+
+  pub going-done : length ws ≡ n → c .places ≤ i → Filled conv matches ws start c
+  going-done l h =
+      record {
+        number = z .number;
+        holds = z .holds;
+        same = z .same;
+        fits = omega (arith, z .few);
+        full = λ k. cases (eqb (c .places) 0)
+            (λ f. omega (arith, z .full (eqb-true (c .places) 0 f) k))
+            (λ f. let j : 0 < c .places = cases (ltb 0 (c .places)) (λ g. ltb-true 0 (c .places) g) (λ g. absurd (eqb-false (c .places) 0 f (omega (arith, ltb-false 0 (c .places) g)))) in omega (arith, z .places j, z .count j));
+      }
+
+-- ---- `finish`
+
+module _ (conv matches : List ℕ) (r : Reading) (z : Holds conv matches r) where
+  pub number-fits : r .number ≡ 0 → r .len ≤ length conv
+  number-fits e = z e .fits
+
+  pub number-sound : r .number ≡ 0 → Sound (take (r .len) conv) matches (r .cursor)
+  number-sound e = z e .sound
+
+  module _ (e : r .number ≡ 0) (w : Bool) (f : (P : Profile) → w ≡ ltb 0 (length (remaining P (take (r .len) conv) matches (r .cursor)))) where
+    number-by : numberOf conv matches r ≡ cond w 4 0
+    unfolding numberOf recordsOf
+    number-by = rw (eq-eqb (r .number) 0 e, ← (f profile01))
+
+    pub number-more : w ≡ true → 4 ≡ numberOf conv matches r
+    number-more g = sym (number-by ∙ rw g)
+
+    pub number-all : w ≡ false → r .number ≡ numberOf conv matches r
+    number-all g = e ∙ sym (number-by ∙ rw g)
+
+  pub number-same : (r .number ≡ 0 → ⊥) → r .number ≡ numberOf conv matches r
+  unfolding numberOf
+  number-same h = rw (ne-eqb (r .number) 0 h)
+
+module _ (conv matches : List ℕ) (r : Reading) (k : ℕ) (e : k ≡ numberOf conv matches r) where
+  pub finish-accepted : k ≡ 0 → Finished conv matches r conv (record { number = 0; count = r .cursor .count })
+  unfolding counted
+  finish-accepted h = record { number = sym h ∙ e; count = refl; kept = λ _. refl; cleared = λ j. absurd (j refl) }
+
+  pub finish-refused : (out : List ℕ) → (k ≡ 0 → ⊥) → out ≡ take 0 conv ++ replicate (length conv - 0) 0 → Finished conv matches r out (record { number = k; count = 0 })
+  unfolding counted
+  finish-refused out h f =
+      let n : length conv - 0 ≡ length conv = omega arith in
+      record { number = e; count = sym (none k h); kept = λ j. absurd (h j); cleared = λ _. f ∙ ap (λ (j : ℕ). replicate j 0) n }
+    where
+      none : (k : ℕ) → (k ≡ 0 → ⊥) → counted (r .cursor .count) k ≡ 0
+      none zero h = absurd (h refl)
+      none (suc k) h = refl
+
+-- ---- `read`
+
+abbrev number-at : (size places : ℕ) (matches line : List ℕ) → ℕ
+number-at size places matches line =
+    let F : ℕ = firstQuestions size matches line in
+    cond (eqb F 0) (cond (leb (length (read profile01 matches (convert profile01 line))) places) 0 4) F
+
+-- what the call leaves if it decides k
+abbrev leaves : (size places : ℕ) (matches line : List ℕ) → ℕ → Read
+leaves size places matches line k =
+    let s : List ℕ = convert profile01 line in
+    let ss : List Span = read profile01 matches s in
+    record { number = k; count = counted (length ss) k; conv = lent 0 size s k; spans = lent noRecord places (records ss) k }
+
+call-is : (size places : ℕ) (matches line : List ℕ) → readCall profile01 size places matches line ≡ leaves size places matches line (number-at size places matches line)
+unfolding readCall firstQuestions decide
+call-is size places matches line =
+    let s : List ℕ = convert profile01 line in
+    cases (leb (length line) 4096)
+    (λ f. cases (leb (8 * length line) size)
+    (λ g. cases (inOrder (searchedLength s) 0 matches) (λ h. rw (f, g, h)) (λ h. rw (f, g, h)))
+    (λ g. rw (f, g)))
+    (λ f. rw f)
+
+records-length : (ss : List Span) → length (records ss) ≡ length ss
+unfolding records
+records-length ss = length-map ss recordOf
+
+pub fill-ready : (line matches : List ℕ) (size : ℕ) (conv : List ℕ) (places : ℕ) (r : Reading) → Prepared line matches size conv places r → Fillable conv matches places r
+fill-ready line matches size conv places r p =
+    cases (eqb (r .number) 0)
+    (λ f.
+    let k : r .number ≡ 0 = eqb-true (r .number) 0 f in
+    let b = p .begins k in
+    let t : take (r .len) conv ≡ convert profile01 line = ap₂ take (b .starts .len) (b .conv) ∙ take-append-seam (convert profile01 line) (replicate (size - length (convert profile01 line)) 0) in
+    record {
+      holds = λ _. record { fits = omega (arith, b .starts .len, b .fits, p .lengths); sound = rw t (b .starts .sound) };
+      places = rw f (b .starts .places);
+      count = b .starts .count;
+    })
+    (λ f.
+    let k : r .number ≡ 0 → ⊥ = eqb-false (r .number) 0 f in
+    let e : r ≡ refusedBy (r .number) = p .refuses k in
+    record { holds = λ j. absurd (k j); places = rw f (ap (λ (x : Reading). x .places) e); count = ap (λ (x : Reading). x .cursor .count) e })
+
+take-length : {A : Type 0} (k : ℕ) (ws : List A) → k ≤ length ws → length (take k ws) ≡ k
+take-length zero ws h = refl
+take-length (suc k) [] h = absurd (not-suc-le-zero h)
+take-length (suc k) (w ∷ ws) h = ap suc (take-length k ws (le-of-suc-le-suc h))
+
+no-length : {A : Type 0} (l : List A) → length l ≡ 0 → l ≡ []
+no-length [] h = refl
+no-length (x ∷ l) h = absurd (omega arith)
+
+module _ (line matches : List ℕ) (size places : ℕ) (conv : List ℕ) (start : Reading) (p : Prepared line matches size conv places start)
+    (list : List Record) (r : Reading) (f : Filled conv matches list start r) (many : length list ≡ places) (out : List ℕ) (a : Answer) (g : Finished conv matches r out a) where
+  abbrev cs : List ℕ
+  cs = convert profile01 line
+
+  abbrev rs : List Record
+  rs = records (read profile01 matches cs)
+
+  abbrev F : ℕ
+  F = firstQuestions size matches line
+
+  first-is : r .number ≡ F
+  first-is = f .number ∙ p .number
+
+  module _ (e : F ≡ 0) where
+    start-is : recordsOf conv matches start ≡ rs
+    unfolding recordsOf
+    start-is =
+        let k : start .number ≡ 0 = p .number ∙ e in
+        let b = p .begins k in
+        let t : take (start .len) conv ≡ cs = ap₂ take (b .starts .len) (b .conv) ∙ take-append-seam cs (replicate (size - length cs) 0) in
+        rw (eq-eqb (start .number) 0 k, t) (b .starts .same profile01)
+
+    all-is : take (r .cursor .count) list ++ recordsOf conv matches r ≡ rs
+    all-is = f .same ∙ start-is
+
+    total : r .cursor .count + length (recordsOf conv matches r) ≡ length (read profile01 matches cs)
+    total =
+        ap (λ (k : ℕ). k + length (recordsOf conv matches r)) (sym (take-length (r .cursor .count) list (f .fits)))
+        ∙ sym (length-append (take (r .cursor .count) list) (recordsOf conv matches r)) ∙ ap length all-is ∙ records-length (read profile01 matches cs)
+
+    four-is : _≡_ {A = ℕ} (cond (ltb 0 (length (recordsOf conv matches r))) 4 0) (cond (leb (length (read profile01 matches cs)) places) 0 4)
+    four-is =
+        cases (ltb 0 (length (recordsOf conv matches r)))
+        (λ h. let k : 0 < length (recordsOf conv matches r) = ltb-true 0 (length (recordsOf conv matches r)) h in rw (h, lt-leb (length (read profile01 matches cs)) places (omega (arith, f .full k, total, many))))
+        (λ h. rw (h, le-leb (length (read profile01 matches cs)) places (omega (arith, ltb-false 0 (length (recordsOf conv matches r)) h, total, f .fits, many))))
+
+  number-is : a .number ≡ cond (eqb F 0) (cond (ltb 0 (length (recordsOf conv matches r))) 4 0) F
+  unfolding numberOf
+  number-is = g .number ∙ ap (λ (k : ℕ). cond (eqb k 0) (cond (ltb 0 (length (recordsOf conv matches r))) 4 0) k) first-is
+
+  answer-is : a .number ≡ number-at size places matches line
+  answer-is = number-is ∙ cases (eqb F 0) (λ h. rw h (four-is (eqb-true F 0 h))) (λ h. rw h)
+
+  module _ (k : a .number ≡ 0) where
+    accepted-first : F ≡ 0
+    accepted-first =
+        cases (eqb F 0) (λ h. eqb-true F 0 h) (λ h. absurd (eqb-false F 0 h (sym (answer-is ∙ rw h) ∙ k)))
+
+    none-left : recordsOf conv matches r ≡ []
+    none-left =
+        no-length (recordsOf conv matches r) (cases (ltb 0 (length (recordsOf conv matches r)))
+        (λ h. absurd (let z : _≡_ {A = ℕ} 4 0 = sym (number-is ∙ rw (eq-eqb F 0 accepted-first, h)) ∙ k in omega arith))
+        (λ h. omega (arith, ltb-false 0 (length (recordsOf conv matches r)) h)))
+
+    counted-is : a .count ≡ r .cursor .count
+    unfolding counted
+    counted-is = g .count ∙ ap (counted (r .cursor .count)) k
+
+    written : take (a .count) list ≡ rs
+    written = ap (λ (n : ℕ). take n list) counted-is ∙ sym (append-nil (take (r .cursor .count) list)) ∙ ap (λ (l : List Record). take (r .cursor .count) list ++ l) (sym none-left) ∙ all-is accepted-first
+
+    accepted : (list′ : List Record) → list′ ≡ take (a .count) list ++ replicate (length list - a .count) noRecord → readAs a out list′ ≡ leaves size places matches line 0
+    unfolding lent counted
+    accepted list′ h =
+        let n : a .count ≡ length (read profile01 matches cs) = omega (arith, counted-is, total accepted-first, ap length none-left) in
+        let m : length list - a .count ≡ places - length rs = omega (arith, many, n, records-length (read profile01 matches cs)) in
+        let u : list′ ≡ rs ++ replicate (places - length rs) noRecord = h ∙ ap₂ (λ (l : List Record) (j : ℕ). l ++ replicate j noRecord) written m in
+        let v : out ≡ cs ++ replicate (size - length cs) 0 = g .kept k ∙ p .begins (p .number ∙ accepted-first) .conv in
+        rw (k, n, u, v)
+
+  refused : (list′ : List Record) → (j : ℕ) → a .number ≡ suc j → list′ ≡ take (a .count) list ++ replicate (length list - a .count) noRecord → readAs a out list′ ≡ leaves size places matches line (suc j)
+  unfolding lent counted
+  refused list′ j k h =
+      let n : a .count ≡ 0 = g .count ∙ ap (counted (r .cursor .count)) k in
+      let m : length list - 0 ≡ places = omega (arith, many) in
+      let u : list′ ≡ replicate places noRecord = h ∙ ap (λ (x : ℕ). take x list ++ replicate (length list - x) noRecord) n ∙ ap (λ (x : ℕ). replicate x noRecord) m in
+      let v : out ≡ replicate size 0 = g .cleared (λ q. absurd (omega arith)) ∙ ap (λ (x : ℕ). replicate x 0) (p .lengths) in
+      rw (k, n, u, v)
+
+  pub read-done : (list′ : List Record) → list′ ≡ take (a .count) list ++ replicate (length list - a .count) noRecord → readAs a out list′ ≡ readCall profile01 size places matches line
+  read-done list′ h = go (a .number) refl
+    where
+      go : (k : ℕ) → a .number ≡ k → readAs a out list′ ≡ readCall profile01 size places matches line
+      go zero k = accepted k list′ h ∙ ap (leaves size places matches line) (sym k ∙ answer-is) ∙ sym (call-is size places matches line)
+      go (suc j) k = refused list′ j k h ∙ ap (leaves size places matches line) (sym k ∙ answer-is) ∙ sym (call-is size places matches line)

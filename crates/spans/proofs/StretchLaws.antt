@@ -7,10 +7,10 @@ use native.Mathlib.Omega.{arith}
 use mathlib.Core.Bool.{Bool, true, false, cond, _&&_, _||_, or-true}
 use mathlib.Core.List.{List, [], _∷_, _++_, map, append-assoc, append-nil}
 use mathlib.Core.Option.{Option, none, some}
-use lib.ListN.{length, take, drop, getD, drop-of-length-le, length-take, length-append}
+use lib.ListN.{length, take, drop, getD, drop-of-length-le, length-take, length-append, length-map}
 use lib.Seq.{drop-cons, take-all, length-take-le}
 use lib.Dec.{T, eqb, leb, ltb, leb→le, ltb→lt, nltb→le}
-use borrow.Author.Tests.{le-leb, lt-leb, leb-true, leb-false, ltb-true}
+use borrow.Author.Tests.{le-leb, lt-leb, leb-true, leb-false, ltb-true, ltb-false, lt-ltb}
 use Rattle.text.specs.Tests.{cases, and-T, or-T, or-false, true-T, is-true}
 use Rattle.text.specs.Utf8.{decode, decodeFrom, runs}
 use Rattle.text.specs.Class.{Profile}
@@ -19,7 +19,8 @@ use Rattle.text.specs.Code.{profileOf}
 use Rattle.spans.specs.Search.{trimmed, escapes, searchedLength, inOrder, offsetFrom, readPart, readMatches, read}
 use Rattle.spans.specs.Spans.{Span, spansAt, spans, readPieces, Record, aRecord, recordOf, records}
 use Rattle.spans.specs.Spans.Laws.{map-append}
-use Rattle.spans.specs.Contracts.{clipped, spent, withoutNewline, pending, behindStretch, remaining, orderFrom, stretchesLeft, Sound, Opening, Opened, Waiting, Going, Moved, Settled, Counting, firstRecord, Nexted, Begun, Started, OffsetsFrom, OffsetReady, OffsetAt, recordsFrom, matchIn, Fresh, Ready, Stepped}
+use Rattle.spans.specs.Spans.Steps.{step-some}
+use Rattle.spans.specs.Contracts.{clipped, spent, withoutNewline, pending, behindStretch, remaining, orderFrom, stretchesLeft, Sound, Opening, Opened, Waiting, Going, Moved, Settled, Counting, firstRecord, Nexted, HasNext, Begun, Started, OffsetsFrom, OffsetReady, OffsetAt, recordsFrom, matchIn, Fresh, Ready, Stepped}
 use Rattle.spans.specs.declared.search.Offset.{Offset}
 use Rattle.spans.specs.declared.search.Offsets.{Offsets}
 use Rattle.spans.specs.declared.reader.Matched.{Matched}
@@ -272,6 +273,20 @@ module _ (line matches : List ℕ) (c d : Cursor) (z : SettleLoop line matches c
 pub clip-fits : (a b end : ℕ) → end ≡ clipped a b → end ≤ b
 clip-fits a b end e = rw e (cases (leb a b) (λ f. rw f (leb-true a b f)) (λ f. rw f (omega arith)))
 
+-- behind the last span nothing is left
+nothing-left : (line matches : List ℕ) (c d : Cursor) (s : Settled line matches c d) (end : ℕ) → end ≡ clipped (d .end) (length line) → (P : Profile) → end ≤ d .place .at → remaining P line matches d ≡ []
+unfolding remaining behindStretch pending records
+nothing-left line matches c d s end e P h =
+    let k : length (take (d .end) line) ≤ d .place .at = rw (stretch-length line (d .end), ← e) h in
+    let t : (leb (d .end) (d .place .at) || leb (length line) (d .place .at)) ≡ true =
+    cases (leb (d .end) (length line))
+    (λ f. let a : end ≡ d .end = e ∙ rw f in rw (le-leb (d .end) (d .place .at) (omega arith)))
+    (λ f. let a : end ≡ length line = e ∙ rw f in rw (le-leb (length line) (d .place .at) (omega arith), or-true)) in
+    let u : (d .matched .inside || ltb (d .index) (length matches)) ≡ false = rw t at (s .settled) in
+    let v = or-false (d .matched .inside) (ltb (d .index) (length matches)) u in
+    let w : drop (d .index) matches ≡ [] = drop-of-length-le matches {i = d .index} (nltb→le _ _ (rw (v .1) tt)) in
+    rw (no-records P (d .matched) (take (d .end) line) (d .place .at) k, v .0, w)
+
 module _ (line matches : List ℕ) (c d : Cursor) (z : Counting line matches c) (s : Settled line matches c d) (end : ℕ) (e : end ≡ clipped (d .end) (length line)) where
   end-fits : end ≤ length line
   end-fits = clip-fits (d .end) (length line) end e
@@ -289,20 +304,6 @@ module _ (line matches : List ℕ) (c d : Cursor) (z : Counting line matches c) 
 
   pub count-room : d .count < 18446744073709551615
   count-room = rw (s .count) (z .counts)
-
-  -- behind the last span nothing is left
-  nothing-left : (P : Profile) → end ≤ d .place .at → remaining P line matches d ≡ []
-  unfolding remaining behindStretch pending records
-  nothing-left P h =
-      let k : length (take (d .end) line) ≤ d .place .at = rw (stretch-length line (d .end), ← e) h in
-      let t : (leb (d .end) (d .place .at) || leb (length line) (d .place .at)) ≡ true =
-      cases (leb (d .end) (length line))
-      (λ f. let a : end ≡ d .end = e ∙ rw f in rw (le-leb (d .end) (d .place .at) (omega arith)))
-      (λ f. let a : end ≡ length line = e ∙ rw f in rw (le-leb (length line) (d .place .at) (omega arith), or-true)) in
-      let u : (d .matched .inside || ltb (d .index) (length matches)) ≡ false = rw t at (s .settled) in
-      let v = or-false (d .matched .inside) (ltb (d .index) (length matches)) u in
-      let w : drop (d .index) matches ≡ [] = drop-of-length-le matches {i = d .index} (nltb→le _ _ (rw (v .1) tt)) in
-      rw (no-records P (d .matched) (take (d .end) line) (d .place .at) k, v .0, w)
 
   module _ (P : Profile) where
     all-left : List Record → List Record
@@ -331,14 +332,34 @@ module _ (line matches : List ℕ) (c d : Cursor) (z : Counting line matches c) 
 
     pub record-none : (r : Record) → end ≤ d .place .at → r ≡ aRecord 0 0 0 0 → Nexted P line matches c (record { span = r; cursor = d })
     unfolding remaining all-left firstRecord
-    record-none r h e =
-        let k : remaining P line matches c ≡ [] = sym (s .same P) ∙ nothing-left P h in
+    record-none r h f =
+        let k : remaining P line matches c ≡ [] = sym (s .same P) ∙ nothing-left line matches c d s end e P h in
         record {
-          head = e ∙ sym (ap firstRecord k);
+          head = f ∙ sym (ap firstRecord k);
           tail = s .same P ∙ k ∙ sym (ap (drop 1) k);
           sound = s .sound;
           count = ap₂ (λ (a b : ℕ). a + b) (s .count) (ap length (s .same P));
         }
+
+-- ---- `has_next`
+
+some-records : (P : Profile) (m : Matched) (t : List ℕ) (at : ℕ) → at < length t → 0 < length (recordsFrom P m t at)
+unfolding recordsFrom records
+some-records P m t at h =
+    let d : drop at t ≡ getD t at 0 ∷ drop (suc at) t = drop-cons t at 0 h in
+    let k : 0 < length (spansAt P (matchIn m) at (drop at t)) = rw d (step-some P (matchIn m) at (getD t at 0) (drop (suc at) t)) in
+    rw (length-map (spansAt P (matchIn m) at (drop at t)) recordOf) k
+
+pub has-next-is : (line matches : List ℕ) (c d : Cursor) → Sound line matches c → Settled line matches c d → (end : ℕ) → end ≡ clipped (d .end) (length line) → HasNext line matches c (ltb (d .place .at) end)
+unfolding remaining
+has-next-is line matches c d z s end e P =
+    cases (ltb (d .place .at) end)
+    (λ f.
+    let k : d .place .at < length (take (d .end) line) = rw (stretch-length line (d .end), ← e) (ltb-true (d .place .at) end f) in
+    let n = some-records P (d .matched) (take (d .end) line) (d .place .at) k in
+    let l = length-append (recordsFrom P (d .matched) (take (d .end) line) (d .place .at)) (records (behindStretch P line (d .matched) (d .end) (drop (d .index) matches))) in
+    f ∙ sym (lt-ltb 0 (length (remaining P line matches c)) (omega (arith, n, l, ap length (s .same P)))))
+    (λ f. f ∙ sym (ap (λ (l : List Record). ltb 0 (length l)) (sym (s .same P) ∙ nothing-left line matches c d s end e P (ltb-false (d .place .at) end f))))
 
 -- ---- `begin`
 

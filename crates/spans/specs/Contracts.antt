@@ -5,14 +5,15 @@ use mathlib.Core.Logic.{_≢_}
 use mathlib.Core.Bool.{Bool, true, false, not, cond, _&&_, _||_}
 use mathlib.Core.Option.{Option, none, some}
 use mathlib.Core.List.{List, [], _∷_, _++_}
-use lib.ListN.{length, take, drop, getD}
+use lib.ListN.{length, take, drop, getD, replicate}
 use lib.Dec.{eqb, leb, ltb}
 use Rattle.text.specs.Utf8.{Scalar, decode, runOf, bytesOf}
 use Rattle.text.specs.Class.{Profile}
 use Rattle.text.specs.Cluster.{clusters}
 use Rattle.text.specs.Code.{size, firstSize}
 use Rattle.text.specs.Width.{profile01}
-use Rattle.text.specs.Calls.{counted}
+use Rattle.text.specs.Overstrike.{convert}
+use Rattle.text.specs.Calls.{decide, counted, question1, question2}
 use Rattle.text.specs.declared.Answer.{Answer}
 use Rattle.spans.specs.Sgr.{digit, parameters, allowed, coloured, ordersFrom, orders}
 use Rattle.spans.specs.Sequence.{Sequence, sgr, eraseToEnd, ignored, hyperlink, lineDrawing, Found, found, missing, leading, past, parameterByte, uriByte, closed}
@@ -23,10 +24,9 @@ use Rattle.spans.specs.declared.reader.Look.{Look}
 use Rattle.spans.specs.declared.reader.Place.{Place}
 use Rattle.spans.specs.declared.reader.Matched.{Matched}
 use Rattle.spans.specs.declared.reader.NextSpan.{NextSpan}
-use Rattle.spans.specs.Calls.{Read, readCall}
+use Rattle.spans.specs.Calls.{Read, question3}
 use Rattle.spans.specs.declared.Reading.{Reading}
 use Rattle.spans.specs.declared.NextReading.{NextReading}
-use Rattle.spans.specs.declared.Tally.{Tally}
 use Rattle.spans.specs.declared.stretches.Cursor.{Cursor}
 use Rattle.spans.specs.declared.stretches.NextRecord.{NextRecord}
 use Rattle.spans.specs.declared.search.Escape.{Escape}
@@ -437,6 +437,10 @@ pub record Nexted (P : Profile) (line matches : List ℕ) (c : Cursor) (r : Next
   pub sound : Sound line matches (r .cursor)
   pub count : r .cursor .count + length (remaining P line matches (r .cursor)) ≡ c .count + length (remaining P line matches c)
 
+-- has the reading a record before it?
+abbrev pub HasNext : List ℕ → List ℕ → Cursor → Bool → Type 0
+HasNext line matches c r = (P : Profile) → r ≡ ltb 0 (length (remaining P line matches c))
+
 pub record Begun (line matches : List ℕ) : Type 0 where
   pub small : length line ≤ 65536
   pub order : inOrder (searchedLength line) 0 matches ≡ true
@@ -448,33 +452,25 @@ pub record Started (line matches : List ℕ) (r : Cursor) : Type 0 where
 
 -- ---- the call `read`
 
--- the same place with no spans counted
-abbrev pub uncounted : Cursor → Cursor
-uncounted c = record { place = c .place; end = c .end; matched = c .matched; index = c .index; offsets = c .offsets; count = 0 }
-
-pub record TallyReady (line matches : List ℕ) (c : Cursor) : Type 0 where
-  pub sound : Sound line matches c
-  pub none : c .count ≡ 0
-
--- the number of spans, up to the number of places, and whether there are more
-pub record Tallied (P : Profile) (line matches : List ℕ) (c : Cursor) (places : ℕ) (r : Tally) : Type 0 where
-  pub more : r .more ≡ ltb places (length (remaining P line matches c))
-  pub count : r .more ≡ false → r .count ≡ length (remaining P line matches c)
-
 abbrev pub refusedBy : ℕ → Reading
-refusedBy n = record { number = n; count = 0; len = 0; cursor = record { place = record { at = 0; run = 0 }; end = 0; matched = record { inside = false; number = 0 }; index = 0; offsets = record { origin = 0; passed = 0; next = record { from = 0; upto = 0; found = false } }; count = 0 } }
+refusedBy n = record { number = n; len = 0; places = 0; cursor = record { place = record { at = 0; run = 0 }; end = 0; matched = record { inside = false; number = 0 }; index = 0; offsets = record { origin = 0; passed = 0; next = record { from = 0; upto = 0; found = false } }; count = 0 } }
 
--- questions 3 and 4
-unfoldable pub laterQuestions : Profile → List ℕ → List ℕ → ℕ → ℕ
-unfolding inOrder searchedLength read
-laterQuestions P line matches places = cond (inOrder (searchedLength line) 0 matches) (cond (leb (length (read P matches line)) places) 0 4) 3
+-- the reading stands at the beginning of the line
+pub record AtStart (line matches : List ℕ) (n : ℕ) (r : Reading) : Type 0 where
+  pub len : r .len ≡ length line
+  pub places : r .places ≡ n
+  pub same : (P : Profile) → remaining P line matches (r .cursor) ≡ records (read P matches line)
+  pub sound : Sound line matches (r .cursor)
+  pub count : r .cursor .count ≡ 0
 
-pub record Planned (P : Profile) (line matches : List ℕ) (places : ℕ) (r : Reading) : Type 0 where
-  pub number : r .number ≡ laterQuestions P line matches places
-  pub count : r .count ≡ counted (length (read P matches line)) (r .number)
-  pub len : r .number ≡ 0 → r .len ≡ length line
-  pub same : r .number ≡ 0 → remaining P line matches (r .cursor) ≡ records (read P matches line)
-  pub sound : r .number ≡ 0 → Sound line matches (r .cursor)
+-- question 3
+abbrev pub thirdQuestion : List ℕ → List ℕ → ℕ
+thirdQuestion line matches = cond (inOrder (searchedLength line) 0 matches) 0 3
+
+pub record Planned (line matches : List ℕ) (places : ℕ) (r : Reading) : Type 0 where
+  pub number : r .number ≡ thirdQuestion line matches
+  pub begins : r .number ≡ 0 → AtStart line matches places r
+  pub refuses : (r .number ≡ 0 → ⊥) → r ≡ refusedBy (r .number)
 
 -- the reading has its converted line in conv
 pub record HeldIn (conv matches : List ℕ) (r : Reading) : Type 0 where
@@ -489,25 +485,61 @@ unfoldable pub recordsOf : List ℕ → List ℕ → Reading → List Record
 unfolding remaining profile01
 recordsOf conv matches r = cond (eqb (r .number) 0) (remaining profile01 (take (r .len) conv) matches (r .cursor)) []
 
+-- one more record can be counted
+pub record Ongoing (conv matches : List ℕ) (r : Reading) : Type 0 where
+  pub accepted : r .number ≡ 0
+  pub held : HeldIn conv matches r
+  pub counts : r .cursor .count < 18446744073709551615
+
 pub record NextHolds (conv matches : List ℕ) (r : Reading) (n : NextReading) : Type 0 where
   pub head : n .span ≡ firstRecord (recordsOf conv matches r)
   pub tail : recordsOf conv matches (n .reading) ≡ drop 1 (recordsOf conv matches r)
-  pub holds : Holds conv matches (n .reading)
+  pub count : n .reading .cursor .count + length (recordsOf conv matches (n .reading)) ≡ r .cursor .count + length (recordsOf conv matches r)
+  pub places : n .reading .places ≡ cond (ltb 0 (length (recordsOf conv matches r))) (r .places) 0
+  pub accepted : n .reading .number ≡ 0
+  pub held : HeldIn conv matches (n .reading)
 
--- n places: the records and zeros after them
-unfoldable pub padded : ℕ → List Record → List Record
-unfolding firstRecord
-padded zero rs = []
-padded (suc n) rs = firstRecord rs ∷ padded n (drop 1 rs)
+-- a reading that no span was taken from yet, for a list of n places
+pub record Fillable (conv matches : List ℕ) (n : ℕ) (r : Reading) : Type 0 where
+  pub holds : Holds conv matches r
+  pub places : r .places ≡ cond (eqb (r .number) 0) n 0
+  pub count : r .cursor .count ≡ 0
 
-abbrev pub answerOf : Reading → Answer
-answerOf r = record { number = r .number; count = r .count }
+-- the list has the first records, and the reading those that are left where the list is full
+pub record Filled (conv matches : List ℕ) (spans : List Record) (start r : Reading) : Type 0 where
+  pub number : r .number ≡ start .number
+  pub holds : Holds conv matches r
+  pub same : take (r .cursor .count) spans ++ recordsOf conv matches r ≡ recordsOf conv matches start
+  pub fits : r .cursor .count ≤ length spans
+  pub full : 0 < length (recordsOf conv matches r) → length spans ≤ r .cursor .count
+
+-- question 4, where no other refuses
+unfoldable pub numberOf : List ℕ → List ℕ → Reading → ℕ
+unfolding recordsOf
+numberOf conv matches r = cond (eqb (r .number) 0) (cond (ltb 0 (length (recordsOf conv matches r))) 4 0) (r .number)
+
+pub record Finished (conv matches : List ℕ) (r : Reading) (conv′ : List ℕ) (a : Answer) : Type 0 where
+  pub number : a .number ≡ numberOf conv matches r
+  pub count : a .count ≡ counted (r .cursor .count) (a .number)
+  pub kept : a .number ≡ 0 → conv′ ≡ conv
+  pub cleared : (a .number ≡ 0 → ⊥) → conv′ ≡ replicate (length conv) 0
 
 abbrev pub readAs : Answer → List ℕ → List Record → Read
 readAs a conv spans = record { number = a .number; count = a .count; conv = conv; spans = spans }
 
--- what `prepare` leaves: the call's answer, the converted line, and the reading of its records
+-- questions 1 to 3
+unfoldable pub firstQuestions : ℕ → List ℕ → List ℕ → ℕ
+unfolding decide convert
+firstQuestions size matches line = decide (question1 line ∷ question2 size line ∷ question3 matches (convert profile01 line) ∷ [])
+
+-- the converted line s, zeros after it, and the reading at its beginning
+pub record Beginning (s matches : List ℕ) (size : ℕ) (buffer : List ℕ) (places : ℕ) (r : Reading) : Type 0 where
+  pub conv : buffer ≡ s ++ replicate (size - length s) 0
+  pub fits : length s ≤ size
+  pub starts : AtStart s matches places r
+
 pub record Prepared (line matches : List ℕ) (size : ℕ) (conv : List ℕ) (places : ℕ) (r : Reading) : Type 0 where
-  pub holds : Holds conv matches r
-  pub outcome : readAs (answerOf r) conv (padded places (recordsOf conv matches r)) ≡ readCall profile01 size places matches line
+  pub number : r .number ≡ firstQuestions size matches line
+  pub begins : r .number ≡ 0 → Beginning (convert profile01 line) matches size conv places r
+  pub refuses : (r .number ≡ 0 → ⊥) → r ≡ refusedBy (r .number)
   pub lengths : length conv ≡ size

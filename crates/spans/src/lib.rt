@@ -7,6 +7,7 @@ use search::in_order;
 use search::searched_len;
 use stretches::Cursor;
 use stretches::begin;
+use stretches::has_next;
 use stretches::next_record;
 use text::Answer;
 use text::BytePlace;
@@ -14,12 +15,12 @@ use text::class::Profile;
 ghost use mathlib.Core.Path.{_≡_};
 ghost use mathlib.Core.List.{_++_};
 ghost use Prim.Native.Nat.{_≤_, _-_};
-ghost use lib.Dec.{ltb};
+ghost use mathlib.Core.Bool.{cond};
 ghost use lib.ListN.{length, take, replicate};
 ghost use Rattle.text.specs.Width.{profile01};
-ghost use Rattle.text.specs.Code.{profileOf};
 ghost use Rattle.spans.specs.Calls.{noRecord, readCall};
-ghost use Rattle.spans.specs.Contracts.{remaining, Sound, uncounted, TallyReady, Tallied, refusedBy, Planned, Prepared, Holds, recordsOf, NextHolds, padded, answerOf, readAs};
+ghost use Rattle.spans.specs.Search.{searchedLength, inOrder};
+ghost use Rattle.spans.specs.Contracts.{refusedBy, Planned, Prepared, Ongoing, NextHolds, Fillable, Filled, Holds, numberOf, Finished, readAs};
 
 pub mod reader;
 pub mod search;
@@ -37,11 +38,12 @@ pub struct Span {
     pub matched: usize,
 }
 
-// A reading of a line: the number of its refusal or 0, how many spans the line has, the length of the converted line, and the beginning.
+// A reading of a line: the number of its refusal or 0, the length of the converted line, how many places of the span list are to be
+// filled, none where the call is refused or behind the last span, and where the reading stands.
 pub struct Reading {
     pub number: usize,
-    pub count: usize,
     pub len: usize,
+    pub places: usize,
     pub cursor: Cursor,
 }
 
@@ -51,69 +53,13 @@ pub struct NextReading {
     pub reading: Reading,
 }
 
-// How many spans a reading has, up to the number of places, and whether there are more.
-pub struct Tally {
-    pub count: usize,
-    pub more: bool,
-}
-
-// The same place with no spans counted.
-fn from_here(c: Cursor) -> Cursor
-    ensures { λ r. ⌜ r ≡ uncounted c ⌝ }
-{
-    let place = c.place;
-    let matched = c.matched;
-    let offsets = c.offsets;
-    Cursor {
-        place: place,
-        end: c.end,
-        matched: matched,
-        index: c.index,
-        offsets: offsets,
-        count: 0,
-    }
-}
-
-// Has the reading another span before it?
-fn has_more(profile: Profile, line: &[u8], matches: &[usize], c: Cursor) -> bool
-    requires { ⌜ Sound (now line) (now matches) c ⌝ }
-    ensures { λ r. ⌜ r ≡ ltb 0 (length (remaining (profileOf profile) (now (line .entry)) (now (matches .entry)) c)) ⌝ }
-{
-    let n = next_record(profile, line, matches, from_here(c));
-    let after = n.cursor;
-    0 < after.count
-}
-
-// Question 4: the spans counted.
-fn tally_spans(profile: Profile, line: &[u8], matches: &[usize], c: Cursor, places: usize) -> Tally
-    requires { ⌜ TallyReady (now line) (now matches) c ⌝ }
-    ensures { λ r. ⌜ Tallied (profileOf profile) (now (line .entry)) (now (matches .entry)) c places r ⌝ }
-{
-    let mut d = c;
-    while d.count < places {
-        let n = next_record(profile, line, matches, d);
-        let after = n.cursor;
-        if after.count == d.count {
-            return Tally {
-                count: d.count,
-                more: false,
-            };
-        }
-        d = after;
-    }
-    Tally {
-        count: d.count,
-        more: has_more(profile, line, matches, d),
-    }
-}
-
 fn refused(number: usize) -> Reading
     ensures { λ r. ⌜ r ≡ refusedBy number ⌝ }
 {
     Reading {
         number: number,
-        count: 0,
         len: 0,
+        places: 0,
         cursor: Cursor {
             place: Place { at: 0, run: 0 },
             end: 0,
@@ -136,76 +82,89 @@ fn refused(number: usize) -> Reading
     }
 }
 
-// Questions 3 and 4 of a converted line, with a span list of so many places.
-fn plan(profile: Profile, line: &[u8], matches: &[usize], places: usize) -> Reading
+// Question 3: are the match ranges in order within the text searched?
+fn are_in_order(line: &[u8], matches: &[usize]) -> bool
     requires { ⌜ length (now line) ≤ 65536 ⌝ }
-    ensures { λ r. ⌜ Planned (profileOf profile) (now (line .entry)) (now (matches .entry)) places r ⌝ }
+    ensures { λ r. ⌜ r ≡ inOrder (searchedLength (now (line .entry))) 0 (now (matches .entry)) ⌝ }
 {
-    let most = searched_len(line);
-    if in_order(matches, most) {
+    if matches.len() == 0 {
+        return true;
+    }
+    in_order(matches, searched_len(line))
+}
+
+// The beginning of a converted line that passes question 3, with a span list of so many places.
+fn plan(line: &[u8], matches: &[usize], places: usize) -> Reading
+    requires { ⌜ length (now line) ≤ 65536 ⌝ }
+    ensures { λ r. ⌜ Planned (now (line .entry)) (now (matches .entry)) places r ⌝ }
+{
+    if are_in_order(line, matches) {
         let c = begin(line, matches);
-        let t = tally_spans(profile, line, matches, c, places);
-        let more = t.more;
-        if more {
-            return refused(4);
-        }
         return Reading {
             number: 0,
-            count: t.count,
             len: line.len(),
+            places: places,
             cursor: c,
         };
     }
     refused(3)
 }
 
-// Questions 1 to 4: the converted line in conv, zeros where the call is refused.
+// Questions 1 to 3: the converted line in conv, and the beginning of its reading.
 fn prepare(line: &[u8], matches: &[usize], conv: &mut [u8], places: usize) -> Reading
     ensures { λ r. ⌜ Prepared (now (line .entry)) (now (matches .entry)) (length (now (conv .entry))) (now (conv .exit)) places r ⌝ }
 {
     let a = text::convert(line, conv);
     if a.number == 0 {
         let n = a.count;
-        let r = plan(Profile { version: 0 }, &conv[..n], matches, places);
-        if r.number == 0 {
-            return r;
-        }
-        buffer::clear_bytes(conv, 0);
-        return r;
+        return plan(&conv[..n], matches, places);
     }
     refused(a.number)
 }
 
-// The next record of a reading; zeros behind the last, or where the call is refused.
+// So many places where there is a span for them.
+fn places_for(places: usize, found: bool) -> usize
+    ensures { λ r. ⌜ r ≡ cond found places 0 ⌝ }
+{
+    if found { places } else { 0 }
+}
+
+// The next record of a reading; behind the last one no place is to be filled.
 fn next_reading(conv: &[u8], matches: &[usize], r: Reading) -> NextReading
-    requires { ⌜ Holds (now conv) (now matches) r ⌝ }
+    requires { ⌜ Ongoing (now conv) (now matches) r ⌝ }
     ensures { λ n. ⌜ NextHolds (now (conv .entry)) (now (matches .entry)) r n ⌝ }
 {
     let c = r.cursor;
-    if r.number == 0 {
-        let len = r.len;
-        let n = next_record(Profile { version: 0 }, &conv[..len], matches, from_here(c));
-        let span = n.span;
-        let after = n.cursor;
-        return NextReading {
-            span: span,
-            reading: Reading {
-                number: 0,
-                count: r.count,
-                len: len,
-                cursor: after,
-            },
-        };
-    }
+    let len = r.len;
+    let n = next_record(Profile { version: 0 }, &conv[..len], matches, c);
+    let span = n.span;
+    let after = n.cursor;
+    let places = places_for(r.places, c.count < after.count);
     NextReading {
-        span: Span {
-            kind: 0,
-            place: BytePlace(0),
-            len: 0,
-            matched: 0,
+        span: span,
+        reading: Reading {
+            number: 0,
+            len: len,
+            places: places,
+            cursor: after,
         },
-        reading: r,
     }
+}
+
+// A record for each step; the reading behind the last place or the last span.
+fn fill(spans: &mut [Span], conv: &[u8], matches: &[usize], start: Reading) -> Reading
+    requires { ⌜ Fillable (now conv) (now matches) (length (now spans)) start ⌝ }
+    ensures { λ r. ⌜ Filled (now (conv .entry)) (now (matches .entry)) (now (spans .exit)) start r ⌝ }
+{
+    let mut c = start;
+    let mut i = 0;
+    while i < c.places {
+        let n = next_reading(conv, matches, c);
+        spans[i] = n.span;
+        c = n.reading;
+        i += 1;
+    }
+    c
 }
 
 // Records of zeros from the place `from` on.
@@ -225,27 +184,37 @@ pub fn clear_spans(spans: &mut [Span], from: usize)
     }
 }
 
-fn answer_of(r: Reading) -> Answer
-    ensures { λ a. ⌜ a ≡ answerOf r ⌝ }
+// Question 4, where no other refuses: is there a span behind the last place?
+fn number_of(conv: &[u8], matches: &[usize], r: Reading) -> usize
+    requires { ⌜ Holds (now conv) (now matches) r ⌝ }
+    ensures { λ n. ⌜ n ≡ numberOf (now (conv .entry)) (now (matches .entry)) r ⌝ }
 {
-    Answer {
-        number: r.number,
-        count: r.count,
+    if r.number == 0 {
+        let len = r.len;
+        if has_next(&conv[..len], matches, r.cursor) {
+            return 4;
+        }
     }
+    r.number
 }
 
-// A record for each step, and zeros after the last.
-fn fill(spans: &mut [Span], conv: &[u8], matches: &[usize], start: Reading)
-    requires { ⌜ Holds (now conv) (now matches) start ⌝ }
-    ensures { λ _. ⌜ now (spans .exit) ≡ padded (length (now (spans .entry))) (recordsOf (now (conv .entry)) (now (matches .entry)) start) ⌝ }
+// The answer; zeros in conv where the call is refused.
+fn finish(conv: &mut [u8], matches: &[usize], r: Reading) -> Answer
+    requires { ⌜ Holds (now conv) (now matches) r ⌝ }
+    ensures { λ a. ⌜ Finished (now (conv .entry)) (now (matches .entry)) r (now (conv .exit)) a ⌝ }
 {
-    let mut c = start;
-    let mut i = 0;
-    while i < spans.len() {
-        let n = next_reading(conv, matches, c);
-        spans[i] = n.span;
-        c = n.reading;
-        i += 1;
+    let number = number_of(conv, matches, r);
+    if number == 0 {
+        let c = r.cursor;
+        return Answer {
+            number: 0,
+            count: c.count,
+        };
+    }
+    buffer::clear_bytes(conv, 0);
+    Answer {
+        number: number,
+        count: 0,
     }
 }
 
@@ -253,7 +222,9 @@ fn fill(spans: &mut [Span], conv: &[u8], matches: &[usize], start: Reading)
 pub fn read(line: &[u8], matches: &[usize], conv: &mut [u8], spans: &mut [Span]) -> Answer
     ensures { λ r. ⌜ readAs r (now (conv .exit)) (now (spans .exit)) ≡ readCall profile01 (length (now (conv .entry))) (length (now (spans .entry))) (now (matches .entry)) (now (line .entry)) ⌝ }
 {
-    let r = prepare(line, matches, conv, spans.len());
-    fill(spans, conv, matches, r);
-    answer_of(r)
+    let start = prepare(line, matches, conv, spans.len());
+    let r = fill(spans, conv, matches, start);
+    let a = finish(conv, matches, r);
+    clear_spans(spans, a.count);
+    a
 }

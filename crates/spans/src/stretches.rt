@@ -12,7 +12,7 @@ use text::class::Profile;
 ghost use mathlib.Core.Path.{_≡_};
 ghost use lib.ListN.{length};
 ghost use Rattle.text.specs.Code.{profileOf};
-ghost use Rattle.spans.specs.Contracts.{clipped, spent, Opening, Waiting, Sound, Opened, Moved, Going, Settled, Counting, Nexted, Begun, Started};
+ghost use Rattle.spans.specs.Contracts.{clipped, spent, Opening, Waiting, Sound, Opened, Moved, Going, Settled, Counting, Nexted, HasNext, Begun, Started};
 
 // Where a reading of a line stands: a place in a stretch, the stretch's end, the match that it is or that follows it, the next number
 // of the match ranges, and the conversion of offsets. `count` spans stand before it.
@@ -168,6 +168,17 @@ pub fn next_record(profile: Profile, line: &[u8], matches: &[usize], c: Cursor) 
         },
         cursor: d,
     }
+}
+
+// Has the reading a span before it?
+pub fn has_next(line: &[u8], matches: &[usize], c: Cursor) -> bool
+    requires { ⌜ Sound (now line) (now matches) c ⌝ }
+    ensures { λ r. ⌜ HasNext (now (line .entry)) (now (matches .entry)) c r ⌝ }
+{
+    let d = settle(line, matches, c);
+    let end = smaller(d.end, line.len());
+    let place = d.place;
+    place.at < end
 }
 
 // The beginning of a line, where the match ranges pass question 3.

@@ -1,31 +1,31 @@
 use lib.Seq.{length-take-le}
 use mathlib.Core.Path.{sym}
-use Rattle.spans.proofs.CallLaws.{held-fits, held-ready, held-next, none-next}
+use Rattle.spans.proofs.CallLaws.{ongoing-fits, ongoing-ready, ongoing-next}
 use borrow.Author.Needs.{needs}
 use Rattle.spans.proofs.next_reading.Statement.{statement}
 use Rattle.spans.proofs.next_reading.Tie as tie
+use Rattle.spans.proofs.next_reading.Reads as reads
+use Rattle.spans.proofs.next_reading.Lts as lts
+use Rattle.spans.proofs.places_for.Reads as places-for-reads
+use Rattle.spans.proofs.stretches.next_record.Reads as next-record-reads
 
+-- src/lib.rt:139:49
 slice-aggregate-next-record : tie.Need-slice-aggregate-next-record
-slice-aggregate-next-record c = sym (length-take-le _ _ (c .before .before .before .before .before .before .pre (c .before .if1 .taken) .fits))
+slice-aggregate-next-record c = sym (length-take-le _ _ (search ongoing-fits))
 
-from-here-requires : tie.Need-from-here-requires
-from-here-requires c κs = search needs
-
+-- src/lib.rt:139:9
 next-record-requires : tie.Need-next-record-requires
-next-record-requires c κs = search held-ready
+next-record-requires c κs = search ongoing-ready
 
+-- src/lib.rt:142:9
+places-for-requires : tie.Need-places-for-requires
+places-for-requires c κs = search needs
+
+-- src/lib.rt:133:1
 returns : tie.Need-returns
-returns c = search held-next
-
-returns-2 : tie.Need-returns-2
-returns-2 c = search none-next
+returns c = search ongoing-next
 
 pub next-reading-spec : {M : Type 1} → statement M
 next-reading-spec =
     tie.close
-    (tie.spec
-    slice-aggregate-next-record
-    from-here-requires
-    next-record-requires
-    returns
-    returns-2)
+    (tie.spec slice-aggregate-next-record next-record-requires places-for-requires returns)

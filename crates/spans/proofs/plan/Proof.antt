@@ -1,45 +1,33 @@
-use Rattle.spans.proofs.CallLaws.{begin-ready, started-ready, plan-unordered, plan-full, plan-fits}
+use Rattle.spans.proofs.CallLaws.{begin-ready, plan-begins, plan-refuses}
 use borrow.Author.Needs.{needs}
 use Rattle.spans.proofs.plan.Statement.{statement}
 use Rattle.spans.proofs.plan.Tie as tie
+use Rattle.spans.proofs.plan.Reads as reads
+use Rattle.spans.proofs.plan.Lts as lts
+use Rattle.spans.proofs.are_in_order.Reads as are-in-order-reads
+use Rattle.spans.proofs.refused.Reads as refused-reads
+use Rattle.spans.proofs.stretches.begin.Reads as begin-reads
 
-searched-len-requires : tie.Need-searched-len-requires
-searched-len-requires c κs = search needs
+-- src/lib.rt:101:8
+are-in-order-requires : tie.Need-are-in-order-requires
+are-in-order-requires c κs = search needs
 
-in-order-requires : tie.Need-in-order-requires
-in-order-requires c κs = search needs
-
+-- src/lib.rt:102:13
 begin-requires : tie.Need-begin-requires
 begin-requires c κs = search begin-ready
 
-tally-spans-requires : tie.Need-tally-spans-requires
-tally-spans-requires c κs = search started-ready
+-- src/lib.rt:103:9
+returns : tie.Need-returns
+returns c = search plan-begins
 
+-- src/lib.rt:110:5
 refused-requires : tie.Need-refused-requires
 refused-requires c κs = search needs
 
-returns : tie.Need-returns
-returns c = search plan-full
-
+-- src/lib.rt:97:1
 returns-2 : tie.Need-returns-2
-returns-2 c = search plan-fits
-
-refused-requires-2 : tie.Need-refused-requires-2
-refused-requires-2 c κs = search needs
-
-returns-3 : tie.Need-returns-3
-returns-3 c = search plan-unordered
+returns-2 c = search plan-refuses
 
 pub plan-spec : {M : Type 1} → statement M
 plan-spec =
-    tie.close
-    (tie.spec
-    searched-len-requires
-    in-order-requires
-    begin-requires
-    tally-spans-requires
-    refused-requires
-    returns
-    returns-2
-    refused-requires-2
-    returns-3)
+    tie.close (tie.spec are-in-order-requires begin-requires returns refused-requires returns-2)

@@ -1,45 +1,50 @@
 use lib.Seq.{length-take-le}
 use mathlib.Core.Path.{sym}
-use Rattle.spans.proofs.CallLaws.{count-fits, line-small, prepare-done, prepare-cleared, prepare-refused}
+use Rattle.spans.proofs.CallLaws.{count-fits, line-small, prepare-done, prepare-refused}
 use borrow.Author.Needs.{needs}
 use Rattle.spans.proofs.prepare.Statement.{statement}
 use Rattle.spans.proofs.prepare.Tie as tie
+use Rattle.spans.proofs.prepare.Reads as reads
+use Rattle.spans.proofs.prepare.Lts as lts
+use Rattle.spans.proofs.plan.Reads as plan-reads
+use Rattle.spans.proofs.refused.Reads as refused-reads
+use Rattle.text.proofs.convert.Reads as convert-reads
 
+-- src/lib.rt:117:9
 convert-requires : tie.Need-convert-requires
 convert-requires c κs = search needs
 
+-- src/lib.rt:120:21
 slice-reshare-prefix-plan : tie.Need-slice-reshare-prefix-plan
-slice-reshare-prefix-plan c = count-fits _ (c .before .before .before .before .before .before .before .before .before .args .matches .now) _ 0 _ _ (c .before .before .before .before .convert .ensures) (c .if1 .taken)
+slice-reshare-prefix-plan c = search count-fits
 
+-- src/lib.rt:120:21
 slice-aggregate-plan : tie.Need-slice-aggregate-plan
-slice-aggregate-plan c = sym (length-take-le _ _ (count-fits _ (c .before .before .before .before .before .before .before .before .before .before .args .matches .now) _ 0 _ _ (c .before .before .before .before .before .convert .ensures) (c .before .if1 .taken)))
+slice-aggregate-plan c = sym (length-take-le _ _ (search count-fits))
 
+-- src/lib.rt:120:9
 plan-requires : tie.Need-plan-requires
 plan-requires c κs = search line-small
 
+-- src/lib.rt:120:9
 same-length : tie.Need-same-length
 same-length c = search needs
 
+-- src/lib.rt:120:9
 returns : tie.Need-returns
 returns c = search prepare-done
 
-clear-bytes-requires : tie.Need-clear-bytes-requires
-clear-bytes-requires c κs = search needs
-
-same-length-2 : tie.Need-same-length-2
-same-length-2 c = search needs
-
-returns-2 : tie.Need-returns-2
-returns-2 c = search prepare-cleared
-
+-- src/lib.rt:122:5
 refused-requires : tie.Need-refused-requires
 refused-requires c κs = search needs
 
-same-length-3 : tie.Need-same-length-3
-same-length-3 c = search needs
+-- src/lib.rt:114:1
+same-length-2 : tie.Need-same-length-2
+same-length-2 c = search needs
 
-returns-3 : tie.Need-returns-3
-returns-3 c = search prepare-refused
+-- src/lib.rt:114:1
+returns-2 : tie.Need-returns-2
+returns-2 c = search prepare-refused
 
 pub prepare-spec : {M : Type 1} → statement M
 prepare-spec =
@@ -51,9 +56,6 @@ prepare-spec =
     plan-requires
     same-length
     returns
-    clear-bytes-requires
-    same-length-2
-    returns-2
     refused-requires
-    same-length-3
-    returns-3)
+    same-length-2
+    returns-2)

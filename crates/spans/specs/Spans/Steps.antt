@@ -1,6 +1,6 @@
 -- Reading step by step: the first span of a line, and the spans of what stands behind it.
 use mathlib.Core.Path.{_≡_, refl, sym, ap, ap₂, _∙_}
-use Prim.Native.Nat.{ℕ, zero, suc, _+_, _-_}
+use Prim.Native.Nat.{ℕ, zero, suc, _+_, _-_, _<_}
 use native.Mathlib.Nat.{add-zero}
 use native.Mathlib.Omega.{arith}
 use mathlib.Core.Bool.{Bool, true, false, cond, _||_}
@@ -257,3 +257,16 @@ module _ (P : Profile) where
       go : (n : ℕ) → sequence (b ∷ s) ≡ n → spansAt P m p (b ∷ s) ≡ span p 1 (invalid b) ∷ spansAt P m (suc p) s
       go zero q = ap (λ (ds : List Decoded). readPieces P m p (runs ds)) (decode-bad b s q)
       go (suc n) q = absurd (none-some (decode (drop (suc n) (b ∷ s))) (scalar (take (suc n) (b ∷ s))) (ap runOf (sym (decode-good b s n q)) ∙ e))
+
+  -- a stretch with bytes left has a span
+  some-cluster : (m : Option ℕ) (p : ℕ) (s : List ℕ) (g : List Scalar) (gs : List (List Scalar)) → clustersOf s ≡ g ∷ gs → (w : Seen) → seen P g (bytesOf (joinAll gs)) ≡ w → 0 < length (spansAt P m p s)
+  unfolding isPlain
+  some-cluster m p s g gs e plain f = rw (step-text m p s g gs e (sym (plain-same g (bytesOf (joinAll gs))) ∙ ap isPlain f)) (omega arith)
+  some-cluster m p s g gs e (special c k) f = rw (step-special m p s g gs c k e f) (omega arith)
+
+  pub step-some : (m : Option ℕ) (p b : ℕ) (s : List ℕ) → 0 < length (spansAt P m p (b ∷ s))
+  step-some m p b s = go (clustersOf (b ∷ s)) refl
+    where
+      go : (gs : List (List Scalar)) → clustersOf (b ∷ s) ≡ gs → 0 < length (spansAt P m p (b ∷ s))
+      go [] e = rw (step-invalid m p b s (no-run (b ∷ s) e)) (omega arith)
+      go (g ∷ gs) e = some-cluster m p (b ∷ s) g gs e (seen P g (bytesOf (joinAll gs))) refl
