@@ -3,7 +3,7 @@ pub mod Parameters
 pub mod Table
 pub mod Sequences
 pub mod Clusters
-pub mod Printable
+pub mod Single
 pub mod ReaderLaws
 pub mod Searching
 pub mod StretchLaws

@@ -8,10 +8,10 @@ use mathlib.Core.Bool.{Bool, true, false, true≢false, not, cond, _&&_, _||_}
 use mathlib.Core.List.{List, [], _∷_, _++_, map}
 use mathlib.Core.Option.{Option, none, some}
 use mathlib.Core.Logic.{_≢_}
-use lib.ListN.{length, take, drop, getD, length-drop, drop-of-length-le}
+use lib.ListN.{length, take, drop, getD, length-drop, drop-of-length-le, List·getD-eq-default}
 use lib.Seq.{drop-cons, drop-drop, getD-drop, slice, slice-empty, length-slice}
-use borrow.Author.Tests.{eqb-true, ne-eqb}
-use lib.Dec.{eqb, leb, eqb→eq}
+use borrow.Author.Tests.{eqb-true, ne-eqb, ltb-true}
+use lib.Dec.{eqb, leb, ltb, eqb→eq, nltb→le}
 use Rattle.text.specs.Tests.{cases, and-T, true-T}
 use Rattle.text.specs.Utf8.{Scalar, ascii, decode, decodeFrom, runOf, bytesOf}
 use Rattle.text.specs.Utf8.Runs.{run-fits}
@@ -29,14 +29,14 @@ use Rattle.spans.specs.Sequence.{sgr, eraseToEnd, ignored, hyperlink, li
 use Rattle.spans.specs.Sequence.Laws.{parse-length}
 use Rattle.spans.specs.Spans.{Content, Span, span, Seen, plain, special, seen, spansAt, text, control, invalid, unprintable, escape, tab, crlf, lf, Record, aRecord, kindOf, matchOf, recordOf, records}
 use Rattle.spans.specs.Spans.Steps.{extent, isPlain, plainCluster, plain-same, plainSize, plainText, skipped, step-text, step-special, step-invalid, NoText, seen-noText}
-use Rattle.spans.specs.Contracts.{printable, alone, plainBytes, plainFirst, clustersAt, runAt, Part, Within, Ahead, Skip, told, escapeLook, lookBytes, aLook, Fresh, Ready, matchIn, textRecord, recordsFrom, invalidAt, Stepped, ControlReady, Escaping, Mark, SpecialStep}
+use Rattle.spans.specs.Contracts.{alone, plainBytes, plainFirst, clustersAt, PlainTo, runAt, Part, Within, Ahead, Skip, told, escapeLook, lookBytes, aLook, Fresh, Ready, matchIn, textRecord, recordsFrom, invalidAt, Stepped, ControlReady, Escaping, Mark, SpecialStep}
 use Rattle.spans.specs.declared.sequence.Sequence as sequence
 use Rattle.spans.specs.declared.reader.Look.{Look}
 use Rattle.spans.specs.declared.reader.Place.{Place}
 use Rattle.spans.specs.declared.reader.Matched.{Matched}
 use Rattle.spans.specs.declared.reader.NextSpan.{NextSpan}
 use Rattle.spans.proofs.Clusters.{plain-bytes, look-bytes, lookOf}
-use Rattle.spans.proofs.Printable.{printable-first, control-single, control-special}
+use Rattle.spans.proofs.Single.{control-single, control-special, plain-on}
 use Rattle.spans.proofs.Sequences.{part-slice}
 
 -- what holds of a list holds if it does of none and of a first and others
@@ -113,40 +113,34 @@ plain-stop P s e =
     (λ b. absurd (let k : extent g ≡ 0 = rw (q, b) at e in omega (arith, cluster-some P s g gs q)))
     (λ b. rw (q, b)))
 
-pub record TextLoop (P : Profile) (t : List ℕ) (at i : ℕ) : Type 0 where
-  pub same : i + plainSize P (clustersAt P (drop i t)) ≡ at + plainSize P (clustersAt P (drop at t))
-  pub low : i ≤ length t
+module _ (P : Profile) (t : List ℕ) (at i a b : ℕ) (x : PlainTo P t at i) (y : PlainTo P t i a) (z : PlainTo P t a b) where
+  text-to : PlainTo P t at b
+  text-to = plain-on P t at a b (plain-on P t at i a x y) z
 
-pub text-begins : (P : Profile) (t : List ℕ) (at : ℕ) → at ≤ length t → TextLoop P t at at
-text-begins P t at h = record { same = refl; low = h }
+  pub text-more : (e : ℕ) → e ≡ b + plainFirst P (clustersAt P (drop b t)) → (e ≡ b → ⊥) → PlainTo P t at e
+  text-more e f q =
+      let n : ℕ = plainFirst P (clustersAt P (drop b t)) in
+      let w = plain-turn P (drop b t) n refl (λ k. q (f ∙ rw k (omega arith))) in
+      let o : PlainTo P t b e = record {
+        same = rw (f, ← drop-drop n b t) (omega (arith, w .0));
+        up = omega arith;
+        low = omega (arith, z .low, f, rw (length-drop b t) at (w .1));
+      } in
+      plain-on P t at b e text-to o
 
-module _ (P : Profile) (t : List ℕ) (at i : ℕ) (z : TextLoop P t at i) where
-  pub text-more : (e : ℕ) → i < length t → e ≡ i + plainFirst P (clustersAt P (drop i t)) → (e ≡ i → ⊥) → TextLoop P t at e
-  text-more e h f q =
-      let n : ℕ = plainFirst P (clustersAt P (drop i t)) in
-      let w = plain-turn P (drop i t) n refl (λ k. q (f ∙ rw k (omega arith))) in
-      record {
-        same = rw (f, ← drop-drop n i t) (omega (arith, w .0, z .same));
-        low = omega (arith, f, rw (length-drop i t) at (w .1));
-      }
+  pub text-falls : (e : ℕ) → i < length t → e ≡ b + plainFirst P (clustersAt P (drop b t)) → (e ≡ b → ⊥) → length t - e < length t - i
+  text-falls e h f q = omega (arith, y .up, z .up)
 
-  pub text-falls : (e : ℕ) → i < length t → e ≡ i + plainFirst P (clustersAt P (drop i t)) → (e ≡ i → ⊥) → length t - e < length t - i
-  text-falls e h f q = omega arith
-
-  pub text-stops : (e : ℕ) → e ≡ i + plainFirst P (clustersAt P (drop i t)) → e ≡ i → i ≡ at + plainSize P (clustersAt P (drop at t))
+  pub text-stops : (e : ℕ) → e ≡ b + plainFirst P (clustersAt P (drop b t)) → e ≡ b → e ≡ at + plainSize P (clustersAt P (drop at t))
   text-stops e f q =
-      let k : plainFirst P (clustersAt P (drop i t)) ≡ 0 = omega arith in
-      omega (arith, z .same, plain-stop P (drop i t) k)
+      let k : plainFirst P (clustersAt P (drop b t)) ≡ 0 = omega arith in
+      omega (arith, text-to .same, plain-stop P (drop b t) k)
 
-  pub text-past : length t ≤ i → i ≡ at + plainSize P (clustersAt P (drop at t))
-  unfolding plainSize
-  text-past h =
-      let k : plainSize P (clustersAt P (drop i t)) ≡ 0 = rw (drop-of-length-le t h, no-clusters P) in
-      omega (arith, z .same)
-
-pub printable-end : (p : code.Profile) (t : List ℕ) (at a b : ℕ) (x y : Bool) → at < length t → a ≡ getD t at 0 → b ≡ getD t (at + 1) 0 → x ≡ printable a → x ≡ true → y ≡ printable b → y ≡ true → at + 1 ≡ at + plainFirst (profileOf p) (clustersAt (profileOf p) (drop at t))
-unfolding profileOf
-printable-end p t at a b x y h e f q r u v = ap (λ (n : ℕ). at + n) (sym (printable-first t at a b h e f (sym q ∙ r) (sym u ∙ v)))
+pub text-past : (P : Profile) (t : List ℕ) (at i : ℕ) → PlainTo P t at i → length t ≤ i → i ≡ at + plainSize P (clustersAt P (drop at t))
+unfolding plainSize
+text-past P t at i z h =
+    let k : plainSize P (clustersAt P (drop i t)) ≡ 0 = rw (drop-of-length-le t h, no-clusters P) in
+    omega (arith, z .same)
 
 -- ---- controls
 
@@ -157,13 +151,25 @@ module _ (p : code.Profile) (t : List ℕ) (at : ℕ) (h : at < length t) (c : a
 
   pub control-end : at + 1 ≡ at + firstSize (profileOf p) (runOf (decode (drop at t)))
   unfolding profileOf bytesOf
-  control-end = ap (λ (n : ℕ). at + n) (sym (first-size profile01 (runOf (decode (drop at t))) (ascii (getD t at 0) ∷ []) (clustersAt profile01 (drop (suc at) t)) (control-single t at (getD t at 0) h refl c)))
+  control-end = ap (λ (n : ℕ). at + n) (sym (first-size profile01 (runOf (decode (drop at t))) (ascii (getD t at 0) ∷ []) (clustersAt profile01 (drop (at + 1) t)) (control-single t at (getD t at 0) h refl c)))
 
-pub control-first : (p : code.Profile) (t : List ℕ) (at a : ℕ) (x : Bool) → at < length t → a ≡ getD t at 0 → x ≡ alone a → x ≡ true → at ≡ at + plainFirst (profileOf p) (clustersAt (profileOf p) (drop at t))
+pub control-first : (p : code.Profile) (t : List ℕ) (at a : ℕ) (x : Bool) → a ≡ getD t at 0 → x ≡ alone a → x ≡ true → at ≡ at + plainFirst (profileOf p) (clustersAt (profileOf p) (drop at t))
 unfolding plainFirst profileOf
-control-first p t at a x h e f q =
+control-first p t at a x e f q =
     let c : alone a ≡ true = sym f ∙ q in
-    rw (control-single t at a h e c, control-special t at a h e c) (omega arith)
+    cases (ltb at (length t))
+    (λ h. let k : at < length t = ltb-true _ _ h in rw (control-single t at a k e c, control-special t at a k e c) (omega arith))
+    (λ h. let k : length t ≤ at = nltb→le _ _ (rw h tt) in rw (drop-of-length-le t k, no-clusters profile01) (omega arith))
+
+-- past the end stands a byte 0, which is one of them
+pub other-here : (t : List ℕ) (at a : ℕ) (x : Bool) → a ≡ getD t at 0 → x ≡ alone a → x ≡ false → at < length t
+other-here t at a x e f q =
+    cases (ltb at (length t))
+    (λ h. ltb-true _ _ h)
+    (λ h.
+    let k : length t ≤ at = nltb→le _ _ (rw h tt) in
+    let z : a ≡ 0 = e ∙ List·getD-eq-default t 0 k in
+    absurd (true≢false (rw z at (sym f ∙ q))))
 
 -- ---- what stands at an ESC, and other values that are told apart
 

@@ -181,6 +181,12 @@ unfoldable pub plainFirst : Profile → List (List Scalar) → ℕ
 plainFirst P [] = 0
 plainFirst P (g ∷ gs) = cond (plainCluster P g) (length (bytesOf g)) 0
 
+-- plain clusters stand from a place to r
+pub record PlainTo (P : Profile) (t : List ℕ) (at r : ℕ) : Type 0 where
+  pub same : r + plainSize P (clustersAt P (drop r t)) ≡ at + plainSize P (clustersAt P (drop at t))
+  pub up : at ≤ r
+  pub low : r ≤ length t
+
 abbrev pub aLook : ℕ → ℕ → Look
 aLook k n = record { kind = k; len = n }
 

@@ -5,6 +5,7 @@ use super::sequence::byte_at;
 use super::sequence::sequence_at;
 use text::BytePlace;
 use text::class::Profile;
+use text::class::class;
 use text::cluster::first_end;
 use text::utf8::decode;
 use text::utf8::run_end;
@@ -19,7 +20,7 @@ ghost use Rattle.text.specs.Code.{profileOf};
 ghost use Rattle.spans.specs.Sequence.{missing};
 ghost use Rattle.spans.specs.Spans.{aRecord};
 ghost use Rattle.spans.specs.Spans.Steps.{plainSize};
-ghost use Rattle.spans.specs.Contracts.{printable, alone, plainBytes, clustersAt, plainFirst, escapeLook, lookBytes, Part, Ahead, Skip, runAt, textRecord, invalidAt, Escaping, Mark, ControlReady, SpecialStep, Ready, Stepped};
+ghost use Rattle.spans.specs.Contracts.{printable, alone, plainBytes, clustersAt, plainFirst, PlainTo, escapeLook, lookBytes, Part, Ahead, Skip, runAt, textRecord, invalidAt, Escaping, Mark, ControlReady, SpecialStep, Ready, Stepped};
 
 // What a cluster that is no part of a text is: a kind of span, and its length.
 pub struct Look {
@@ -75,20 +76,65 @@ fn is_plain(profile: Profile, t: &[u8], at: usize, end: usize) -> bool
     text_width(profile, t, at, end) != 0
 }
 
-// The end of the cluster at a place if it is a part of a text, else the place. A printable byte before another is a cluster by itself.
-fn plain_end(profile: Profile, t: &[u8], at: usize) -> usize
+// Past printable bytes, each a plain cluster by itself; the last of them is left where what follows may join it.
+fn printable_end(profile: Profile, t: &[u8], at: usize) -> usize
     requires { ⌜ at < length (now t) ⌝ }
-    ensures { λ r. ⌜ r ≡ at + plainFirst (profileOf profile) (clustersAt (profileOf profile) (drop at (now (t .entry)))) ⌝ }
+    ensures { λ r. ⌜ PlainTo (profileOf profile) (now (t .entry)) at r ⌝ }
 {
-    let a = byte_at(t, at);
-    let b = byte_at(t, at + 1);
-    if is_alone(a) {
+    if is_printable(t[at]) {
+        let mut i = at;
+        while i + 1 < t.len() {
+            let b = t[i + 1];
+            if is_printable(b) {
+                i += 1;
+            } else {
+                if b < 0x80 {
+                    return i + 1;
+                }
+                return i;
+            }
+        }
+        return i + 1;
+    }
+    at
+}
+
+// The same of scalars of class other.
+fn others_end(profile: Profile, t: &[u8], at: usize) -> usize
+    requires { ⌜ at ≤ length (now t) ⌝ }
+    ensures { λ r. ⌜ PlainTo (profileOf profile) (now (t .entry)) at r ⌝ }
+{
+    if t.len() <= at {
         return at;
     }
-    if is_printable(a) {
-        if is_printable(b) {
-            return at + 1;
+    let u = decode(t, at);
+    if class(profile, u.code) != 11 {
+        return at;
+    }
+    let mut i = at;
+    let mut next = at + u.len;
+    while next < t.len() {
+        let v = decode(t, next);
+        if class(profile, v.code) == 11 {
+            i = next;
+            next += v.len;
+        } else {
+            if v.code < 0x80 {
+                return next;
+            }
+            return i;
         }
+    }
+    next
+}
+
+// The end of the cluster at a place if it is a part of a text, else the place.
+fn plain_end(profile: Profile, t: &[u8], at: usize) -> usize
+    requires { ⌜ at ≤ length (now t) ⌝ }
+    ensures { λ r. ⌜ r ≡ at + plainFirst (profileOf profile) (clustersAt (profileOf profile) (drop at (now (t .entry)))) ⌝ }
+{
+    if is_alone(byte_at(t, at)) {
+        return at;
     }
     let end = first_end(profile, t, at);
     if is_plain(profile, t, at, end) {
@@ -104,9 +150,11 @@ fn text_end(profile: Profile, t: &[u8], at: usize) -> usize
 {
     let mut i = at;
     while i < t.len() {
-        let end = plain_end(profile, t, i);
-        if end == i {
-            return i;
+        let a = printable_end(profile, t, i);
+        let b = others_end(profile, t, a);
+        let end = plain_end(profile, t, b);
+        if end == b {
+            return end;
         }
         i = end;
     }

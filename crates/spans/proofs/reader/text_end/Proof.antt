@@ -1,19 +1,27 @@
 use Prim.Native.Nat.{_-_}
 use lib.ListN.{length}
 use Rattle.text.specs.Code.{profileOf}
-use Rattle.spans.proofs.ReaderLaws.{TextLoop, text-begins, text-more, text-falls, text-stops, text-past}
 use borrow.Author.Needs.{needs}
+use Rattle.spans.specs.Contracts.{PlainTo}
+use Rattle.spans.proofs.Single.{plain-here}
+use Rattle.spans.proofs.ReaderLaws.{text-more, text-falls, text-stops, text-past}
 use Rattle.spans.proofs.reader.text_end.Statement.{statement}
 use Rattle.spans.proofs.reader.text_end.Tie as tie
 
 abbrev Inv-loop : tie.InvT-loop
-Inv-loop profile t at i₀ i = TextLoop (profileOf profile) t at i
+Inv-loop profile t at i₀ i = PlainTo (profileOf profile) t at i
 
 abbrev μ-loop : tie.MeasureT-loop
 μ-loop profile t at i₀ i = length t - i
 
 loop-holds : tie.Need-loop-holds Inv-loop μ-loop
-loop-holds c = search text-begins
+loop-holds c = search plain-here
+
+printable-end-requires : tie.Need-printable-end-requires Inv-loop μ-loop
+printable-end-requires c κs = search needs
+
+others-end-requires : tie.Need-others-end-requires Inv-loop μ-loop
+others-end-requires c κs = search needs
 
 plain-end-requires : tie.Need-plain-end-requires Inv-loop μ-loop
 plain-end-requires c κs = search needs
@@ -33,4 +41,14 @@ returns-2 c = search text-past
 pub text-end-spec : {M : Type 1} → statement M
 text-end-spec =
     tie.close
-    (tie.spec Inv-loop μ-loop loop-holds plain-end-requires returns loop-less loop-again returns-2)
+    (tie.spec
+    Inv-loop
+    μ-loop
+    loop-holds
+    printable-end-requires
+    others-end-requires
+    plain-end-requires
+    returns
+    loop-less
+    loop-again
+    returns-2)

@@ -1,0 +1,261 @@
+-- Scalars that are clusters by themselves, by document 01's profile: controls, and those of class other that no mark follows.
+use mathlib.Core.Path.{_≡_, refl, sym, ap, ap₂, _∙_}
+use Prim.Native.Nat.{ℕ, zero, suc, _+_, _-_, _≤_, _<_}
+use native.Mathlib.Nat.{add-zero}
+use native.Mathlib.Numerals.{add-one}
+use native.Mathlib.Omega.{arith}
+use mathlib.Core.Bool.{Bool, true, false, not, cond, _&&_, _||_, and-false, true≢false}
+use mathlib.Core.List.{List, [], _∷_, map, append-nil}
+use mathlib.Core.Logic.{_≢_}
+use lib.ListN.{length, take, drop, getD, List·getD-map}
+use lib.Seq.{drop-cons, getD-drop}
+use lib.Dec.{T, eqb, leb, ltb, leb→le}
+use borrow.Author.Tests.{eqb-true, eqb-false, le-leb, lt-leb, ne-eqb, not-true, leb-true, leb-false}
+use Rattle.text.specs.Tests.{cases, and-T, is-true, true-T}
+use Rattle.text.specs.Utf8.{Scalar, ascii, decode, Decoded, wellFormed, sequence, lengthIn, fits, table, scalar, value, runOf, bytesOf}
+use Rattle.text.specs.Utf8.Laws.{decode-good}
+use Rattle.text.specs.Class.{Profile, cr, lf, control, number, among, inAny, class01}
+use Rattle.text.specs.Width.{profile01, width01, wides, widthOf}
+use Rattle.text.specs.Cluster.{Context, joined, joins, joinsNext, context, clusters}
+use Rattle.text.specs.Cluster.Laws.{further, clusters-first}
+use Rattle.text.specs.Code.{profileOf, firstSequence}
+use Rattle.text.specs.Code.Laws.{scalar-at, none-at, none-code, none-past}
+use Rattle.text.specs.declared.class.Profile as code
+use Rattle.text.specs.declared.utf8.Sequence.{Sequence}
+use Rattle.spans.specs.Spans.Steps.{plainCluster, plainSize}
+use Rattle.spans.specs.Contracts.{printable, alone, plainBytes, clustersAt, PlainTo}
+use Rattle.spans.proofs.Table.{upFrom, upFrom-at}
+use Rattle.spans.proofs.Clusters.{plain-bytes}
+
+-- ---- a value that all of n numbers have, by one computed test
+
+always : {A : Type 0} → A → ℕ → A
+always a v = a
+
+same-all : {A : Type 0} (f : ℕ → A) (a : A) (lo n : ℕ) → f lo ≡ a → map f (upFrom lo n) ≡ map (always a) (upFrom lo n) → (v : ℕ) → lo ≤ v → v < lo + n → f v ≡ a
+unfolding always
+same-all f a lo n z e v h k =
+    let p : getD (upFrom lo n) (v - lo) lo ≡ v = upFrom-at n lo (v - lo) lo (omega arith) ∙ omega arith in
+    ap f (sym p) ∙ sym (List·getD-map f (upFrom lo n) (v - lo) lo)
+    ∙ ap₂ (λ (l : List _) (d : _). getD l (v - lo) d) e z
+    ∙ List·getD-map (always a) (upFrom lo n) (v - lo) lo
+
+-- ---- classes below 80: other, or CR, LF and Control
+
+ascii-test : ℕ → Bool
+ascii-test v = cond (printable v) (eqb (number (class01 v)) 11) (among (number (class01 v)) (control ∷ cr ∷ lf ∷ []))
+
+ascii-tested : (v : ℕ) → v ≤ 0x7F → ascii-test v ≡ true
+unfolding ascii-test among number class01 upFrom always
+ascii-tested v h = same-all ascii-test true 0 128 refl refl v (omega arith) (omega arith)
+
+low : (v : ℕ) → printable v ≡ true → (0x20 ≤ v) × (v ≤ 0x7E)
+low v p = let t = and-T (leb 0x20 v) (leb v 0x7E) (true-T p) in (leb→le _ _ (t .0), leb→le _ _ (t .1))
+
+class-printable : (v : ℕ) → printable v ≡ true → number (class01 v) ≡ 11
+unfolding ascii-test
+class-printable v p = eqb-true (number (class01 v)) 11 (rw p at (ascii-tested v (omega (arith, low v p .1))))
+
+class-control : (v : ℕ) → v ≤ 0x7F → printable v ≡ false → among (number (class01 v)) (control ∷ cr ∷ lf ∷ []) ≡ true
+unfolding ascii-test
+class-control v h p = rw p at (ascii-tested v h)
+
+other-printable : (v : ℕ) → v ≤ 0x7F → number (class01 v) ≡ 11 → printable v ≡ true
+unfolding among number
+other-printable v h e = cases (printable v) (λ p. p) (λ p. absurd (true≢false (sym (rw e at (class-control v h p)))))
+
+control-test : ℕ → Bool
+control-test v = eqb v 0x0D || among (number (class01 v)) (lf ∷ control ∷ [])
+
+control-tested : (v : ℕ) → v ≤ 0x1F → control-test v ≡ true
+unfolding control-test among number class01 upFrom always
+control-tested v h = same-all control-test true 0 32 refl refl v (omega arith) (omega arith)
+
+control-class : (v : ℕ) → v ≤ 0x1F → v ≢ 0x0D → among (number (class01 v)) (lf ∷ control ∷ []) ≡ true
+unfolding control-test
+control-class v h n = rw (ne-eqb v 0x0D n) at (control-tested v h)
+
+-- ---- the rules
+
+after-control : (p : ℕ) (k : Context) (c : ℕ) → among p (lf ∷ control ∷ []) ≡ true → joined p k c ≡ false
+unfolding joined among number
+after-control p k c h = cases (eqb p 1) (λ e. rw (eqb-true p 1 e)) (λ e. let f : eqb p 2 ≡ true = rw e at h in rw (eqb-true p 2 f))
+
+other-control : (p : ℕ) (k : Context) (c : ℕ) → p ≡ 11 → among c (control ∷ cr ∷ lf ∷ []) ≡ true → joined p k c ≡ false
+unfolding joined among number
+other-control p k c e h = rw (e, h)
+
+other-other : (p : ℕ) (k : Context) (c : ℕ) → p ≡ 11 → c ≡ 11 → joined p k c ≡ false
+unfolding joined among number
+other-other p k c e f = rw (e, f) (cases (k .odd) (λ o. rw o) (λ o. rw o))
+
+-- a scalar that no rule joins the next one to is a cluster by itself
+single : (P : Profile) (c : Scalar) (s : List Scalar) → joinsNext P (c ∷ []) s ≡ false → clusters P (c ∷ s) ≡ (c ∷ []) ∷ clusters P s
+unfolding further joinsNext
+single P c [] e = clusters-first P c []
+single P c (d ∷ s) e =
+    let z : further P (c ∷ []) (d ∷ s) ≡ 0 = rw e in
+    clusters-first P c (d ∷ s) ∙ ap (λ (k : ℕ). (c ∷ take k (d ∷ s)) ∷ clusters P (drop k (d ∷ s))) z
+
+-- ---- a byte below 80 at a place
+
+sequence-ascii : (b : ℕ) (s : List ℕ) → b ≤ 0x7F → sequence (b ∷ s) ≡ 1
+unfolding sequence lengthIn fits table
+sequence-ascii b s h = rw (le-leb 0 b (omega arith), le-leb b 0x7F h)
+
+run-ascii : (b : ℕ) (s : List ℕ) → b ≤ 0x7F → runOf (decode (b ∷ s)) ≡ ascii b ∷ runOf (decode s)
+unfolding runOf scalar value
+run-ascii b s h = ap runOf (decode-good b s 0 (sequence-ascii b s h))
+
+run-byte : (t : List ℕ) (at b : ℕ) → at < length t → b ≡ getD t at 0 → b ≤ 0x7F → runOf (decode (drop at t)) ≡ ascii b ∷ runOf (decode (drop (at + 1) t))
+run-byte t at b h e k =
+    ap (λ (l : List ℕ). runOf (decode l)) (drop-cons t at 0 h ∙ ap₂ (λ (x i : ℕ). x ∷ drop i t) (sym e) (sym (add-one at)))
+    ∙ run-ascii b (drop (at + 1) t) k
+
+byte-first : (t : List ℕ) (at : ℕ) → getD (drop at t) 0 0 ≡ getD t at 0
+byte-first t at = getD-drop at t 0 0 ∙ ap (λ (i : ℕ). getD t i 0) (add-zero at)
+
+-- ---- controls
+
+module _ (t : List ℕ) (at a : ℕ) (h : at < length t) (e : a ≡ getD t at 0) (c : alone a ≡ true) where
+  control-low : (a ≤ 0x1F) × (a ≢ 0x0D)
+  control-low = let p = and-T (leb a 0x1F) (not (eqb a 0x0D)) (true-T c) in (leb→le _ _ (p .0), eqb-false a 0x0D (not-true _ (is-true _ (p .1))))
+
+  control-apart : (s : List Scalar) → joinsNext profile01 (ascii a ∷ []) s ≡ false
+  unfolding joinsNext joins profile01
+  control-apart [] = refl
+  control-apart (d ∷ s) = let k = control-low in after-control (number (class01 a)) (context profile01 (ascii a ∷ [])) (number (class01 (d .code))) (control-class a (k .0) (k .1))
+
+  pub control-single : clustersAt profile01 (drop at t) ≡ (ascii a ∷ []) ∷ clustersAt profile01 (drop (at + 1) t)
+  control-single =
+      ap (clusters profile01) (run-byte t at a h e (omega (arith, control-low .0)))
+      ∙ single profile01 (ascii a) (runOf (decode (drop (at + 1) t))) (control-apart (runOf (decode (drop (at + 1) t))))
+
+  pub control-special : plainCluster profile01 (ascii a ∷ []) ≡ false
+  unfolding plainBytes bytesOf
+  control-special =
+      plain-bytes profile01 (drop at t) (ascii a ∷ []) (clustersAt profile01 (drop (at + 1) t)) control-single
+      ∙ rw (byte-first t at, ← e, le-leb a 0x1F (control-low .0))
+
+-- ---- scalars of class other
+
+-- one stands from i to `next`
+pub record OtherAt (t : List ℕ) (i next : ℕ) : Type 0 where
+  one : Scalar
+  run : runOf (decode (drop i t)) ≡ one ∷ runOf (decode (drop next t))
+  class : number (class01 (one .code)) ≡ 11
+  len : i + length (one .bytes) ≡ next
+  pub some : i < next
+  pub inside : next ≤ length t
+
+pub other-at : (p : code.Profile) (t : List ℕ) (i : ℕ) (u : Sequence) (k : ℕ) → i < length t → u ≡ firstSequence (decode (drop i t)) → k ≡ number (profileOf p .class (u .code)) → k ≡ 11 → OtherAt t i (i + u .len)
+unfolding profileOf number class01
+other-at p t i u k h f e g =
+    let n : u .len ≢ 0 = λ z. let c : u .code ≡ 0 = none-code t i u h f z in let w : _≡_ {A = ℕ} 2 11 = sym (rw c at e) ∙ g in omega arith in
+    let s = scalar-at t i u h f n in
+    record { one = s .scalar; run = s .run; class = rw (s .code) (sym e ∙ g); len = omega (arith, s .len); some = omega (arith, s .some); inside = s .fits }
+
+pub printable-at : (t : List ℕ) (i b : ℕ) (x : Bool) → i < length t → b ≡ getD t i 0 → x ≡ printable b → x ≡ true → OtherAt t i (i + 1)
+printable-at t i b x h e f q =
+    let p : printable b ≡ true = sym f ∙ q in
+    record { one = ascii b; run = run-byte t i b h e (omega (arith, low b p .1)); class = class-printable b p; len = refl; some = omega arith; inside = omega arith }
+
+plain-byte : (n a b w : ℕ) → 0x20 ≤ a → a ≢ 0x7F → eqb w 0 ≡ false → plainBytes n a b w ≡ true
+unfolding plainBytes
+plain-byte n a b w h k e = rw (lt-leb a 0x1F (omega arith), ne-eqb a 0x7F k, ne-eqb a 0x0D (λ q. omega arith), e) (simp and-false)
+
+module _ (t : List ℕ) (i next : ℕ) (z : OtherAt t i next) where
+  other-byte : (0x20 ≤ getD t i 0) × (getD t i 0 ≢ 0x7F)
+  other-byte =
+      cases (leb (getD t i 0) 0x7F)
+      (λ h.
+      let k : getD t i 0 ≤ 0x7F = leb-true _ _ h in
+      let r = run-byte t i (getD t i 0) (omega (arith, z .some, z .inside)) refl k in
+      let c : z .one ≡ ascii (getD t i 0) = cc (z .run, r) in
+      let w = low (getD t i 0) (other-printable (getD t i 0) k (rw c at (z .class))) in
+      (w .0, λ e. omega (arith, w .1)))
+      (λ h. let k : 0x7F < getD t i 0 = leb-false _ _ h in (omega arith, λ e. omega arith))
+
+  other-wide : eqb (widthOf profile01 (z .one ∷ [])) 0 ≡ false
+  unfolding widthOf profile01 width01 among number
+  other-wide = rw (z .class) (cases (inAny wides (z .one .code)) (λ w. rw w) (λ w. rw w))
+
+  -- it is a plain cluster where nothing that follows joins it
+  module _ (a : joinsNext profile01 (z .one ∷ []) (runOf (decode (drop next t))) ≡ false) where
+    other-single : clustersAt profile01 (drop i t) ≡ (z .one ∷ []) ∷ clustersAt profile01 (drop next t)
+    other-single = ap (clusters profile01) (z .run) ∙ single profile01 (z .one) (runOf (decode (drop next t))) a
+
+    other-plain : plainCluster profile01 (z .one ∷ []) ≡ true
+    other-plain =
+        let b = other-byte in
+        plain-bytes profile01 (drop i t) (z .one ∷ []) (clustersAt profile01 (drop next t)) other-single
+        ∙ rw (byte-first t i) (plain-byte _ _ _ _ (b .0) (b .1) other-wide)
+
+    other-on : PlainTo profile01 t i next
+    unfolding plainSize bytesOf
+    other-on =
+        record {
+          same = rw (other-single, other-plain, append-nil (z .one .bytes)) (omega (arith, z .len));
+          up = omega (arith, z .some);
+          low = z .inside;
+        }
+
+  -- nothing follows, a scalar of class other, or one below 80
+  on-none : runOf (decode (drop next t)) ≡ [] → PlainTo profile01 t i next
+  unfolding joinsNext
+  on-none e = other-on (rw e)
+
+  on-other : (d : Scalar) (r : List Scalar) → runOf (decode (drop next t)) ≡ d ∷ r → number (class01 (d .code)) ≡ 11 → PlainTo profile01 t i next
+  unfolding joinsNext joins profile01
+  on-other d r e f = other-on (rw e (other-other (number (class01 (z .one .code))) (context profile01 (z .one ∷ [])) (number (class01 (d .code))) (z .class) f))
+
+  on-low : (d : Scalar) (r : List Scalar) → runOf (decode (drop next t)) ≡ d ∷ r → d .code ≤ 0x7F → PlainTo profile01 t i next
+  unfolding joinsNext joins profile01
+  on-low d r e h =
+      cases (printable (d .code))
+      (λ p. on-other d r e (class-printable (d .code) p))
+      (λ p. other-on (rw e (other-control (number (class01 (z .one .code))) (context profile01 (z .one ∷ [])) (number (class01 (d .code))) (z .class) (class-control (d .code) h p))))
+
+-- ---- the loops over them
+
+pub plain-here : (P : Profile) (t : List ℕ) (at : ℕ) → at ≤ length t → PlainTo P t at at
+plain-here P t at h = record { same = refl; up = omega arith; low = h }
+
+pub plain-on : (P : Profile) (t : List ℕ) (a b e : ℕ) → PlainTo P t a b → PlainTo P t b e → PlainTo P t a e
+plain-on P t a b e x y = record { same = y .same ∙ x .same; up = omega (arith, x .up, y .up); low = y .low }
+
+-- plain clusters from `at` to i, and a scalar of class other behind them
+pub record OthersLoop (t : List ℕ) (at i next : ℕ) : Type 0 where
+  pub to : PlainTo profile01 t at i
+  pub other : OtherAt t i next
+
+pub others-begin : (t : List ℕ) (at next : ℕ) → OtherAt t at next → OthersLoop t at at next
+others-begin t at next o = record { to = plain-here profile01 t at (omega (arith, o .some, o .inside)); other = o }
+
+pub others-more : (t : List ℕ) (at i next e : ℕ) → OthersLoop t at i next → OtherAt t next e → OthersLoop t at next e
+others-more t at i next e z o =
+    record { to = plain-on profile01 t at i next (z .to) (on-other t i next (z .other) (o .one) (runOf (decode (drop e t))) (o .run) (o .class)); other = o }
+
+module _ (p : code.Profile) (t : List ℕ) (at i next : ℕ) (z : OthersLoop t at i next) where
+  pub others-last : PlainTo (profileOf p) t at i
+  unfolding profileOf
+  others-last = z .to
+
+  further-on : PlainTo profile01 t i next → PlainTo (profileOf p) t at next
+  unfolding profileOf
+  further-on y = plain-on profile01 t at i next (z .to) y
+
+  pub others-past : length t ≤ next → PlainTo (profileOf p) t at next
+  others-past h = further-on (on-none t i next (z .other) (none-past t next h))
+
+  pub others-byte : (b : ℕ) → next < length t → b ≡ getD t next 0 → b < 0x80 → PlainTo (profileOf p) t at next
+  others-byte b h e k = further-on (on-low t i next (z .other) (ascii b) (runOf (decode (drop (next + 1) t))) (run-byte t next b h e (omega arith)) (omega arith))
+
+  -- a damaged byte, or a scalar below 80
+  pub others-low : (v : Sequence) → next < length t → v ≡ firstSequence (decode (drop next t)) → v .code < 0x80 → PlainTo (profileOf p) t at next
+  others-low v h e k =
+      cases (eqb (v .len) 0)
+      (λ q. further-on (on-none t i next (z .other) (none-at t next v h e (eqb-true _ 0 q))))
+      (λ q.
+      let s = scalar-at t next v h e (eqb-false _ 0 q) in
+      further-on (on-low t i next (z .other) (s .scalar) (runOf (decode (drop (next + v .len) t))) (s .run) (omega (arith, s .code))))

@@ -1,0 +1,83 @@
+use Prim.Native.Nat.{_+_, _-_}
+use lib.ListN.{length}
+use Rattle.spans.proofs.Single.{printable-at, plain-here, OthersLoop, others-begin, others-more, others-last, others-past, others-byte}
+use borrow.Author.Needs.{needs}
+use Rattle.spans.proofs.reader.printable_end.Statement.{statement}
+use Rattle.spans.proofs.reader.printable_end.Tie as tie
+
+abbrev Inv-loop : tie.InvT-loop
+Inv-loop t at i₀ i = OthersLoop t at i (i + 1)
+
+abbrev μ-loop : tie.MeasureT-loop
+μ-loop t at i₀ i = length t - i
+
+shared-slice-read-is-printable : tie.Need-shared-slice-read-is-printable Inv-loop μ-loop
+shared-slice-read-is-printable c = search needs
+
+is-printable-requires : tie.Need-is-printable-requires Inv-loop μ-loop
+is-printable-requires c κs = search needs
+
+loop-holds : tie.Need-loop-holds Inv-loop μ-loop
+loop-holds c = search (others-begin, printable-at)
+
+add-loop : tie.Need-add-loop Inv-loop μ-loop
+add-loop c = search needs
+
+add-b : tie.Need-add-b Inv-loop μ-loop
+add-b c = search needs
+
+shared-slice-read-b : tie.Need-shared-slice-read-b Inv-loop μ-loop
+shared-slice-read-b c = search needs
+
+is-printable-requires-2 : tie.Need-is-printable-requires-2 Inv-loop μ-loop
+is-printable-requires-2 c κs = search needs
+
+add-i : tie.Need-add-i Inv-loop μ-loop
+add-i c = search needs
+
+loop-less : tie.Need-loop-less Inv-loop μ-loop
+loop-less c = search needs
+
+loop-again : tie.Need-loop-again Inv-loop μ-loop
+loop-again c = search (others-more, printable-at)
+
+add-result : tie.Need-add-result Inv-loop μ-loop
+add-result c = search needs
+
+returns : tie.Need-returns Inv-loop μ-loop
+returns c = search others-byte
+
+returns-2 : tie.Need-returns-2 Inv-loop μ-loop
+returns-2 c = search others-last
+
+add-result-2 : tie.Need-add-result-2 Inv-loop μ-loop
+add-result-2 c = search needs
+
+returns-3 : tie.Need-returns-3 Inv-loop μ-loop
+returns-3 c = search others-past
+
+returns-4 : tie.Need-returns-4 Inv-loop μ-loop
+returns-4 c = search (needs, plain-here)
+
+pub printable-end-spec : {M : Type 1} → statement M
+printable-end-spec =
+    tie.close
+    (tie.spec
+    Inv-loop
+    μ-loop
+    shared-slice-read-is-printable
+    is-printable-requires
+    loop-holds
+    add-loop
+    add-b
+    shared-slice-read-b
+    is-printable-requires-2
+    add-i
+    loop-less
+    loop-again
+    add-result
+    returns
+    returns-2
+    add-result-2
+    returns-3
+    returns-4)
