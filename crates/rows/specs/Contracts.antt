@@ -1,25 +1,31 @@
 -- What the code's values say: stretches and words of a text; the state of wrapping and the lent row list, of the rows pushed.
 use mathlib.Core.Path.{_≡_}
 use Prim.Native.Nat.{ℕ, _+_, _-_, _*_, _/_, _≤_, _<_, _^_}
-use mathlib.Core.Bool.{Bool, cond, _&&_, _||_}
-use mathlib.Core.List.{List, [], _∷_}
-use lib.ListN.{length, set, drop}
+use mathlib.Core.Bool.{Bool, true, false, cond, _&&_, _||_}
+use mathlib.Core.List.{List, [], _∷_, _++_}
+use lib.ListN.{length, set, take, drop, replicate}
 use lib.Dec.{eqb, leb, ltb}
 use Rattle.text.specs.declared.Column.{Column}
+use Rattle.text.specs.declared.Answer.{Answer}
 use Rattle.text.specs.Utf8.{Scalar, decode}
 use Rattle.text.specs.Class.{Profile}
-use Rattle.text.specs.Width.{widthOf}
+use Rattle.text.specs.Width.{widthOf, profile01}
 use Rattle.text.specs.Code.{runOf, size}
 use Rattle.text.specs.Cluster.{clusters}
 use Rattle.spans.specs.Spans.{Record}
 use Rattle.spans.specs.Spans.ContentLaw.{textIn}
+use Rattle.spans.specs.Contracts.{readAs}
 use Rattle.rows.specs.Words.{Word, words}
 use Rattle.rows.specs.Words.Laws.{firstWord}
 use Rattle.rows.specs.declared.words.Stretch.{Stretch}
 use Rattle.rows.specs.declared.words.Word as code
 use Rattle.rows.specs.Rows.{Row, row, Wrap, wrap, unit, byClusters, longWord, oneWord, byWords, splitText, tabbed}
+use Rattle.rows.specs.Calls.{modeAndWidth, Wrapped, rowsCall, heightCall}
+use Rattle.rows.specs.declared.Request.{Request}
+use Rattle.rows.specs.declared.Outcome.{Outcome}
 use Rattle.rows.specs.declared.wrap.Tally.{Tally}
 use Rattle.rows.specs.declared.wrap.WrapState.{WrapState}
+use Rattle.rows.specs.declared.wrap.Wrapping.{Wrapping}
 pub mod Laws
 
 -- ---- parts of a text
@@ -228,3 +234,43 @@ pub record SpansRoom (spans : List Record) (buffer : List ℕ) (len : ℕ) (t : 
 pub record MadeWrap (P : Profile) (width mode : ℕ) (line : List ℕ) (rs : List Record) (l : List ℕ) (t : WrapState) (l′ : List ℕ) (r : Tally) : Type 0 where
   pub same : kept l′ r ≡ lastKept mode (on (spansOf P width mode line rs) (held l t))
   pub more : r .count < 0xFFFF_FFFF_FFFF_FFFF
+
+-- ---- the calls
+
+abbrev pub largest : ℕ
+largest = 0xFFFF_FFFF_FFFF_FFFF
+
+-- the converted line of a call that is not refused 1 or 2 stands in so many bytes of a buffer
+abbrev pub lineRoom : ℕ → ℕ
+lineRoom conv = cond (leb conv 32768) conv 32768
+
+abbrev pub wrappingOf : Request → ℕ → Wrapping
+wrappingOf q conv = record { profile = record { version = 0 }; width = column (q .width); mode = q .mode; len = lineRoom conv }
+
+-- the number that `read` decides, or else questions 5 and 6, of so many rows and a row list of so many numbers
+unfoldable pub decided : Request → (read rows numbers : ℕ) → ℕ
+decided q read rows numbers =
+    cond (ltb 0 read) read
+    (cond (modeAndWidth (q .mode) (q .width)) (cond (q .listed && ltb (numbers / 2) rows) 6 0) 5)
+
+-- an accepted call keeps all, and the pairs of the rows; a refused one nothing
+unfoldable pub outcomeOf : (number rows numbers : ℕ) → Outcome
+outcomeOf number rows numbers =
+    cond (eqb number 0)
+    (record { number = 0; count = rows; kept = largest; numbers = 2 * cond (leb rows (numbers / 2)) rows (numbers / 2) })
+    (record { number = number; count = 0; kept = 0; numbers = 0 })
+
+abbrev pub answerOf : Outcome → Answer
+answerOf o = record { number = o .number; count = o .count }
+
+-- what is kept of a lent list, and blanks after it
+abbrev pub cleared : {A : Type 0} → A → ℕ → List A → List A
+cleared blank n l = take n l ++ replicate (length l - n) blank
+
+abbrev pub wrappedAs : Answer → List ℕ → List Record → List ℕ → Wrapped
+wrappedAs a conv spans rows = record { number = a .number; count = a .count; conv = conv; spans = spans; rows = rows }
+
+-- what a call leaves that was lent so many bytes, records and numbers: as `rows`, or as `height` where the rows are not to be listed
+pub record Called (q : Request) (size places numbers : ℕ) (line : List ℕ) (a : Answer) (conv : List ℕ) (spans : List Record) (rows : List ℕ) : Type 0 where
+  pub listed : q .listed ≡ true → wrappedAs a conv spans rows ≡ rowsCall profile01 size places numbers (q .width) (q .mode) line
+  pub counted : q .listed ≡ false → readAs a conv spans ≡ heightCall profile01 size places (q .width) (q .mode) line

@@ -1,3 +1,197 @@
-// Layer 3, rows: words and wrapping.
+// Layer 3, rows: words and wrapping; the calls `rows` and `height`.
+use buffer::clear_bytes;
+use buffer::clear_numbers;
+use spans::Span;
+use spans::clear_spans;
+use text::Answer;
+use text::Column;
+use text::class::Profile;
+use wrap::Tally;
+use wrap::Wrapping;
+use wrap::begin;
+use wrap::make_wrap;
+ghost use mathlib.Core.Path.{_≡_};
+ghost use mathlib.Core.Bool.{cond};
+ghost use mathlib.Core.List.{[]};
+ghost use lib.Dec.{leb};
+ghost use lib.ListN.{length};
+ghost use Rattle.text.specs.Width.{profile01};
+ghost use Rattle.spans.specs.Calls.{noRecord};
+ghost use Rattle.spans.specs.Contracts.{readAs};
+ghost use Rattle.rows.specs.Calls.{modeAndWidth, rowsCall, heightCall};
+ghost use Rattle.rows.specs.Contracts.{wrappingOf, decided, outcomeOf, answerOf, cleared, wrappedAs, Called};
+
 pub mod words;
 pub mod wrap;
+
+// What a call asks: the width, the mode, and whether the rows are to be listed.
+pub struct Request {
+    pub width: usize,
+    pub mode: usize,
+    pub listed: bool,
+}
+
+// An answer, and how much is kept: of the converted line and the spans, and of the row list's numbers.
+pub struct Outcome {
+    pub number: usize,
+    pub count: usize,
+    pub kept: usize,
+    pub numbers: usize,
+}
+
+// No match ranges: rows and height read without matches.
+fn no_matches<'a>(numbers: &'a [usize]) -> &'a [usize]
+    ensures { λ r. ⌜ now r ≡ [] ⌝ }
+{
+    &numbers[..0]
+}
+
+fn smaller(a: usize, b: usize) -> usize
+    ensures { λ r. ⌜ r ≡ cond (leb a b) a b ⌝ }
+{
+    if a <= b {
+        return a;
+    }
+    b
+}
+
+// The converted line has at most 8 times 4,096 bytes; no span lies behind it.
+fn wrapping(request: Request, conv: usize) -> Wrapping
+    ensures { λ r. ⌜ r ≡ wrappingOf request conv ⌝ }
+{
+    Wrapping {
+        profile: Profile { version: 0 },
+        width: Column(request.width),
+        mode: request.mode,
+        len: smaller(conv, 32768),
+    }
+}
+
+// Question 5.
+fn mode_and_width(request: Request) -> bool
+    ensures { λ r. ⌜ r ≡ modeAndWidth (request .mode) (request .width) ⌝ }
+{
+    (request.mode <= 2) & (request.width <= 65535)
+}
+
+// The number: what `read` answered, then questions 5 and 6.
+fn decide(request: Request, read: usize, rows: usize, numbers: usize) -> usize
+    ensures { λ r. ⌜ r ≡ decided request read rows numbers ⌝ }
+{
+    if 0 < read {
+        return read;
+    }
+    if mode_and_width(request) {
+        if request.listed & (numbers / 2 < rows) {
+            return 6;
+        }
+        return 0;
+    }
+    5
+}
+
+// What is kept: all and the pairs of the rows, or nothing where the call is refused.
+fn outcome_of(request: Request, read: Answer, tally: Tally, numbers: usize) -> Outcome
+    ensures { λ r. ⌜ r ≡ outcomeOf (decided request (read .number) (tally .count) numbers) (tally .count) numbers ⌝ }
+{
+    let number = decide(request, read.number, tally.count, numbers);
+    if number == 0 {
+        return Outcome {
+            number: 0,
+            count: tally.count,
+            kept: usize::MAX,
+            numbers: 2 * smaller(tally.count, numbers / 2),
+        };
+    }
+    Outcome {
+        number: number,
+        count: 0,
+        kept: 0,
+        numbers: 0,
+    }
+}
+
+fn answer_of(o: Outcome) -> Answer
+    ensures { λ r. ⌜ r ≡ answerOf o ⌝ }
+{
+    Answer {
+        number: o.number,
+        count: o.count,
+    }
+}
+
+// Reads a line without matches and wraps its spans.
+fn wrap_line(
+    line: &[u8],
+    conv: &mut [u8],
+    spans: &mut [Span],
+    rows: &mut [usize],
+    request: Request,
+) -> Outcome
+    ensures { λ r. ⌜ Called request (length (now (conv .entry))) (length (now (spans .entry))) (length (now (rows .entry))) (now (line .entry)) (answerOf r) (cleared 0 (r .kept) (now (conv .exit))) (cleared noRecord (r .kept) (now (spans .exit))) (cleared 0 (r .numbers) (now (rows .exit))) ⌝ }
+{
+    let read = spans::read(line, no_matches(rows), conv, spans);
+    let wrapping = wrapping(request, conv.len());
+    let state = begin(0, 0);
+    let tally = make_wrap(spans, conv, rows, wrapping, state, read.count);
+    outcome_of(request, read, tally, rows.len())
+}
+
+// The same, with zeros in all that is not kept.
+fn answer_line(
+    line: &[u8],
+    conv: &mut [u8],
+    spans: &mut [Span],
+    rows: &mut [usize],
+    request: Request,
+) -> Answer
+    ensures { λ r. ⌜ Called request (length (now (conv .entry))) (length (now (spans .entry))) (length (now (rows .entry))) (now (line .entry)) r (now (conv .exit)) (now (spans .exit)) (now (rows .exit)) ⌝ }
+{
+    let outcome = wrap_line(line, conv, spans, rows, request);
+    clear_bytes(conv, outcome.kept);
+    clear_spans(spans, outcome.kept);
+    clear_numbers(rows, outcome.numbers);
+    answer_of(outcome)
+}
+
+// The call `rows`: the converted line in conv, the records in spans, the start and end of each row in rows, and zeros after each.
+pub fn rows(
+    line: &[u8],
+    width: usize,
+    mode: usize,
+    conv: &mut [u8],
+    spans: &mut [Span],
+    rows: &mut [usize],
+) -> Answer
+    ensures { λ r. ⌜ wrappedAs r (now (conv .exit)) (now (spans .exit)) (now (rows .exit)) ≡ rowsCall profile01 (length (now (conv .entry))) (length (now (spans .entry))) (length (now (rows .entry))) width mode (now (line .entry)) ⌝ }
+{
+    answer_line(
+        line,
+        conv,
+        spans,
+        rows,
+        Request {
+            width: width,
+            mode: mode,
+            listed: true,
+        },
+    )
+}
+
+// The call `height`: as `rows`, with no row list.
+pub fn height(line: &[u8], width: usize, mode: usize, conv: &mut [u8], spans: &mut [Span]) -> Answer
+    ensures { λ r. ⌜ readAs r (now (conv .exit)) (now (spans .exit)) ≡ heightCall profile01 (length (now (conv .entry))) (length (now (spans .entry))) width mode (now (line .entry)) ⌝ }
+{
+    let mut none: [usize; 0] = [];
+    answer_line(
+        line,
+        conv,
+        spans,
+        &mut none,
+        Request {
+            width: width,
+            mode: mode,
+            listed: false,
+        },
+    )
+}

@@ -16,6 +16,7 @@ pub mod Noise
 pub mod ContentLaw
 pub mod Steps
 pub mod Inside
+pub mod Few
 pub mod ContentKinds
 
 -- the source's Span: what a span holds; Text is `text none`, Match is `text (some k)`

@@ -6,7 +6,7 @@ use mathlib.Core.Bool.{Bool, true, false, cond}
 use mathlib.Core.List.{List, [], _∷_, _++_}
 use lib.ListN.{length, replicate}
 use lib.Dec.{leb}
-use borrow.Author.Tests.{le-leb, lt-leb}
+use borrow.Author.Tests.{le-leb, lt-leb, leb-true}
 use Rattle.text.specs.Tests.{cases}
 use Rattle.text.specs.Class.{Profile}
 use Rattle.text.specs.Overstrike.{convert}
@@ -39,6 +39,16 @@ some-no true true false n r e = e
 some-no true false c n r e = e
 some-no false b c n r e = e
 
+-- a line that questions 1 and 2 accept
+pub record Passed (conv : ℕ) (line : List ℕ) : Type 0 where
+  pub short : length line ≤ 4096
+  pub room : 8 * length line ≤ conv
+
+two-yes : (a b c : Bool) → reads a b c ≡ 0 → (a ≡ true) × (b ≡ true)
+two-yes true true c e = (refl, refl)
+two-yes true false c e = absurd (omega arith)
+two-yes false b c e = absurd (omega arith)
+
 module _ (P : Profile) (conv places : ℕ) (line : List ℕ) where
   abbrev q1 : Bool
   q1 = leb (length line) 4096
@@ -65,8 +75,16 @@ module _ (P : Profile) (conv places : ℕ) (line : List ℕ) where
   unfolding lent counted
   read-accepted e = read-by ∙ ap readBy (sym (ap (λ (x : Read). x .number) read-by) ∙ e)
 
+  -- refused
+  pub read-refused : (r : ℕ) → readCall P conv places [] line .number ≡ suc r → readCall P conv places [] line ≡ record { number = suc r; count = 0; conv = replicate conv 0; spans = replicate places noRecord }
+  unfolding lent counted
+  read-refused r e = read-by ∙ ap readBy (sym (ap (λ (x : Read). x .number) read-by) ∙ e)
+
   number-by : {n : ℕ} → readCall P conv places [] line .number ≡ n → reads q1 q2 q4 ≡ n
   number-by e = sym (ap (λ (x : Read). x .number) read-by) ∙ e
+
+  pub read-passed : readCall P conv places [] line .number ≡ 0 → Passed conv line
+  read-passed e = let y = two-yes q1 q2 q4 (number-by e) in record { short = leb-true (length line) 4096 (y .0); room = leb-true (8 * length line) conv (y .1) }
 
   module _ (width mode : ℕ) where
     abbrev rowsFound : List Row

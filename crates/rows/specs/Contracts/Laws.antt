@@ -2,14 +2,13 @@
 use mathlib.Core.Path.{_≡_, refl, sym, ap, ap₂, _∙_}
 use mathlib.Core.Logic.{_≢_}
 use Prim.Native.Nat.{ℕ, zero, suc, _+_, _-_, _*_, _/_, _≤_, _<_}
-use native.Mathlib.Nat.{sub-zero}
 use native.Mathlib.Numerals.{add-one}
 use native.Mathlib.Omega.{arith}
 use mathlib.Core.Bool.{Bool, true, false, cond}
 use mathlib.Core.List.{List, [], _∷_, _++_, reverse, reverse-reverse, reverse-cons, append-assoc}
 use mathlib.Core.Option.{none, some}
-use lib.ListN.{length, drop, set, replicate, length-append, length-replicate, length-reverse}
-use lib.Seq.{set-append-seam}
+use lib.ListN.{length, drop, set, getD, length-append, length-drop, length-reverse}
+use lib.Seq.{set-append-seam, drop-cons}
 use lib.Dec.{eqb, ltb}
 use borrow.Author.Tests.{lt-ltb, le-ltb, eq-eqb, ne-eqb, ltb-true, ltb-false}
 use Rattle.text.specs.Tests.{cases}
@@ -122,53 +121,49 @@ unfolding numbersOf
 numbersOf-length [] = refl
 numbersOf-length (r ∷ a) = omega (arith, numbersOf-length a)
 
--- two numbers behind a, in the place of zeros
-two-set : (a z : List ℕ) (n x y : ℕ) → length a ≡ n → set (set (a ++ 0 ∷ 0 ∷ z) n x) (n + 1) y ≡ a ++ x ∷ y ∷ z
-two-set a z n x y e =
-    let p : set (a ++ 0 ∷ 0 ∷ z) n x ≡ a ++ x ∷ 0 ∷ z = rw (← e) (set-append-seam a 0 (0 ∷ z) x) in
-    let q : a ++ x ∷ 0 ∷ z ≡ (a ++ x ∷ []) ++ 0 ∷ z = sym (append-assoc a (x ∷ []) (0 ∷ z)) in
+-- two numbers behind a, in the place of two others
+two-set : (a z : List ℕ) (n u v x y : ℕ) → length a ≡ n → set (set (a ++ u ∷ v ∷ z) n x) (n + 1) y ≡ a ++ x ∷ y ∷ z
+two-set a z n u v x y e =
+    let p : set (a ++ u ∷ v ∷ z) n x ≡ a ++ x ∷ v ∷ z = rw (← e) (set-append-seam a u (v ∷ z) x) in
+    let q : a ++ x ∷ v ∷ z ≡ (a ++ x ∷ []) ++ v ∷ z = sym (append-assoc a (x ∷ []) (v ∷ z)) in
     let m : n + 1 ≡ length (a ++ x ∷ []) = rw (length-append, e) in
-    ap (λ (l : List ℕ). set l (n + 1) y) (p ∙ q) ∙ rw m (set-append-seam (a ++ x ∷ []) 0 z y) ∙ append-assoc a (x ∷ []) (y ∷ z)
+    ap (λ (l : List ℕ). set l (n + 1) y) (p ∙ q) ∙ rw m (set-append-seam (a ++ x ∷ []) v z y) ∙ append-assoc a (x ∷ []) (y ∷ z)
 
-abbrev twoZeros : List ℕ → List ℕ
-twoZeros l = 0 ∷ 0 ∷ l
+two-more : (l : List ℕ) (i : ℕ) → 2 + i ≤ length l → drop i l ≡ getD l i 0 ∷ getD l (suc i) 0 ∷ drop (suc (suc i)) l
+two-more l i h = drop-cons l i 0 (omega arith) ∙ ap (λ (x : List ℕ). getD l i 0 ∷ x) (drop-cons l (suc i) 0 (omega arith))
 
-two-zeros : (n : ℕ) → 2 ≤ n → replicate n 0 ≡ twoZeros (replicate (n - 2) 0)
-two-zeros zero h = absurd (omega arith)
-two-zeros (suc zero) h = absurd (omega arith)
-two-zeros (suc (suc n)) h = ap (λ (m : ℕ). twoZeros (replicate m 0)) (let e : n ≡ suc (suc n) - 2 = omega arith in e)
+module _ (l : List ℕ) (t : Tally) (z : t .count ≡ 0) where
+  abbrev nothing-yet : Kept
+  nothing-yet = kept l t
 
-module _ (n : ℕ) (t : Tally) (z : t .count ≡ 0) where
-  abbrev zeros-yet : Kept
-  zeros-yet = kept (replicate n 0) t
-
-  fewer : (r : Row) (rs : List Row) → keeps zeros-yet (r ∷ rs) .tally .count < 0xFFFF_FFFF_FFFF_FFFF → keeps zeros-yet rs .tally .count < 0xFFFF_FFFF_FFFF_FFFF
+  fewer : (r : Row) (rs : List Row) → keeps nothing-yet (r ∷ rs) .tally .count < 0xFFFF_FFFF_FFFF_FFFF → keeps nothing-yet rs .tally .count < 0xFFFF_FFFF_FFFF_FFFF
   unfolding keeps keep tallied nextCount
-  fewer r rs h = cases (ltb (keeps zeros-yet rs .tally .count) 0xFFFF_FFFF_FFFF_FFFF) (λ e. ltb-true _ _ e) (λ e. rw e at h)
+  fewer r rs h = cases (ltb (keeps nothing-yet rs .tally .count) 0xFFFF_FFFF_FFFF_FFFF) (λ e. ltb-true _ _ e) (λ e. rw e at h)
 
-  pairs : (r : Row) (rs : List Row) (y : List ℕ) → keeps zeros-yet rs .tally .count ≡ length rs → keeps zeros-yet rs .numbers ≡ numbersOf (reverse rs) ++ 0 ∷ 0 ∷ y
-      → length (keeps zeros-yet rs .numbers) ≡ n → length rs < n / 2 → length (numbersOf (reverse rs)) ≡ 2 * length rs
-      → keeps zeros-yet (r ∷ rs) .numbers ≡ (numbersOf (reverse rs) ++ r .start ∷ r .end ∷ []) ++ y
+  pairs : (r : Row) (rs : List Row) (u v : ℕ) (y : List ℕ) → keeps nothing-yet rs .tally .count ≡ length rs → keeps nothing-yet rs .numbers ≡ numbersOf (reverse rs) ++ u ∷ v ∷ y
+      → length (keeps nothing-yet rs .numbers) ≡ length l → length rs < length l / 2 → length (numbersOf (reverse rs)) ≡ 2 * length rs
+      → keeps nothing-yet (r ∷ rs) .numbers ≡ (numbersOf (reverse rs) ++ r .start ∷ r .end ∷ []) ++ y
   unfolding keeps keep pairAt
-  pairs r rs y k f g lt a =
-      rw (k, g, lt-ltb (length rs) (n / 2) lt, f) (two-set (numbersOf (reverse rs)) y (2 * length rs) (r .start) (r .end) a ∙ sym (append-assoc (numbersOf (reverse rs)) (r .start ∷ r .end ∷ []) y))
+  pairs r rs u v y k f g lt a =
+      rw (k, g, lt-ltb (length rs) (length l / 2) lt, f) (two-set (numbersOf (reverse rs)) y (2 * length rs) u v (r .start) (r .end) a ∙ sym (append-assoc (numbersOf (reverse rs)) (r .start ∷ r .end ∷ []) y))
 
-  -- the pairs of the rows, in their order, and zeros after them
-  pub keeps-numbers : (rs : List Row) → 2 * length rs ≤ n → keeps zeros-yet rs .tally .count < 0xFFFF_FFFF_FFFF_FFFF
-      → keeps zeros-yet rs .numbers ≡ numbersOf (reverse rs) ++ replicate (n - 2 * length rs) 0
+  -- the pairs of the rows, in their order, and what stood behind them
+  pub keeps-numbers : (rs : List Row) → 2 * length rs ≤ length l → keeps nothing-yet rs .tally .count < 0xFFFF_FFFF_FFFF_FFFF
+      → keeps nothing-yet rs .numbers ≡ numbersOf (reverse rs) ++ drop (2 * length rs) l
   unfolding keeps keep pairAt numbersOf
-  keeps-numbers [] h c = ap (λ (m : ℕ). replicate {A = ℕ} m 0) (sym (sub-zero n))
+  keeps-numbers [] h c = refl
   keeps-numbers (r ∷ rs) h c =
       let d = fewer r rs c in
-      let k : keeps zeros-yet rs .tally .count ≡ length rs = keeps-count zeros-yet z rs d in
-      let l : keeps zeros-yet rs .numbers ≡ numbersOf (reverse rs) ++ replicate (n - 2 * length rs) 0 = keeps-numbers rs (omega arith) d in
-      let a : length (numbersOf (reverse rs)) ≡ 2 * length rs = numbersOf-length (reverse rs) ∙ ap (λ (m : ℕ). 2 * m) (length-reverse rs) in
-      let e : replicate {A = ℕ} (n - 2 * length rs) 0 ≡ 0 ∷ 0 ∷ replicate (n - 2 * suc (length rs)) 0 =
-      two-zeros (n - 2 * length rs) (omega arith) ∙ ap (λ (m : ℕ). twoZeros (replicate m 0)) (let q : n - 2 * length rs - 2 ≡ n - 2 * suc (length rs) = omega arith in q) in
-      let f : keeps zeros-yet rs .numbers ≡ numbersOf (reverse rs) ++ 0 ∷ 0 ∷ replicate (n - 2 * suc (length rs)) 0 = l ∙ ap (λ (x : List ℕ). numbersOf (reverse rs) ++ x) e in
-      let g : length (keeps zeros-yet rs .numbers) ≡ n = ap length l ∙ (rw (length-append, a, length-replicate {A = ℕ} (n - 2 * length rs) 0) (omega arith)) in
-      let lt : length rs < n / 2 = omega arith in
-      pairs r rs (replicate (n - 2 * suc (length rs)) 0) k f g lt a ∙ ap (λ (x : List ℕ). x ++ replicate (n - 2 * suc (length rs)) 0) (sym (ap numbersOf (reverse-cons r rs) ∙ numbersOf-append (reverse rs) (r ∷ [])))
+      let i : ℕ = 2 * length rs in
+      let k : keeps nothing-yet rs .tally .count ≡ length rs = keeps-count nothing-yet z rs d in
+      let m : keeps nothing-yet rs .numbers ≡ numbersOf (reverse rs) ++ drop i l = keeps-numbers rs (omega arith) d in
+      let a : length (numbersOf (reverse rs)) ≡ i = numbersOf-length (reverse rs) ∙ ap (λ (n : ℕ). 2 * n) (length-reverse rs) in
+      let e : drop i l ≡ getD l i 0 ∷ getD l (suc i) 0 ∷ drop (2 * suc (length rs)) l =
+      two-more l i (omega arith) ∙ ap (λ (n : ℕ). getD l i 0 ∷ getD l (suc i) 0 ∷ drop n l) (let q : suc (suc i) ≡ 2 * suc (length rs) = omega arith in q) in
+      let f : keeps nothing-yet rs .numbers ≡ numbersOf (reverse rs) ++ getD l i 0 ∷ getD l (suc i) 0 ∷ drop (2 * suc (length rs)) l = m ∙ ap (λ (x : List ℕ). numbersOf (reverse rs) ++ x) e in
+      let g : length (keeps nothing-yet rs .numbers) ≡ length l = ap length m ∙ (rw (length-append, a, length-drop i l) (omega arith)) in
+      let lt : length rs < length l / 2 = omega arith in
+      pairs r rs (getD l i 0) (getD l (suc i) 0) (drop (2 * suc (length rs)) l) k f g lt a ∙ ap (λ (x : List ℕ). x ++ drop (2 * suc (length rs)) l) (sym (ap numbersOf (reverse-cons r rs) ∙ numbersOf-append (reverse rs) (r ∷ [])))
 
 -- ---- rows in their order
 

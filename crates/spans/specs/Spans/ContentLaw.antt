@@ -264,3 +264,8 @@ module _ (P : Profile) (line : List ℕ) where
 pub content : (P : Profile) (matches line : List ℕ) → All (λ (s : Span). contentOf line (recordOf s) ≡ s .content) (read P matches line)
 unfolding recordOf
 content P matches line = all-map (λ s h. stands-content line (s .place) (s .len) (s .content) h) (read-stands P line matches)
+
+-- the same of a line at the front of a buffer
+pub content-front : (P : Profile) (s after : List ℕ) → All (λ (x : Span). contentOf (s ++ after) (recordOf x) ≡ x .content) (spans P s)
+unfolding recordOf spans
+content-front P s after = all-map (λ x h. stands-content (s ++ after) (x .place) (x .len) (x .content) h) (spansAt-stands P (s ++ after) none 0 s after refl)

@@ -103,7 +103,7 @@ module _ (P : Profile) where
   addCluster-inside m p q g n plain go h k z a = addText-inside m p q g (go zero) h (a zero)
   addCluster-inside m p q g n (special c j) go h k z a = all-cons (between p q j c (omega arith)) (later p (p + length (bytesOf g)) q (omega arith) (a (j - length (bytesOf g))))
 
-  clusters-some : (gs : List (List Scalar)) → (s : List Scalar) → clusters P s ≡ gs → All Valid s → All (λ (g : List Scalar). 1 ≤ length (bytesOf g)) gs
+  pub clusters-some : (gs : List (List Scalar)) → (s : List Scalar) → clusters P s ≡ gs → All Valid s → All (λ (g : List Scalar). 1 ≤ length (bytesOf g)) gs
   clusters-some [] = λ s e a. all-nil
   clusters-some (g ∷ gs) = λ s e a.
       let f = first P s g gs e in
