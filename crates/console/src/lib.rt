@@ -6,6 +6,8 @@ ghost use Rattle.text.specs.Calls.{convertCall};
 ghost use Rattle.text.specs.Code.{converted};
 ghost use Rattle.spans.specs.Calls.{readCall};
 ghost use Rattle.spans.specs.Contracts.{readAs};
+ghost use Rattle.rows.specs.Calls.{rowsCall, heightCall};
+ghost use Rattle.rows.specs.Contracts.{wrappedAs};
 use spans::Span;
 use text::Answer;
 
@@ -26,4 +28,31 @@ pub extern "C" fn console_read(
     ensures { λ r. ⌜ readAs r (now (conv .exit)) (now (spans .exit)) ≡ readCall profile01 (length (now (conv .entry))) (length (now (spans .entry))) (now (matches .entry)) (now (line .entry)) ⌝ }
 {
     spans::read(line, matches, conv, spans)
+}
+
+#[no_mangle]
+pub extern "C" fn console_rows(
+    line: &[u8],
+    width: usize,
+    mode: usize,
+    conv: &mut [u8],
+    spans: &mut [Span],
+    rows: &mut [usize],
+) -> Answer
+    ensures { λ r. ⌜ wrappedAs r (now (conv .exit)) (now (spans .exit)) (now (rows .exit)) ≡ rowsCall profile01 (length (now (conv .entry))) (length (now (spans .entry))) (length (now (rows .entry))) width mode (now (line .entry)) ⌝ }
+{
+    rows::rows(line, width, mode, conv, spans, rows)
+}
+
+#[no_mangle]
+pub extern "C" fn console_height(
+    line: &[u8],
+    width: usize,
+    mode: usize,
+    conv: &mut [u8],
+    spans: &mut [Span],
+) -> Answer
+    ensures { λ r. ⌜ readAs r (now (conv .exit)) (now (spans .exit)) ≡ heightCall profile01 (length (now (conv .entry))) (length (now (spans .entry))) width mode (now (line .entry)) ⌝ }
+{
+    rows::height(line, width, mode, conv, spans)
 }

@@ -14,6 +14,7 @@ use Rattle.text.specs.Code.{runOf, size}
 use Rattle.text.specs.Cluster.{clusters}
 use Rattle.spans.specs.Spans.{Record}
 use Rattle.spans.specs.Spans.ContentLaw.{textIn}
+use Rattle.spans.specs.Calls.{Read}
 use Rattle.spans.specs.Contracts.{readAs}
 use Rattle.rows.specs.Words.{Word, words}
 use Rattle.rows.specs.Words.Laws.{firstWord}
@@ -274,3 +275,16 @@ wrappedAs a conv spans rows = record { number = a .number; count = a .count; con
 pub record Called (q : Request) (size places numbers : ℕ) (line : List ℕ) (a : Answer) (conv : List ℕ) (spans : List Record) (rows : List ℕ) : Type 0 where
   pub listed : q .listed ≡ true → wrappedAs a conv spans rows ≡ rowsCall profile01 size places numbers (q .width) (q .mode) line
   pub counted : q .listed ≡ false → readAs a conv spans ≡ heightCall profile01 size places (q .width) (q .mode) line
+
+-- ---- the calls with a span list of their own
+
+pub record RowsAlone (c : Wrapped) (a : Answer) (conv rows : List ℕ) : Type 0 where
+  pub number : a .number ≡ c .number
+  pub count : a .count ≡ c .count
+  pub bytes : conv ≡ c .conv
+  pub pairs : rows ≡ c .rows
+
+pub record HeightAlone (c : Read) (a : Answer) (conv : List ℕ) : Type 0 where
+  pub number : a .number ≡ c .number
+  pub count : a .count ≡ c .count
+  pub bytes : conv ≡ c .conv
