@@ -40,7 +40,7 @@ pub struct Outcome {
     pub numbers: usize,
 }
 
-// No match ranges: rows and height read without matches.
+// An empty list of matches: rows and height read without any.
 fn no_matches<'a>(numbers: &'a [usize]) -> &'a [usize]
     ensures { λ r. ⌜ now r ≡ [] ⌝ }
 {
