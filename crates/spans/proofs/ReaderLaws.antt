@@ -29,7 +29,7 @@ use Rattle.spans.specs.Sequence.{sgr, eraseToEnd, ignored, hyperlink, li
 use Rattle.spans.specs.Sequence.Laws.{parse-length}
 use Rattle.spans.specs.Spans.{Content, Span, span, Seen, plain, special, seen, spansAt, text, control, invalid, unprintable, escape, tab, crlf, lf, Record, aRecord, kindOf, matchOf, recordOf, records}
 use Rattle.spans.specs.Spans.Steps.{extent, isPlain, plainCluster, plain-same, plainSize, plainText, skipped, step-text, step-special, step-invalid, NoText, seen-noText}
-use Rattle.spans.specs.Contracts.{alone, plainBytes, plainFirst, clustersAt, PlainTo, runAt, Part, Within, Ahead, Skip, told, escapeLook, lookBytes, aLook, Fresh, Ready, matchIn, textRecord, recordsFrom, invalidAt, Stepped, ControlReady, Escaping, Mark, SpecialStep}
+use Rattle.spans.specs.Contracts.{alone, plainBytes, plainFirst, clustersAt, PlainTo, runAt, Part, Within, Ahead, Skip, told, escapeLook, lookBytes, aLook, Fresh, Ready, isMatch, matchIn, textRecord, recordsFrom, invalidAt, Stepped, ControlReady, Escaping, Mark, SpecialStep}
 use Rattle.spans.specs.declared.sequence.Sequence as sequence
 use Rattle.spans.specs.declared.reader.Look.{Look}
 use Rattle.spans.specs.declared.reader.Place.{Place}
@@ -524,7 +524,7 @@ text-run P (g ∷ gs) = λ t at e.
 
 text-record : (m : Matched) (at n : ℕ) (s : List Scalar) → recordOf (span at n (text (matchIn m) s)) ≡ textRecord m at n
 unfolding recordOf kindOf matchOf matchIn textRecord
-text-record m at n s = cases (m .inside) (λ b. rw b) (λ b. rw b)
+text-record m at n s = cases (isMatch m) (λ b. rw b) (λ b. rw b)
 
 pub invalid-is : (c : Place) (r : Record) → r ≡ aRecord 4 (c .at) 1 0 → record { span = r; place = record { at = c .at + 1; run = c .run } } ≡ invalidAt c
 invalid-is c r e = rw e

@@ -34,9 +34,10 @@ pub struct Place {
     pub run: usize,
 }
 
-// The match that a stretch is, if it is one.
+// The kind of a stretch's texts, 1 Text or 2 Match, and the number of the match that it is or that follows it. (A flag of one byte
+// would leave bytes unused, and the copies of these make every step slower.)
 pub struct Matched {
-    pub inside: bool,
+    pub kind: usize,
     pub number: usize,
 }
 
@@ -240,7 +241,7 @@ fn text_span(at: usize, end: usize, m: Matched) -> Span
     requires { ⌜ at ≤ end ⌝ }
     ensures { λ r. ⌜ r ≡ textRecord m at (end - at) ⌝ }
 {
-    if m.inside {
+    if m.kind == 2 {
         return span_of(2, at, end - at, m.number);
     }
     span_of(1, at, end - at, 0)

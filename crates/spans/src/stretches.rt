@@ -55,7 +55,7 @@ fn outside(line: &[u8], matches: &[usize], start: usize, number: usize, c: Curso
             place: Place { at: start, run: 0 },
             end: o.value,
             matched: Matched {
-                inside: false,
+                kind: 1,
                 number: number,
             },
             index: index + 1,
@@ -67,7 +67,7 @@ fn outside(line: &[u8], matches: &[usize], start: usize, number: usize, c: Curso
         place: Place { at: start, run: 0 },
         end: line.len(),
         matched: Matched {
-            inside: false,
+            kind: 1,
             number: number,
         },
         index: index,
@@ -91,7 +91,7 @@ fn inside(line: &[u8], matches: &[usize], c: Cursor) -> Cursor
         place: Place { at: c.end, run: 0 },
         end: o.value,
         matched: Matched {
-            inside: true,
+            kind: 2,
             number: m.number,
         },
         index: index + 1,
@@ -106,7 +106,7 @@ fn is_spent(line: &[u8], matches: &[usize], c: Cursor) -> bool
 {
     let p = c.place;
     let m = c.matched;
-    ((c.end <= p.at) | (line.len() <= p.at)) & (m.inside | (c.index < matches.len()))
+    ((c.end <= p.at) | (line.len() <= p.at)) & ((m.kind == 2) | (c.index < matches.len()))
 }
 
 // The stretch behind one that has no bytes left.
@@ -115,7 +115,7 @@ fn advance(line: &[u8], matches: &[usize], c: Cursor) -> Cursor
     ensures { λ r. ⌜ Moved (now (line .entry)) (now (matches .entry)) c r ⌝ }
 {
     let m = c.matched;
-    if m.inside {
+    if m.kind == 2 {
         return outside(line, matches, c.end, m.number + 1, c);
     }
     inside(line, matches, c)
@@ -196,10 +196,7 @@ pub fn begin(line: &[u8], matches: &[usize]) -> Cursor
         Cursor {
             place: Place { at: 0, run: 0 },
             end: 0,
-            matched: Matched {
-                inside: true,
-                number: 0,
-            },
+            matched: Matched { kind: 2, number: 0 },
             index: 0,
             offsets: offsets,
             count: 0,
