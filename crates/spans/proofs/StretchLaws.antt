@@ -271,6 +271,9 @@ module _ (line matches : List ℕ) (c d : Cursor) (z : SettleLoop line matches c
     pub settle-ends : w ≡ false → Settled line matches c d
     settle-ends f = record { same = z .same; sound = z .sound; settled = sym e ∙ f; count = z .count }
 
+pub settled-here : (line matches : List ℕ) (c : Cursor) (w : Bool) → Sound line matches c → w ≡ spent (length line) (length matches) c → w ≡ false → Settled line matches c c
+settled-here line matches c w z e f = settle-ends line matches c c (settle-begins line matches c z) w e f
+
 -- ---- `next_record`
 
 pub clip-fits : (a b end : ℕ) → end ≡ clipped a b → end ≤ b

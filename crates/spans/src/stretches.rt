@@ -121,8 +121,8 @@ fn advance(line: &[u8], matches: &[usize], c: Cursor) -> Cursor
     inside(line, matches, c)
 }
 
-// The first stretch from here on that has bytes left, if there is one.
-fn settle(line: &[u8], matches: &[usize], c: Cursor) -> Cursor
+// The first stretch behind this one that has bytes left, if there is one.
+fn skip_spent(line: &[u8], matches: &[usize], c: Cursor) -> Cursor
     requires { ⌜ Sound (now line) (now matches) c ⌝ }
     ensures { λ r. ⌜ Settled (now (line .entry)) (now (matches .entry)) c r ⌝ }
 {
@@ -131,6 +131,17 @@ fn settle(line: &[u8], matches: &[usize], c: Cursor) -> Cursor
         d = advance(line, matches, d);
     }
     d
+}
+
+// The first stretch from here on that has bytes left, if there is one: mostly this one.
+fn settle(line: &[u8], matches: &[usize], c: Cursor) -> Cursor
+    requires { ⌜ Sound (now line) (now matches) c ⌝ }
+    ensures { λ r. ⌜ Settled (now (line .entry)) (now (matches .entry)) c r ⌝ }
+{
+    if is_spent(line, matches, c) {
+        return skip_spent(line, matches, c);
+    }
+    c
 }
 
 // The next record; behind the last span a record of zeros.
@@ -175,7 +186,7 @@ pub fn has_next(line: &[u8], matches: &[usize], c: Cursor) -> bool
     requires { ⌜ Sound (now line) (now matches) c ⌝ }
     ensures { λ r. ⌜ HasNext (now (line .entry)) (now (matches .entry)) c r ⌝ }
 {
-    let d = settle(line, matches, c);
+    let d = skip_spent(line, matches, c);
     let end = smaller(d.end, line.len());
     let place = d.place;
     place.at < end
