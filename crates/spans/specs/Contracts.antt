@@ -167,6 +167,10 @@ printable b = leb 0x20 b && leb b 0x7E
 abbrev pub alone : ℕ → Bool
 alone b = leb b 0x1F && not (eqb b 0x0D)
 
+-- the number of class LV, LVT or other
+abbrev pub base : ℕ → Bool
+base k = eqb k 8 || (eqb k 9 || eqb k 11)
+
 -- a cluster of n bytes, the first of them a and b, that is w columns wide is a part of a text
 unfoldable pub plainBytes : ℕ → ℕ → ℕ → ℕ → Bool
 plainBytes n a b w = cond (eqb n 1 && (leb a 0x1F || eqb a 0x7F)) false (cond (eqb n 2 && (eqb a 0x0D && eqb b 0x0A)) false (not (eqb w 0)))

@@ -20,7 +20,7 @@ ghost use Rattle.text.specs.Code.{profileOf};
 ghost use Rattle.spans.specs.Sequence.{missing};
 ghost use Rattle.spans.specs.Spans.{aRecord};
 ghost use Rattle.spans.specs.Spans.Steps.{plainSize};
-ghost use Rattle.spans.specs.Contracts.{printable, alone, plainBytes, clustersAt, plainFirst, PlainTo, escapeLook, lookBytes, Part, Ahead, Skip, runAt, textRecord, invalidAt, Escaping, Mark, ControlReady, SpecialStep, Ready, Stepped};
+ghost use Rattle.spans.specs.Contracts.{printable, alone, base, plainBytes, clustersAt, plainFirst, PlainTo, escapeLook, lookBytes, Part, Ahead, Skip, runAt, textRecord, invalidAt, Escaping, Mark, ControlReady, SpecialStep, Ready, Stepped};
 
 // What a cluster that is no part of a text is: a kind of span, and its length.
 pub struct Look {
@@ -100,8 +100,15 @@ fn printable_end(profile: Profile, t: &[u8], at: usize) -> usize
     at
 }
 
-// The same of scalars of class other.
-fn others_end(profile: Profile, t: &[u8], at: usize) -> usize
+// Is it class LV, LVT or other? No rule joins two scalars of these classes, and none of them is without width.
+fn is_base(class: u8) -> bool
+    ensures { λ r. ⌜ r ≡ base class ⌝ }
+{
+    (class == 8) | ((class == 9) | (class == 11))
+}
+
+// The same of scalars of these classes.
+fn bases_end(profile: Profile, t: &[u8], at: usize) -> usize
     requires { ⌜ at ≤ length (now t) ⌝ }
     ensures { λ r. ⌜ PlainTo (profileOf profile) (now (t .entry)) at r ⌝ }
 {
@@ -109,24 +116,24 @@ fn others_end(profile: Profile, t: &[u8], at: usize) -> usize
         return at;
     }
     let u = decode(t, at);
-    if class(profile, u.code) != 11 {
-        return at;
-    }
-    let mut i = at;
-    let mut next = at + u.len;
-    while next < t.len() {
-        let v = decode(t, next);
-        if class(profile, v.code) == 11 {
-            i = next;
-            next += v.len;
-        } else {
-            if v.code < 0x80 {
-                return next;
+    if is_base(class(profile, u.code)) {
+        let mut i = at;
+        let mut next = at + u.len;
+        while next < t.len() {
+            let v = decode(t, next);
+            if is_base(class(profile, v.code)) {
+                i = next;
+                next += v.len;
+            } else {
+                if v.code < 0x80 {
+                    return next;
+                }
+                return i;
             }
-            return i;
         }
+        return next;
     }
-    next
+    at
 }
 
 // The end of the cluster at a place if it is a part of a text, else the place.
@@ -152,7 +159,7 @@ fn text_end(profile: Profile, t: &[u8], at: usize) -> usize
     let mut i = at;
     while i < t.len() {
         let a = printable_end(profile, t, i);
-        let b = others_end(profile, t, a);
+        let b = bases_end(profile, t, a);
         let end = plain_end(profile, t, b);
         if end == b {
             return end;
