@@ -1,6 +1,6 @@
 -- Scalars that are clusters by themselves, by document 01's profile: controls, and those of class LV, LVT and other that no mark follows.
 use mathlib.Core.Path.{_≡_, refl, sym, ap, ap₂, _∙_}
-use Prim.Native.Nat.{ℕ, zero, suc, _+_, _-_, _≤_, _<_}
+use Prim.Native.Nat.{ℕ, _+_, _-_, _≤_, _<_}
 use native.Mathlib.Nat.{add-zero}
 use native.Mathlib.Numerals.{add-one}
 use native.Mathlib.Omega.{arith}
@@ -9,10 +9,10 @@ use mathlib.Core.List.{List, [], _∷_, map, append-nil}
 use mathlib.Core.Logic.{_≢_}
 use lib.ListN.{length, take, drop, getD, List·getD-map}
 use lib.Seq.{drop-cons, getD-drop}
-use lib.Dec.{T, eqb, leb, ltb, leb→le}
+use lib.Dec.{eqb, leb, leb→le}
 use borrow.Author.Tests.{eqb-true, eqb-false, le-leb, lt-leb, ne-eqb, not-true, leb-true, leb-false}
 use Rattle.text.specs.Tests.{cases, and-T, is-true, true-T}
-use Rattle.text.specs.Utf8.{Scalar, ascii, decode, Decoded, wellFormed, sequence, lengthIn, fits, table, scalar, value, runOf, bytesOf}
+use Rattle.text.specs.Utf8.{Scalar, ascii, decode, sequence, lengthIn, fits, table, scalar, value, runOf, bytesOf}
 use Rattle.text.specs.Utf8.Laws.{decode-good}
 use Rattle.text.specs.Class.{Profile, cr, lf, control, extend, zwj, classV, classT, number, among, inAny, class01}
 use Rattle.text.specs.Width.{profile01, width01, wides, widthOf}

@@ -107,7 +107,7 @@ fn is_base(class: u8) -> bool
     (class == 8) | ((class == 9) | (class == 11))
 }
 
-// The same of scalars of these classes.
+// Past scalars of these classes, in the same way.
 fn bases_end(profile: Profile, t: &[u8], at: usize) -> usize
     requires { ⌜ at ≤ length (now t) ⌝ }
     ensures { λ r. ⌜ PlainTo (profileOf profile) (now (t .entry)) at r ⌝ }
