@@ -5,8 +5,7 @@ use native.Mathlib.Nat.{add-zero}
 use native.Mathlib.Numerals.{add-one}
 use native.Mathlib.Omega.{arith}
 use mathlib.Core.Bool.{Bool, true, false, true≢false, not, cond, _&&_, _||_}
-use mathlib.Core.List.{List, [], _∷_, _++_, map}
-use mathlib.Core.Option.{Option, none, some}
+use mathlib.Core.List.{List, [], _∷_, map}
 use mathlib.Core.Logic.{_≢_}
 use lib.ListN.{length, take, drop, getD, length-drop, drop-of-length-le, List·getD-eq-default}
 use lib.Seq.{drop-cons, drop-drop, getD-drop, slice, slice-empty, length-slice}
@@ -29,7 +28,7 @@ use Rattle.spans.specs.Sequence.{sgr, eraseToEnd, ignored, hyperlink, li
 use Rattle.spans.specs.Sequence.Laws.{parse-length}
 use Rattle.spans.specs.Spans.{Content, Span, span, Seen, plain, special, seen, spansAt, text, control, invalid, unprintable, escape, tab, crlf, lf, Record, aRecord, kindOf, matchOf, recordOf, records}
 use Rattle.spans.specs.Spans.Steps.{extent, isPlain, plainCluster, plain-same, plainSize, plainText, skipped, step-text, step-special, step-invalid, NoText, seen-noText}
-use Rattle.spans.specs.Contracts.{alone, plainBytes, plainFirst, clustersAt, PlainTo, runAt, Part, Within, Ahead, Skip, told, escapeLook, lookBytes, aLook, Fresh, Ready, matchIn, textRecord, recordsFrom, invalidAt, Stepped, ControlReady, Escaping, Mark, SpecialStep}
+use Rattle.spans.specs.Contracts.{alone, plainBytes, plainFirst, clustersAt, PlainTo, runAt, Part, Within, Ahead, Skip, told, escapeLook, lookBytes, aLook, Fresh, Ready, isMatch, matchIn, textRecord, recordsFrom, invalidAt, Stepped, ControlReady, Escaping, Mark, SpecialStep}
 use Rattle.spans.specs.declared.sequence.Sequence as sequence
 use Rattle.spans.specs.declared.reader.Look.{Look}
 use Rattle.spans.specs.declared.reader.Place.{Place}
@@ -524,7 +523,7 @@ text-run P (g ∷ gs) = λ t at e.
 
 text-record : (m : Matched) (at n : ℕ) (s : List Scalar) → recordOf (span at n (text (matchIn m) s)) ≡ textRecord m at n
 unfolding recordOf kindOf matchOf matchIn textRecord
-text-record m at n s = cases (m .inside) (λ b. rw b) (λ b. rw b)
+text-record m at n s = cases (isMatch m) (λ b. rw b) (λ b. rw b)
 
 pub invalid-is : (c : Place) (r : Record) → r ≡ aRecord 4 (c .at) 1 0 → record { span = r; place = record { at = c .at + 1; run = c .run } } ≡ invalidAt c
 invalid-is c r e = rw e
@@ -569,9 +568,6 @@ module _ (P : Profile) (t : List ℕ) (c : Place) (z : Ready t c) where
         }
 
   module _ (end : ℕ) (g : end ≡ c .at + plainSize P (clustersAt P (drop (c .at) t))) where
-    pub text-order : c .at < end → c .at ≤ end
-    text-order h = omega arith
-
     pub text-step : (m : Matched) (r : Record) → c .at < end → r ≡ textRecord m (c .at) (end - c .at) → Stepped P t m (c .at) (record { span = r; place = record { at = end; run = c .run } })
     unfolding recordsFrom records plainSize
     text-step m r h e =

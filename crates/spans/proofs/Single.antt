@@ -1,6 +1,6 @@
--- Scalars that are clusters by themselves, by document 01's profile: controls, and those of class other that no mark follows.
+-- Scalars that are clusters by themselves, by document 01's profile: controls, and those of class LV, LVT and other that no mark follows.
 use mathlib.Core.Path.{_≡_, refl, sym, ap, ap₂, _∙_}
-use Prim.Native.Nat.{ℕ, zero, suc, _+_, _-_, _≤_, _<_}
+use Prim.Native.Nat.{ℕ, _+_, _-_, _≤_, _<_}
 use native.Mathlib.Nat.{add-zero}
 use native.Mathlib.Numerals.{add-one}
 use native.Mathlib.Omega.{arith}
@@ -9,12 +9,12 @@ use mathlib.Core.List.{List, [], _∷_, map, append-nil}
 use mathlib.Core.Logic.{_≢_}
 use lib.ListN.{length, take, drop, getD, List·getD-map}
 use lib.Seq.{drop-cons, getD-drop}
-use lib.Dec.{T, eqb, leb, ltb, leb→le}
+use lib.Dec.{eqb, leb, leb→le}
 use borrow.Author.Tests.{eqb-true, eqb-false, le-leb, lt-leb, ne-eqb, not-true, leb-true, leb-false}
 use Rattle.text.specs.Tests.{cases, and-T, is-true, true-T}
-use Rattle.text.specs.Utf8.{Scalar, ascii, decode, Decoded, wellFormed, sequence, lengthIn, fits, table, scalar, value, runOf, bytesOf}
+use Rattle.text.specs.Utf8.{Scalar, ascii, decode, sequence, lengthIn, fits, table, scalar, value, runOf, bytesOf}
 use Rattle.text.specs.Utf8.Laws.{decode-good}
-use Rattle.text.specs.Class.{Profile, cr, lf, control, number, among, inAny, class01}
+use Rattle.text.specs.Class.{Profile, cr, lf, control, extend, zwj, classV, classT, number, among, inAny, class01}
 use Rattle.text.specs.Width.{profile01, width01, wides, widthOf}
 use Rattle.text.specs.Cluster.{Context, joined, joins, joinsNext, context, clusters}
 use Rattle.text.specs.Cluster.Laws.{further, clusters-first}
@@ -23,7 +23,7 @@ use Rattle.text.specs.Code.Laws.{scalar-at, none-at, none-code, none-past}
 use Rattle.text.specs.declared.class.Profile as code
 use Rattle.text.specs.declared.utf8.Sequence.{Sequence}
 use Rattle.spans.specs.Spans.Steps.{plainCluster, plainSize}
-use Rattle.spans.specs.Contracts.{printable, alone, plainBytes, clustersAt, PlainTo}
+use Rattle.spans.specs.Contracts.{printable, alone, base, plainBytes, clustersAt, PlainTo}
 use Rattle.spans.proofs.Table.{upFrom, upFrom-at}
 use Rattle.spans.proofs.Clusters.{plain-bytes}
 
@@ -60,9 +60,18 @@ class-control : (v : ℕ) → v ≤ 0x7F → printable v ≡ false → among (nu
 unfolding ascii-test
 class-control v h p = rw p at (ascii-tested v h)
 
-other-printable : (v : ℕ) → v ≤ 0x7F → number (class01 v) ≡ 11 → printable v ≡ true
+by-base : (X : ℕ → Type 0) (k : ℕ) → base k ≡ true → X 8 → X 9 → X 11 → X k
+by-base X k h a b c =
+    cases (eqb k 8) (λ e. rw (eqb-true k 8 e) a)
+    (λ e. cases (eqb k 9) (λ f. rw (eqb-true k 9 f) b)
+    (λ f. let g : eqb k 11 ≡ true = rw (e, f) at h in rw (eqb-true k 11 g) c))
+
+no-control : (k : ℕ) → base k ≡ true → among k (control ∷ cr ∷ lf ∷ []) ≡ false
 unfolding among number
-other-printable v h e = cases (printable v) (λ p. p) (λ p. absurd (true≢false (sym (rw e at (class-control v h p)))))
+no-control k h = by-base (λ (n : ℕ). among n (control ∷ cr ∷ lf ∷ []) ≡ false) k h refl refl refl
+
+base-printable : (v : ℕ) → v ≤ 0x7F → base (number (class01 v)) ≡ true → printable v ≡ true
+base-printable v h e = cases (printable v) (λ p. p) (λ p. absurd (true≢false (sym (class-control v h p) ∙ no-control (number (class01 v)) e)))
 
 control-test : ℕ → Bool
 control-test v = eqb v 0x0D || among (number (class01 v)) (lf ∷ control ∷ [])
@@ -81,13 +90,20 @@ after-control : (p : ℕ) (k : Context) (c : ℕ) → among p (lf ∷ control �
 unfolding joined among number
 after-control p k c h = cases (eqb p 1) (λ e. rw (eqb-true p 1 e)) (λ e. let f : eqb p 2 ≡ true = rw e at h in rw (eqb-true p 2 f))
 
-other-control : (p : ℕ) (k : Context) (c : ℕ) → p ≡ 11 → among c (control ∷ cr ∷ lf ∷ []) ≡ true → joined p k c ≡ false
+base-control : (p : ℕ) (k : Context) (c : ℕ) → base p ≡ true → among c (control ∷ cr ∷ lf ∷ []) ≡ true → joined p k c ≡ false
 unfolding joined among number
-other-control p k c e h = rw (e, h)
+base-control p k c h e = by-base (λ (n : ℕ). joined n k c ≡ false) p h (rw e) (rw e) (rw e)
 
-other-other : (p : ℕ) (k : Context) (c : ℕ) → p ≡ 11 → c ≡ 11 → joined p k c ≡ false
+base-base : (p : ℕ) (k : Context) (c : ℕ) → base p ≡ true → base c ≡ true → joined p k c ≡ false
 unfolding joined among number
-other-other p k c e f = rw (e, f) (cases (k .odd) (λ o. rw o) (λ o. rw o))
+base-base p k c h g =
+    by-base (λ (n : ℕ). joined p k n ≡ false) c g
+    (by-base (λ (n : ℕ). joined n k 8 ≡ false) p h odd odd odd)
+    (by-base (λ (n : ℕ). joined n k 9 ≡ false) p h odd odd odd)
+    (by-base (λ (n : ℕ). joined n k 11 ≡ false) p h odd odd odd)
+  where
+    odd : cond (k .odd && false) true false ≡ false
+    odd = cases (k .odd) (λ o. rw o) (λ o. rw o)
 
 -- a scalar that no rule joins the next one to is a cluster by itself
 single : (P : Profile) (c : Scalar) (s : List Scalar) → joinsNext P (c ∷ []) s ≡ false → clusters P (c ∷ s) ≡ (c ∷ []) ∷ clusters P s
@@ -137,84 +153,90 @@ module _ (t : List ℕ) (at a : ℕ) (h : at < length t) (e : a ≡ getD t at 0)
       plain-bytes profile01 (drop at t) (ascii a ∷ []) (clustersAt profile01 (drop (at + 1) t)) control-single
       ∙ rw (byte-first t at, ← e, le-leb a 0x1F (control-low .0))
 
--- ---- scalars of class other
+-- ---- scalars of class LV, LVT and other
 
 -- one stands from i to `next`
-pub record OtherAt (t : List ℕ) (i next : ℕ) : Type 0 where
+pub record BaseAt (t : List ℕ) (i next : ℕ) : Type 0 where
   one : Scalar
   run : runOf (decode (drop i t)) ≡ one ∷ runOf (decode (drop next t))
-  class : number (class01 (one .code)) ≡ 11
+  class : base (number (class01 (one .code))) ≡ true
   len : i + length (one .bytes) ≡ next
   pub some : i < next
   pub inside : next ≤ length t
 
-pub other-at : (p : code.Profile) (t : List ℕ) (i : ℕ) (u : Sequence) (k : ℕ) → i < length t → u ≡ firstSequence (decode (drop i t)) → k ≡ number (profileOf p .class (u .code)) → k ≡ 11 → OtherAt t i (i + u .len)
+pub base-at : (p : code.Profile) (t : List ℕ) (i : ℕ) (u : Sequence) (k : ℕ) (x : Bool) → i < length t → u ≡ firstSequence (decode (drop i t)) → k ≡ number (profileOf p .class (u .code)) → x ≡ base k → x ≡ true → BaseAt t i (i + u .len)
 unfolding profileOf number class01
-other-at p t i u k h f e g =
-    let n : u .len ≢ 0 = λ z. let c : u .code ≡ 0 = none-code t i u h f z in let w : _≡_ {A = ℕ} 2 11 = sym (rw c at e) ∙ g in omega arith in
+base-at p t i u k x h f e g q =
+    let b : base k ≡ true = sym g ∙ q in
+    let n : u .len ≢ 0 = λ z. let c : k ≡ 2 = rw (none-code t i u h f z) at e in true≢false (sym (rw c at b)) in
     let s = scalar-at t i u h f n in
-    record { one = s .scalar; run = s .run; class = rw (s .code) (sym e ∙ g); len = omega (arith, s .len); some = omega (arith, s .some); inside = s .fits }
+    record { one = s .scalar; run = s .run; class = rw (s .code, ← e) b; len = omega (arith, s .len); some = omega (arith, s .some); inside = s .fits }
 
-pub printable-at : (t : List ℕ) (i b : ℕ) (x : Bool) → i < length t → b ≡ getD t i 0 → x ≡ printable b → x ≡ true → OtherAt t i (i + 1)
+pub printable-at : (t : List ℕ) (i b : ℕ) (x : Bool) → i < length t → b ≡ getD t i 0 → x ≡ printable b → x ≡ true → BaseAt t i (i + 1)
 printable-at t i b x h e f q =
     let p : printable b ≡ true = sym f ∙ q in
-    record { one = ascii b; run = run-byte t i b h e (omega (arith, low b p .1)); class = class-printable b p; len = refl; some = omega arith; inside = omega arith }
+    record { one = ascii b; run = run-byte t i b h e (omega (arith, low b p .1)); class = rw (class-printable b p); len = refl; some = omega arith; inside = omega arith }
+
+wide-class : (k : ℕ) → base k ≡ true → among k (cr ∷ lf ∷ control ∷ extend ∷ zwj ∷ classV ∷ classT ∷ []) ≡ false
+unfolding among number
+wide-class k h = by-base (λ (n : ℕ). among n (cr ∷ lf ∷ control ∷ extend ∷ zwj ∷ classV ∷ classT ∷ []) ≡ false) k h refl refl refl
 
 plain-byte : (n a b w : ℕ) → 0x20 ≤ a → a ≢ 0x7F → eqb w 0 ≡ false → plainBytes n a b w ≡ true
 unfolding plainBytes
 plain-byte n a b w h k e = rw (lt-leb a 0x1F (omega arith), ne-eqb a 0x7F k, ne-eqb a 0x0D (λ q. omega arith), e) (simp and-false)
 
-module _ (t : List ℕ) (i next : ℕ) (z : OtherAt t i next) where
-  other-byte : (0x20 ≤ getD t i 0) × (getD t i 0 ≢ 0x7F)
-  other-byte =
+module _ (t : List ℕ) (i next : ℕ) (z : BaseAt t i next) where
+  base-byte : (0x20 ≤ getD t i 0) × (getD t i 0 ≢ 0x7F)
+  base-byte =
       cases (leb (getD t i 0) 0x7F)
       (λ h.
       let k : getD t i 0 ≤ 0x7F = leb-true _ _ h in
       let r = run-byte t i (getD t i 0) (omega (arith, z .some, z .inside)) refl k in
       let c : z .one ≡ ascii (getD t i 0) = cc (z .run, r) in
-      let w = low (getD t i 0) (other-printable (getD t i 0) k (rw c at (z .class))) in
+      let w = low (getD t i 0) (base-printable (getD t i 0) k (rw c at (z .class))) in
       (w .0, λ e. omega (arith, w .1)))
       (λ h. let k : 0x7F < getD t i 0 = leb-false _ _ h in (omega arith, λ e. omega arith))
 
-  other-wide : eqb (widthOf profile01 (z .one ∷ [])) 0 ≡ false
+  base-wide : eqb (widthOf profile01 (z .one ∷ [])) 0 ≡ false
   unfolding widthOf profile01 width01 among number
-  other-wide = rw (z .class) (cases (inAny wides (z .one .code)) (λ w. rw w) (λ w. rw w))
+  base-wide =
+      rw (wide-class (number (class01 (z .one .code))) (z .class)) (cases (inAny wides (z .one .code)) (λ w. rw w) (λ w. rw w))
 
   -- it is a plain cluster where nothing that follows joins it
   module _ (a : joinsNext profile01 (z .one ∷ []) (runOf (decode (drop next t))) ≡ false) where
-    other-single : clustersAt profile01 (drop i t) ≡ (z .one ∷ []) ∷ clustersAt profile01 (drop next t)
-    other-single = ap (clusters profile01) (z .run) ∙ single profile01 (z .one) (runOf (decode (drop next t))) a
+    base-single : clustersAt profile01 (drop i t) ≡ (z .one ∷ []) ∷ clustersAt profile01 (drop next t)
+    base-single = ap (clusters profile01) (z .run) ∙ single profile01 (z .one) (runOf (decode (drop next t))) a
 
-    other-plain : plainCluster profile01 (z .one ∷ []) ≡ true
-    other-plain =
-        let b = other-byte in
-        plain-bytes profile01 (drop i t) (z .one ∷ []) (clustersAt profile01 (drop next t)) other-single
-        ∙ rw (byte-first t i) (plain-byte _ _ _ _ (b .0) (b .1) other-wide)
+    base-plain : plainCluster profile01 (z .one ∷ []) ≡ true
+    base-plain =
+        let b = base-byte in
+        plain-bytes profile01 (drop i t) (z .one ∷ []) (clustersAt profile01 (drop next t)) base-single
+        ∙ rw (byte-first t i) (plain-byte _ _ _ _ (b .0) (b .1) base-wide)
 
-    other-on : PlainTo profile01 t i next
+    base-on : PlainTo profile01 t i next
     unfolding plainSize bytesOf
-    other-on =
+    base-on =
         record {
-          same = rw (other-single, other-plain, append-nil (z .one .bytes)) (omega (arith, z .len));
+          same = rw (base-single, base-plain, append-nil (z .one .bytes)) (omega (arith, z .len));
           up = omega (arith, z .some);
           low = z .inside;
         }
 
-  -- nothing follows, a scalar of class other, or one below 80
+  -- nothing follows, one of these, or one below 80
   on-none : runOf (decode (drop next t)) ≡ [] → PlainTo profile01 t i next
   unfolding joinsNext
-  on-none e = other-on (rw e)
+  on-none e = base-on (rw e)
 
-  on-other : (d : Scalar) (r : List Scalar) → runOf (decode (drop next t)) ≡ d ∷ r → number (class01 (d .code)) ≡ 11 → PlainTo profile01 t i next
+  on-base : (d : Scalar) (r : List Scalar) → runOf (decode (drop next t)) ≡ d ∷ r → base (number (class01 (d .code))) ≡ true → PlainTo profile01 t i next
   unfolding joinsNext joins profile01
-  on-other d r e f = other-on (rw e (other-other (number (class01 (z .one .code))) (context profile01 (z .one ∷ [])) (number (class01 (d .code))) (z .class) f))
+  on-base d r e f = base-on (rw e (base-base (number (class01 (z .one .code))) (context profile01 (z .one ∷ [])) (number (class01 (d .code))) (z .class) f))
 
   on-low : (d : Scalar) (r : List Scalar) → runOf (decode (drop next t)) ≡ d ∷ r → d .code ≤ 0x7F → PlainTo profile01 t i next
   unfolding joinsNext joins profile01
   on-low d r e h =
       cases (printable (d .code))
-      (λ p. on-other d r e (class-printable (d .code) p))
-      (λ p. other-on (rw e (other-control (number (class01 (z .one .code))) (context profile01 (z .one ∷ [])) (number (class01 (d .code))) (z .class) (class-control (d .code) h p))))
+      (λ p. on-base d r e (rw (class-printable (d .code) p)))
+      (λ p. base-on (rw e (base-control (number (class01 (z .one .code))) (context profile01 (z .one ∷ [])) (number (class01 (d .code))) (z .class) (class-control (d .code) h p))))
 
 -- ---- the loops over them
 
@@ -224,38 +246,38 @@ plain-here P t at h = record { same = refl; up = omega arith; low = h }
 pub plain-on : (P : Profile) (t : List ℕ) (a b e : ℕ) → PlainTo P t a b → PlainTo P t b e → PlainTo P t a e
 plain-on P t a b e x y = record { same = y .same ∙ x .same; up = omega (arith, x .up, y .up); low = y .low }
 
--- plain clusters from `at` to i, and a scalar of class other behind them
-pub record OthersLoop (t : List ℕ) (at i next : ℕ) : Type 0 where
+-- plain clusters from `at` to i, and one of these scalars behind them
+pub record BasesLoop (t : List ℕ) (at i next : ℕ) : Type 0 where
   pub to : PlainTo profile01 t at i
-  pub other : OtherAt t i next
+  pub one : BaseAt t i next
 
-pub others-begin : (t : List ℕ) (at next : ℕ) → OtherAt t at next → OthersLoop t at at next
-others-begin t at next o = record { to = plain-here profile01 t at (omega (arith, o .some, o .inside)); other = o }
+pub bases-begin : (t : List ℕ) (at next : ℕ) → BaseAt t at next → BasesLoop t at at next
+bases-begin t at next o = record { to = plain-here profile01 t at (omega (arith, o .some, o .inside)); one = o }
 
-pub others-more : (t : List ℕ) (at i next e : ℕ) → OthersLoop t at i next → OtherAt t next e → OthersLoop t at next e
-others-more t at i next e z o =
-    record { to = plain-on profile01 t at i next (z .to) (on-other t i next (z .other) (o .one) (runOf (decode (drop e t))) (o .run) (o .class)); other = o }
+pub bases-more : (t : List ℕ) (at i next e : ℕ) → BasesLoop t at i next → BaseAt t next e → BasesLoop t at next e
+bases-more t at i next e z o =
+    record { to = plain-on profile01 t at i next (z .to) (on-base t i next (z .one) (o .one) (runOf (decode (drop e t))) (o .run) (o .class)); one = o }
 
-module _ (p : code.Profile) (t : List ℕ) (at i next : ℕ) (z : OthersLoop t at i next) where
-  pub others-last : PlainTo (profileOf p) t at i
+module _ (p : code.Profile) (t : List ℕ) (at i next : ℕ) (z : BasesLoop t at i next) where
+  pub bases-last : PlainTo (profileOf p) t at i
   unfolding profileOf
-  others-last = z .to
+  bases-last = z .to
 
   further-on : PlainTo profile01 t i next → PlainTo (profileOf p) t at next
   unfolding profileOf
   further-on y = plain-on profile01 t at i next (z .to) y
 
-  pub others-past : length t ≤ next → PlainTo (profileOf p) t at next
-  others-past h = further-on (on-none t i next (z .other) (none-past t next h))
+  pub bases-past : length t ≤ next → PlainTo (profileOf p) t at next
+  bases-past h = further-on (on-none t i next (z .one) (none-past t next h))
 
-  pub others-byte : (b : ℕ) → next < length t → b ≡ getD t next 0 → b < 0x80 → PlainTo (profileOf p) t at next
-  others-byte b h e k = further-on (on-low t i next (z .other) (ascii b) (runOf (decode (drop (next + 1) t))) (run-byte t next b h e (omega arith)) (omega arith))
+  pub bases-byte : (b : ℕ) → next < length t → b ≡ getD t next 0 → b < 0x80 → PlainTo (profileOf p) t at next
+  bases-byte b h e k = further-on (on-low t i next (z .one) (ascii b) (runOf (decode (drop (next + 1) t))) (run-byte t next b h e (omega arith)) (omega arith))
 
   -- a damaged byte, or a scalar below 80
-  pub others-low : (v : Sequence) → next < length t → v ≡ firstSequence (decode (drop next t)) → v .code < 0x80 → PlainTo (profileOf p) t at next
-  others-low v h e k =
+  pub bases-low : (v : Sequence) → next < length t → v ≡ firstSequence (decode (drop next t)) → v .code < 0x80 → PlainTo (profileOf p) t at next
+  bases-low v h e k =
       cases (eqb (v .len) 0)
-      (λ q. further-on (on-none t i next (z .other) (none-at t next v h e (eqb-true _ 0 q))))
+      (λ q. further-on (on-none t i next (z .one) (none-at t next v h e (eqb-true _ 0 q))))
       (λ q.
       let s = scalar-at t next v h e (eqb-false _ 0 q) in
-      further-on (on-low t i next (z .other) (s .scalar) (runOf (decode (drop (next + v .len) t))) (s .run) (omega (arith, s .code))))
+      further-on (on-low t i next (z .one) (s .scalar) (runOf (decode (drop (next + v .len) t))) (s .run) (omega (arith, s .code))))

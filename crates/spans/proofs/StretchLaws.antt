@@ -10,7 +10,7 @@ use mathlib.Core.Option.{Option, none, some}
 use lib.ListN.{length, take, drop, getD, drop-of-length-le, length-take, length-append, length-map}
 use lib.Seq.{drop-cons, take-all, length-take-le}
 use lib.Dec.{T, eqb, leb, ltb, leb→le, ltb→lt, nltb→le}
-use borrow.Author.Tests.{le-leb, lt-leb, leb-true, leb-false, ltb-true, ltb-false, lt-ltb}
+use borrow.Author.Tests.{eq-eqb, ne-eqb, le-leb, lt-leb, leb-true, leb-false, ltb-true, ltb-false, lt-ltb}
 use Rattle.text.specs.Tests.{cases, and-T, or-T, or-false, true-T, is-true}
 use Rattle.text.specs.Utf8.{decode, decodeFrom, runs}
 use Rattle.text.specs.Class.{Profile}
@@ -20,7 +20,7 @@ use Rattle.spans.specs.Search.{trimmed, escapes, searchedLength, inOrder
 use Rattle.spans.specs.Spans.{Span, spansAt, spans, readPieces, Record, aRecord, recordOf, records}
 use Rattle.spans.specs.Spans.Laws.{map-append}
 use Rattle.spans.specs.Spans.Steps.{step-some}
-use Rattle.spans.specs.Contracts.{clipped, spent, withoutNewline, pending, behindStretch, remaining, orderFrom, stretchesLeft, Sound, Opening, Opened, Waiting, Going, Moved, Settled, Counting, firstRecord, Nexted, HasNext, Begun, Started, OffsetsFrom, OffsetReady, OffsetAt, recordsFrom, matchIn, Fresh, Ready, Stepped}
+use Rattle.spans.specs.Contracts.{clipped, isMatch, spent, withoutNewline, pending, behindStretch, remaining, orderFrom, stretchesLeft, Sound, Opening, Opened, Waiting, Going, Moved, Settled, Counting, firstRecord, Nexted, HasNext, Begun, Started, OffsetsFrom, OffsetReady, OffsetAt, recordsFrom, matchIn, Fresh, Ready, Stepped}
 use Rattle.spans.specs.declared.search.Offset.{Offset}
 use Rattle.spans.specs.declared.search.Offsets.{Offsets}
 use Rattle.spans.specs.declared.reader.Matched.{Matched}
@@ -118,7 +118,7 @@ module _ (line matches : List ℕ) (start number : ℕ) (c : Cursor) (z : Openin
     open-ready n e = offset-ready line n (z .last) (getD matches (c .index) 0) (c .offsets) (z .small) e (z .from) (pair .low) (omega (arith, pair .ordered, pair .high))
 
     pub open-pending : (n : ℕ) (o : Offset) → n ≡ trimmed line → OffsetAt (take n line) (getD matches (c .index) 0) o
-        → Opened line matches start number c (record { place = record { at = start; run = 0 }; end = o .value; matched = record { inside = false; number = number }; index = c .index + 1; offsets = o .offsets; count = c .count })
+        → Opened line matches start number c (record { place = record { at = start; run = 0 }; end = o .value; matched = record { kind = 1; number = number }; index = c .index + 1; offsets = o .offsets; count = c .count })
     unfolding remaining behindStretch pending readMatches matchIn orderFrom stretchesLeft
     open-pending n o e k =
         let x : ℕ = getD matches (c .index) 0 in
@@ -130,7 +130,7 @@ module _ (line matches : List ℕ) (start number : ℕ) (c : Cursor) (z : Openin
               let A : List Span = readPart P none start (o .value) line in
               let B : List Span = readPart P (some number) (o .value) upto line in
               let C : List Span = readMatches P (escapes line) upto (suc number) (p .ms) line in
-              rw (p .is) (ap (λ (l : List Record). l ++ records (B ++ C)) (part-records P (record { inside = false; number = number }) line start (o .value))
+              rw (p .is) (ap (λ (l : List Record). l ++ records (B ++ C)) (part-records P (record { kind = 1; number = number }) line start (o .value))
               ∙ sym (records-append A (B ++ C)) ∙ ap records (sym (append-assoc A B C))
               ∙ rw (next-is, p .is) (ap (λ (y : ℕ). records (readPart P none start y line ++ readPart P (some number) y upto line ++ C)) v));
           sound = record {
@@ -147,12 +147,12 @@ module _ (line matches : List ℕ) (start number : ℕ) (c : Cursor) (z : Openin
         }
 
   pub open-last : length matches ≤ c .index
-      → Opened line matches start number c (record { place = record { at = start; run = 0 }; end = length line; matched = record { inside = false; number = number }; index = c .index; offsets = c .offsets; count = c .count })
+      → Opened line matches start number c (record { place = record { at = start; run = 0 }; end = length line; matched = record { kind = 1; number = number }; index = c .index; offsets = c .offsets; count = c .count })
   unfolding remaining behindStretch pending readMatches matchIn orderFrom stretchesLeft records
   open-last h =
       let d : drop (c .index) matches ≡ [] = drop-of-length-le matches h in
       record {
-        same = λ P. rw d (append-nil (recordsFrom P (record { inside = false; number = number }) (take (length line) line) start) ∙ part-records P (record { inside = false; number = number }) line start (length line));
+        same = λ P. rw d (append-nil (recordsFrom P (record { kind = 1; number = number }) (take (length line) line) start) ∙ part-records P (record { kind = 1; number = number }) line start (length line));
         sound = record { small = z .small; last = z .last; from = z .from; order = rw d; index = z .index; few = omega (arith, z .few); fresh = λ w. absurd (omega arith) };
         falls = omega arith;
         count = refl;
@@ -171,11 +171,11 @@ module _ (line matches : List ℕ) (c : Cursor) (z : Waiting line matches c) whe
   close-ready n e = offset-ready line n (z .sound .last) (getD matches (c .index) 0) (c .offsets) (z .sound .small) e (z .sound .from) (second .low) (second .high)
 
   pub close-pending : (n : ℕ) (o : Offset) → n ≡ trimmed line → OffsetAt (take n line) (getD matches (c .index) 0) o
-      → Moved line matches c (record { place = record { at = c .end; run = 0 }; end = o .value; matched = record { inside = true; number = c .matched .number }; index = c .index + 1; offsets = o .offsets; count = c .count })
+      → Moved line matches c (record { place = record { at = c .end; run = 0 }; end = o .value; matched = record { kind = 2; number = c .matched .number }; index = c .index + 1; offsets = o .offsets; count = c .count })
   unfolding remaining behindStretch pending matchIn orderFrom stretchesLeft
   close-pending n o e k =
       let x : ℕ = getD matches (c .index) 0 in
-      let m : Matched = record { inside = true; number = c .matched .number } in
+      let m : Matched = record { kind = 2; number = c .matched .number } in
       let v : o .value ≡ offsetFrom 0 x (escapes line) = offset-is line n x o e k in
       record {
         same = λ P.
@@ -199,28 +199,31 @@ module _ (line matches : List ℕ) (c : Cursor) (z : Waiting line matches c) whe
 -- ---- `advance`
 
 module _ (line matches : List ℕ) (c : Cursor) (z : Going line matches c) where
-  pub going-inside : c .matched .inside ≡ true → Opening line matches (c .matched .number + 1) c
+  pub going-inside : c .matched .kind ≡ 2 → Opening line matches (c .matched .number + 1) c
   unfolding orderFrom
-  going-inside e =
+  going-inside k =
+      let e = eq-eqb (c .matched .kind) 2 k in
       let s = z .sound in
       let f : c .matched .number + 1 ≤ c .index = rw e at (s .few) in
       record { small = s .small; last = s .last; from = s .from; order = rw e at (s .order); index = s .index; few = f }
 
-  pub going-room : c .matched .inside ≡ true → c .matched .number + 1 ≤ length matches
-  going-room e = let f : c .matched .number + 1 ≤ c .index = rw e at (z .sound .few) in omega (arith, z .sound .index)
+  pub going-room : c .matched .kind ≡ 2 → c .matched .number + 1 ≤ length matches
+  going-room k = let e = eq-eqb (c .matched .kind) 2 k in let f : c .matched .number + 1 ≤ c .index = rw e at (z .sound .few) in omega (arith, z .sound .index)
 
-  pub going-on : (r : Cursor) → c .matched .inside ≡ true → Opened line matches (c .end) (c .matched .number + 1) c r → Moved line matches c r
+  pub going-on : (r : Cursor) → c .matched .kind ≡ 2 → Opened line matches (c .end) (c .matched .number + 1) c r → Moved line matches c r
   unfolding behindStretch stretchesLeft
-  going-on r e o =
+  going-on r k o =
+      let e = eq-eqb (c .matched .kind) 2 k in
       record {
-        same = λ P. rw e (o .same P ∙ ap (λ (k : ℕ). records (readMatches P (escapes line) (c .end) k (drop (c .index) matches) line)) (add-one (c .matched .number)));
+        same = λ P. rw e (o .same P ∙ ap (λ (n : ℕ). records (readMatches P (escapes line) (c .end) n (drop (c .index) matches) line)) (add-one (c .matched .number)));
         sound = o .sound;
         falls = rw e (let f = o .falls in omega arith);
         count = o .count;
       }
 
-  pub going-outside : c .matched .inside ≡ false → Waiting line matches c
-  going-outside e =
+  pub going-outside : (c .matched .kind ≡ 2 → ⊥) → Waiting line matches c
+  going-outside k =
+      let e = ne-eqb (c .matched .kind) 2 k in
       let t = and-T (leb (c .end) (c .place .at) || leb (length line) (c .place .at)) _ (true-T (z .spent)) in
       let u : T (ltb (c .index) (length matches)) = rw e at (t .1) in
       record { sound = z .sound; outside = e; some = ltb→lt _ _ u }
@@ -268,6 +271,9 @@ module _ (line matches : List ℕ) (c d : Cursor) (z : SettleLoop line matches c
     pub settle-ends : w ≡ false → Settled line matches c d
     settle-ends f = record { same = z .same; sound = z .sound; settled = sym e ∙ f; count = z .count }
 
+pub settled-here : (line matches : List ℕ) (c : Cursor) (w : Bool) → Sound line matches c → w ≡ spent (length line) (length matches) c → w ≡ false → Settled line matches c c
+settled-here line matches c w z e f = settle-ends line matches c c (settle-begins line matches c z) w e f
+
 -- ---- `next_record`
 
 pub clip-fits : (a b end : ℕ) → end ≡ clipped a b → end ≤ b
@@ -282,8 +288,8 @@ nothing-left line matches c d s end e P h =
     cases (leb (d .end) (length line))
     (λ f. let a : end ≡ d .end = e ∙ rw f in rw (le-leb (d .end) (d .place .at) (omega arith)))
     (λ f. let a : end ≡ length line = e ∙ rw f in rw (le-leb (length line) (d .place .at) (omega arith), or-true)) in
-    let u : (d .matched .inside || ltb (d .index) (length matches)) ≡ false = rw t at (s .settled) in
-    let v = or-false (d .matched .inside) (ltb (d .index) (length matches)) u in
+    let u : (isMatch (d .matched) || ltb (d .index) (length matches)) ≡ false = rw t at (s .settled) in
+    let v = or-false (isMatch (d .matched)) (ltb (d .index) (length matches)) u in
     let w : drop (d .index) matches ≡ [] = drop-of-length-le matches {i = d .index} (nltb→le _ _ (rw (v .1) tt)) in
     rw (no-records P (d .matched) (take (d .end) line) (d .place .at) k, v .0, w)
 

@@ -168,6 +168,10 @@ printable b = leb 0x20 b && leb b 0x7E
 abbrev pub alone : ℕ → Bool
 alone b = leb b 0x1F && not (eqb b 0x0D)
 
+-- the number of class LV, LVT or other
+abbrev pub base : ℕ → Bool
+base k = eqb k 8 || (eqb k 9 || eqb k 11)
+
 -- a cluster of n bytes, the first of them a and b, that is w columns wide is a part of a text
 unfoldable pub plainBytes : ℕ → ℕ → ℕ → ℕ → Bool
 plainBytes n a b w = cond (eqb n 1 && (leb a 0x1F || eqb a 0x7F)) false (cond (eqb n 2 && (eqb a 0x0D && eqb b 0x0A)) false (not (eqb w 0)))
@@ -234,13 +238,16 @@ pub record Ready (t : List ℕ) (c : Place) : Type 0 where
   pub small : length t ≤ 65536
   pub fresh : Fresh t c
 
+abbrev pub isMatch : Matched → Bool
+isMatch m = eqb (m .kind) 2
+
 -- the match that a stretch is, if it is one
 unfoldable pub matchIn : Matched → Option ℕ
-matchIn m = cond (m .inside) (some (m .number)) none
+matchIn m = cond (isMatch m) (some (m .number)) none
 
 -- the record of a text of n bytes at a place
 unfoldable pub textRecord : Matched → ℕ → ℕ → Record
-textRecord m at n = cond (m .inside) (aRecord 2 at n (m .number)) (aRecord 1 at n 0)
+textRecord m at n = cond (isMatch m) (aRecord 2 at n (m .number)) (aRecord 1 at n 0)
 
 -- the records of the spans from a place to the stretch's end
 unfoldable pub recordsFrom : Profile → Matched → List ℕ → ℕ → List Record
@@ -341,7 +348,7 @@ clipped a b = cond (leb a b) a b
 
 -- the stretch has no bytes left, of a line of n bytes, and another follows, with k numbers of match ranges
 abbrev pub spent : ℕ → ℕ → Cursor → Bool
-spent n k c = (leb (c .end) (c .place .at) || leb n (c .place .at)) && (c .matched .inside || ltb (c .index) k)
+spent n k c = (leb (c .end) (c .place .at) || leb n (c .place .at)) && (isMatch (c .matched) || ltb (c .index) k)
 
 -- the line without its final newline
 abbrev pub withoutNewline : List ℕ → List ℕ
@@ -358,7 +365,7 @@ pending P line k start (b ∷ ms) =
 -- what follows a stretch that ends at `end`
 unfoldable pub behindStretch : Profile → List ℕ → Matched → ℕ → List ℕ → List Span
 unfolding pending readMatches escapes
-behindStretch P line m end ms = cond (m .inside) (readMatches P (escapes line) end (suc (m .number)) ms line) (pending P line (m .number) end ms)
+behindStretch P line m end ms = cond (isMatch m) (readMatches P (escapes line) end (suc (m .number)) ms line) (pending P line (m .number) end ms)
 
 -- the records that a reading has before it
 unfoldable pub remaining : Profile → List ℕ → List ℕ → Cursor → List Record
@@ -374,15 +381,15 @@ orderFrom false most last (b ∷ ms) = leb last b && (leb b most && inOrder most
 
 -- a bound that falls from stretch to stretch
 unfoldable pub stretchesLeft : ℕ → Cursor → ℕ
-stretchesLeft k c = 2 * (k - c .index) + cond (c .matched .inside) 1 0
+stretchesLeft k c = 2 * (k - c .index) + cond (isMatch (c .matched)) 1 0
 
 pub record Sound (line matches : List ℕ) (c : Cursor) : Type 0 where
   pub small : length line ≤ 65536
   pub last : ℕ
   pub from : OffsetsFrom (withoutNewline line) last (c .offsets)
-  pub order : orderFrom (c .matched .inside) (searchedLength line) last (drop (c .index) matches) ≡ true
+  pub order : orderFrom (isMatch (c .matched)) (searchedLength line) last (drop (c .index) matches) ≡ true
   pub index : c .index ≤ length matches
-  pub few : c .matched .number + cond (c .matched .inside) 1 0 ≤ c .index
+  pub few : c .matched .number + cond (isMatch (c .matched)) 1 0 ≤ c .index
   pub fresh : Fresh (take (c .end) line) (c .place)
 
 pub record Opening (line matches : List ℕ) (number : ℕ) (c : Cursor) : Type 0 where
@@ -402,7 +409,7 @@ pub record Opened (line matches : List ℕ) (start number : ℕ) (c r : Cursor) 
 
 pub record Waiting (line matches : List ℕ) (c : Cursor) : Type 0 where
   pub sound : Sound line matches c
-  pub outside : c .matched .inside ≡ false
+  pub outside : isMatch (c .matched) ≡ false
   pub some : c .index < length matches
 
 pub record Going (line matches : List ℕ) (c : Cursor) : Type 0 where
@@ -454,7 +461,7 @@ pub record Started (line matches : List ℕ) (r : Cursor) : Type 0 where
 -- ---- the call `read`
 
 abbrev pub refusedBy : ℕ → Reading
-refusedBy n = record { number = n; len = 0; places = 0; cursor = record { place = record { at = 0; run = 0 }; end = 0; matched = record { inside = false; number = 0 }; index = 0; offsets = record { origin = 0; passed = 0; next = record { from = 0; upto = 0; found = false } }; count = 0 } }
+refusedBy n = record { number = n; len = 0; places = 0; cursor = record { place = record { at = 0; run = 0 }; end = 0; matched = record { kind = 1; number = 0 }; index = 0; offsets = record { origin = 0; passed = 0; next = record { from = 0; upto = 0; found = false } }; count = 0 } }
 
 -- the reading stands at the beginning of the line
 pub record AtStart (line matches : List ℕ) (n : ℕ) (r : Reading) : Type 0 where

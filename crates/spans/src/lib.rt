@@ -64,10 +64,7 @@ fn refused(number: usize) -> Reading
         cursor: Cursor {
             place: Place { at: 0, run: 0 },
             end: 0,
-            matched: Matched {
-                inside: false,
-                number: 0,
-            },
+            matched: Matched { kind: 1, number: 0 },
             index: 0,
             offsets: Offsets {
                 origin: 0,

@@ -20,7 +20,7 @@ ghost use Rattle.text.specs.Code.{profileOf};
 ghost use Rattle.spans.specs.Sequence.{missing};
 ghost use Rattle.spans.specs.Spans.{aRecord};
 ghost use Rattle.spans.specs.Spans.Steps.{plainSize};
-ghost use Rattle.spans.specs.Contracts.{printable, alone, plainBytes, clustersAt, plainFirst, PlainTo, escapeLook, lookBytes, Part, Ahead, Skip, runAt, textRecord, invalidAt, Escaping, Mark, ControlReady, SpecialStep, Ready, Stepped};
+ghost use Rattle.spans.specs.Contracts.{printable, alone, base, plainBytes, clustersAt, plainFirst, PlainTo, escapeLook, lookBytes, Part, Ahead, Skip, runAt, textRecord, invalidAt, Escaping, Mark, ControlReady, SpecialStep, Ready, Stepped};
 
 // What a cluster that is no part of a text is: a kind of span, and its length.
 pub struct Look {
@@ -34,9 +34,10 @@ pub struct Place {
     pub run: usize,
 }
 
-// The match that a stretch is, if it is one.
+// The kind of a stretch's texts, 1 Text or 2 Match, and the number of the match that it is or that follows it. (A flag of one byte
+// would leave bytes unused, and the copies of these make every step slower.)
 pub struct Matched {
-    pub inside: bool,
+    pub kind: usize,
     pub number: usize,
 }
 
@@ -99,8 +100,15 @@ fn printable_end(profile: Profile, t: &[u8], at: usize) -> usize
     at
 }
 
-// The same of scalars of class other.
-fn others_end(profile: Profile, t: &[u8], at: usize) -> usize
+// Is it class LV, LVT or other? No rule joins two scalars of these classes, and none of them is without width.
+fn is_base(class: u8) -> bool
+    ensures { λ r. ⌜ r ≡ base class ⌝ }
+{
+    (class == 8) | ((class == 9) | (class == 11))
+}
+
+// Past scalars of these classes, in the same way.
+fn bases_end(profile: Profile, t: &[u8], at: usize) -> usize
     requires { ⌜ at ≤ length (now t) ⌝ }
     ensures { λ r. ⌜ PlainTo (profileOf profile) (now (t .entry)) at r ⌝ }
 {
@@ -108,24 +116,24 @@ fn others_end(profile: Profile, t: &[u8], at: usize) -> usize
         return at;
     }
     let u = decode(t, at);
-    if class(profile, u.code) != 11 {
-        return at;
-    }
-    let mut i = at;
-    let mut next = at + u.len;
-    while next < t.len() {
-        let v = decode(t, next);
-        if class(profile, v.code) == 11 {
-            i = next;
-            next += v.len;
-        } else {
-            if v.code < 0x80 {
-                return next;
+    if is_base(class(profile, u.code)) {
+        let mut i = at;
+        let mut next = at + u.len;
+        while next < t.len() {
+            let v = decode(t, next);
+            if is_base(class(profile, v.code)) {
+                i = next;
+                next += v.len;
+            } else {
+                if v.code < 0x80 {
+                    return next;
+                }
+                return i;
             }
-            return i;
         }
+        return next;
     }
-    next
+    at
 }
 
 // The end of the cluster at a place if it is a part of a text, else the place.
@@ -151,7 +159,7 @@ fn text_end(profile: Profile, t: &[u8], at: usize) -> usize
     let mut i = at;
     while i < t.len() {
         let a = printable_end(profile, t, i);
-        let b = others_end(profile, t, a);
+        let b = bases_end(profile, t, a);
         let end = plain_end(profile, t, b);
         if end == b {
             return end;
@@ -240,7 +248,7 @@ fn text_span(at: usize, end: usize, m: Matched) -> Span
     requires { ⌜ at ≤ end ⌝ }
     ensures { λ r. ⌜ r ≡ textRecord m at (end - at) ⌝ }
 {
-    if m.inside {
+    if m.kind == 2 {
         return span_of(2, at, end - at, m.number);
     }
     span_of(1, at, end - at, 0)

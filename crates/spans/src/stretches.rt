@@ -55,7 +55,7 @@ fn outside(line: &[u8], matches: &[usize], start: usize, number: usize, c: Curso
             place: Place { at: start, run: 0 },
             end: o.value,
             matched: Matched {
-                inside: false,
+                kind: 1,
                 number: number,
             },
             index: index + 1,
@@ -67,7 +67,7 @@ fn outside(line: &[u8], matches: &[usize], start: usize, number: usize, c: Curso
         place: Place { at: start, run: 0 },
         end: line.len(),
         matched: Matched {
-            inside: false,
+            kind: 1,
             number: number,
         },
         index: index,
@@ -91,7 +91,7 @@ fn inside(line: &[u8], matches: &[usize], c: Cursor) -> Cursor
         place: Place { at: c.end, run: 0 },
         end: o.value,
         matched: Matched {
-            inside: true,
+            kind: 2,
             number: m.number,
         },
         index: index + 1,
@@ -106,7 +106,7 @@ fn is_spent(line: &[u8], matches: &[usize], c: Cursor) -> bool
 {
     let p = c.place;
     let m = c.matched;
-    ((c.end <= p.at) | (line.len() <= p.at)) & (m.inside | (c.index < matches.len()))
+    ((c.end <= p.at) | (line.len() <= p.at)) & ((m.kind == 2) | (c.index < matches.len()))
 }
 
 // The stretch behind one that has no bytes left.
@@ -115,14 +115,14 @@ fn advance(line: &[u8], matches: &[usize], c: Cursor) -> Cursor
     ensures { λ r. ⌜ Moved (now (line .entry)) (now (matches .entry)) c r ⌝ }
 {
     let m = c.matched;
-    if m.inside {
+    if m.kind == 2 {
         return outside(line, matches, c.end, m.number + 1, c);
     }
     inside(line, matches, c)
 }
 
-// The first stretch from here on that has bytes left, if there is one.
-fn settle(line: &[u8], matches: &[usize], c: Cursor) -> Cursor
+// The first stretch behind this one that has bytes left, if there is one.
+fn skip_spent(line: &[u8], matches: &[usize], c: Cursor) -> Cursor
     requires { ⌜ Sound (now line) (now matches) c ⌝ }
     ensures { λ r. ⌜ Settled (now (line .entry)) (now (matches .entry)) c r ⌝ }
 {
@@ -131,6 +131,17 @@ fn settle(line: &[u8], matches: &[usize], c: Cursor) -> Cursor
         d = advance(line, matches, d);
     }
     d
+}
+
+// The first stretch from here on that has bytes left, if there is one: mostly this one.
+fn settle(line: &[u8], matches: &[usize], c: Cursor) -> Cursor
+    requires { ⌜ Sound (now line) (now matches) c ⌝ }
+    ensures { λ r. ⌜ Settled (now (line .entry)) (now (matches .entry)) c r ⌝ }
+{
+    if is_spent(line, matches, c) {
+        return skip_spent(line, matches, c);
+    }
+    c
 }
 
 // The next record; behind the last span a record of zeros.
@@ -175,7 +186,7 @@ pub fn has_next(line: &[u8], matches: &[usize], c: Cursor) -> bool
     requires { ⌜ Sound (now line) (now matches) c ⌝ }
     ensures { λ r. ⌜ HasNext (now (line .entry)) (now (matches .entry)) c r ⌝ }
 {
-    let d = settle(line, matches, c);
+    let d = skip_spent(line, matches, c);
     let end = smaller(d.end, line.len());
     let place = d.place;
     place.at < end
@@ -196,10 +207,7 @@ pub fn begin(line: &[u8], matches: &[usize]) -> Cursor
         Cursor {
             place: Place { at: 0, run: 0 },
             end: 0,
-            matched: Matched {
-                inside: true,
-                number: 0,
-            },
+            matched: Matched { kind: 2, number: 0 },
             index: 0,
             offsets: offsets,
             count: 0,

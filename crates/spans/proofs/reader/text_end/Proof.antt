@@ -20,8 +20,8 @@ loop-holds c = search plain-here
 printable-end-requires : tie.Need-printable-end-requires Inv-loop μ-loop
 printable-end-requires c κs = search needs
 
-others-end-requires : tie.Need-others-end-requires Inv-loop μ-loop
-others-end-requires c κs = search needs
+bases-end-requires : tie.Need-bases-end-requires Inv-loop μ-loop
+bases-end-requires c κs = search needs
 
 plain-end-requires : tie.Need-plain-end-requires Inv-loop μ-loop
 plain-end-requires c κs = search needs
@@ -46,7 +46,7 @@ text-end-spec =
     μ-loop
     loop-holds
     printable-end-requires
-    others-end-requires
+    bases-end-requires
     plain-end-requires
     returns
     loop-less

@@ -1,43 +1,19 @@
-use lib.ListN.{length}
-use Rattle.spans.specs.Contracts.{stretchesLeft}
-use Rattle.spans.proofs.StretchLaws.{SettleLoop, settle-begins, settle-going, settle-more, settle-falls, settle-ends}
+use Rattle.spans.proofs.StretchLaws.{settled-here}
 use borrow.Author.Needs.{needs}
 use Rattle.spans.proofs.stretches.settle.Statement.{statement}
 use Rattle.spans.proofs.stretches.settle.Tie as tie
 
-abbrev Inv-loop : tie.InvT-loop
-Inv-loop line matches d₀ d = SettleLoop line matches d₀ d
-
-abbrev μ-loop : tie.MeasureT-loop
-μ-loop line matches d₀ d = stretchesLeft (length matches) d
-
-loop-holds : tie.Need-loop-holds Inv-loop μ-loop
-loop-holds c = search settle-begins
-
-is-spent-requires : tie.Need-is-spent-requires Inv-loop μ-loop
+is-spent-requires : tie.Need-is-spent-requires
 is-spent-requires c κs = search needs
 
-advance-requires : tie.Need-advance-requires Inv-loop μ-loop
-advance-requires c κs = search settle-going
+skip-spent-requires : tie.Need-skip-spent-requires
+skip-spent-requires c κs = search needs
 
-loop-less : tie.Need-loop-less Inv-loop μ-loop
-loop-less c = search settle-falls
+returns : tie.Need-returns
+returns c = search needs
 
-loop-again : tie.Need-loop-again Inv-loop μ-loop
-loop-again c = search settle-more
-
-returns : tie.Need-returns Inv-loop μ-loop
-returns c = search settle-ends
+returns-2 : tie.Need-returns-2
+returns-2 c = search settled-here
 
 pub settle-spec : {M : Type 1} → statement M
-settle-spec =
-    tie.close
-    (tie.spec
-    Inv-loop
-    μ-loop
-    loop-holds
-    is-spent-requires
-    advance-requires
-    loop-less
-    loop-again
-    returns)
+settle-spec = tie.close (tie.spec is-spent-requires skip-spent-requires returns returns-2)
