@@ -11,7 +11,7 @@ ghost use lib.Seq.{slice};
 ghost use Rattle.text.specs.Utf8.{decode};
 ghost use Rattle.text.specs.Class.{number};
 ghost use Rattle.text.specs.Cluster.{start, after, joined};
-ghost use Rattle.text.specs.Code.{profileOf, firstSequence, unitOf, markBytes, ideographBytes, singleAt, loneByte, beginsCluster, runOf, size, contextOf, seen, moreFrom, firstSize, back, whole, withoutLast, EvenAt, OddTo, JoinsAt, regionalAt, IndicatorsTo};
+ghost use Rattle.text.specs.Code.{profileOf, firstSequence, unitOf, markBytes, letterBytes, ideographBytes, singleAt, loneByte, beginsCluster, runOf, size, contextOf, seen, moreFrom, firstSize, back, whole, withoutLast, EvenAt, OddTo, JoinsAt, regionalAt, IndicatorsTo};
 
 // What the rules ask of the scalars before a place: the last one's class, and whether an odd number of regional indicators ends there.
 pub struct Seen {
@@ -83,6 +83,13 @@ fn is_mark(a: u32, b: u32) -> bool
     (a == 0xCC) & ((0x80 <= b) & (b <= 0xBF))
 }
 
+// Do two bytes stand for one of U+00C0 to U+02FF or of U+0380 to U+047F, which are of class other?
+fn is_letter(a: u32, b: u32) -> bool
+    ensures { λ r. ⌜ r ≡ letterBytes a b ⌝ }
+{
+    (((0xC3 <= a) & (a <= 0xCB)) | ((0xCE <= a) & (a <= 0xD1))) & ((0x80 <= b) & (b <= 0xBF))
+}
+
 // Do three bytes stand for one of U+3000 to U+9FFF, which are of class other?
 fn is_ideograph(a: u32, b: u32, c: u32) -> bool
     ensures { λ r. ⌜ r ≡ ideographBytes a b c ⌝ }
@@ -90,7 +97,19 @@ fn is_ideograph(a: u32, b: u32, c: u32) -> bool
     ((0xE3 <= a) & (a <= 0xE9)) & (((0x80 <= b) & (b <= 0xBF)) & ((0x80 <= c) & (c <= 0xBF)))
 }
 
-// The sequence at a place with its class, the common ones by their bytes.
+// The sequence at a place with its class.
+fn decoded_unit(profile: Profile, s: &[u8], at: usize) -> Unit
+    requires { ⌜ at < length (now s) ⌝ }
+    ensures { λ r. ⌜ r ≡ unitOf (profileOf profile) (firstSequence (decode (drop at (now (s .entry))))) ⌝ }
+{
+    let u = decode(s, at);
+    Unit {
+        len: u.len,
+        class: class(profile, u.code),
+    }
+}
+
+// The same, the common ones by their bytes.
 fn unit_at(profile: Profile, s: &[u8], at: usize) -> Unit
     requires { ⌜ at < length (now s) ⌝ }
     ensures { λ r. ⌜ r ≡ unitOf (profileOf profile) (firstSequence (decode (drop at (now (s .entry))))) ⌝ }
@@ -103,14 +122,13 @@ fn unit_at(profile: Profile, s: &[u8], at: usize) -> Unit
     if is_mark(a, b) {
         return Unit { len: 2, class: 3 };
     }
+    if is_letter(a, b) {
+        return Unit { len: 2, class: 11 };
+    }
     if is_ideograph(a, b, byte_at(s, at + 2)) {
         return Unit { len: 3, class: 11 };
     }
-    let u = decode(s, at);
-    Unit {
-        len: u.len,
-        class: class(profile, u.code),
-    }
+    decoded_unit(profile, s, at)
 }
 
 // Is the byte at a place a cluster: a control, or a byte below 80 before another or the end? CR apart.
@@ -130,11 +148,13 @@ fn is_lone(b: u32) -> bool
     (b < 0x80) & (b != 0x0A)
 }
 
-// Is it such a byte, or the first of U+3000 to U+9FFF, which no rule joins to what stands before?
+// Is it such a byte, or the first of a letter or an ideograph as above, which no rule joins to what stands before?
 fn begins_cluster(b: u32) -> bool
     ensures { λ r. ⌜ r ≡ beginsCluster b ⌝ }
 {
-    ((b < 0x80) & (b != 0x0A)) | ((0xE3 <= b) & (b <= 0xE9))
+    ((b < 0x80) & (b != 0x0A))
+        | ((((0xC3 <= b) & (b <= 0xCB)) | ((0xCE <= b) & (b <= 0xD1)))
+            | ((0xE3 <= b) & (b <= 0xE9)))
 }
 
 // The end of the cluster that a scalar of class c begins, whose next scalar stands at `from`.
@@ -207,8 +227,8 @@ fn class_at(profile: Profile, s: &[u8], at: usize) -> u8
     requires { ⌜ at < length (now s) ⌝ }
     ensures { λ r. ⌜ r ≡ number (profileOf profile .class (firstSequence (decode (drop at (now (s .entry)))) .code)) ⌝ }
 {
-    let u = decode(s, at);
-    class(profile, u.code)
+    let u = decoded_unit(profile, s, at);
+    u.class
 }
 
 // Do the bytes at a place stand for a regional indicator?

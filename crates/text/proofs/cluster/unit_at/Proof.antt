@@ -1,5 +1,5 @@
 use borrow.Author.Needs.{needs}
-use Rattle.text.proofs.Common.{unit-ascii, unit-ideograph, unit-mark, unit-read}
+use Rattle.text.proofs.Common.{unit-ascii, unit-ideograph, unit-letter, unit-mark}
 use Rattle.text.proofs.cluster.unit_at.Statement.{statement}
 use Rattle.text.proofs.cluster.unit_at.Tie as tie
 
@@ -21,6 +21,12 @@ is-mark-requires c κs = search needs
 returns-2 : tie.Need-returns-2
 returns-2 c = search unit-mark
 
+is-letter-requires : tie.Need-is-letter-requires
+is-letter-requires c κs = search needs
+
+returns-3 : tie.Need-returns-3
+returns-3 c = search unit-letter
+
 add-byte-at-2 : tie.Need-add-byte-at-2
 add-byte-at-2 c = search needs
 
@@ -30,17 +36,14 @@ byte-at-requires-3 c κs = search needs
 is-ideograph-requires : tie.Need-is-ideograph-requires
 is-ideograph-requires c κs = search needs
 
-returns-3 : tie.Need-returns-3
-returns-3 c = search unit-ideograph
-
-decode-requires : tie.Need-decode-requires
-decode-requires c κs = search needs
-
-class-requires : tie.Need-class-requires
-class-requires c κs = search needs
-
 returns-4 : tie.Need-returns-4
-returns-4 c = search unit-read
+returns-4 c = search unit-ideograph
+
+decoded-unit-requires : tie.Need-decoded-unit-requires
+decoded-unit-requires c κs = search needs
+
+returns-5 : tie.Need-returns-5
+returns-5 c = search needs
 
 pub unit-at-spec : {M : Type 1} → statement M
 unit-at-spec =
@@ -52,10 +55,11 @@ unit-at-spec =
     byte-at-requires-2
     is-mark-requires
     returns-2
+    is-letter-requires
+    returns-3
     add-byte-at-2
     byte-at-requires-3
     is-ideograph-requires
-    returns-3
-    decode-requires
-    class-requires
-    returns-4)
+    returns-4
+    decoded-unit-requires
+    returns-5)
