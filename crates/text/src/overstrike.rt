@@ -472,14 +472,15 @@ fn convert_piece(profile: Profile, line: &[u8], out: &mut [u8], done: Progress) 
 {
     let at = done.read;
     let len = done.written;
-    let run = convert_unicode_span(profile, &line[at..], &mut out[len..]);
-    if run.read == 0 {
+    let u = decode(line, at);
+    if u.len == 0 {
         out[len] = line[at];
         return Progress {
             read: at + 1,
             written: len + 1,
         };
     }
+    let run = convert_unicode_span(profile, &line[at..], &mut out[len..]);
     Progress {
         read: at + run.read,
         written: len + run.written,
