@@ -19,8 +19,8 @@ use Rattle.text.proofs.Ascii.{alone, ascii-sequence, damaged-alone, gre
 use Rattle.text.proofs.Units.{by-chain, chain, decode-at}
 use Rattle.text.specs.declared.class.Profile as code
 
-abbrev unit : ℕ → ℕ → Unit
-unit n c = record { len = n; class = c }
+abbrev unit : ℕ → ℕ → ℕ → Unit
+unit x n c = record { code = x; len = n; class = c }
 
 -- ---- their lengths
 
@@ -89,12 +89,12 @@ letter-bounds a e =
 -- ---- what is read at a place
 
 module _ (v : code.Profile) (s : List ℕ) (p a : ℕ) (here : p < length s) (ea : a ≡ getD s p 0) where
-  pub unit-ascii : (leb 0x20 a && leb a 0x7E) ≡ true → unit 1 11 ≡ unitOf (profileOf v) (firstSequence (decode (drop p s)))
+  pub unit-ascii : (leb 0x20 a && leb a 0x7E) ≡ true → unit a 1 11 ≡ unitOf (profileOf v) (firstSequence (decode (drop p s)))
   unit-ascii f =
       let q = and-T (leb 0x20 a) (leb a 0x7E) (true-T f) in
       let lo : 0x20 ≤ a = leb→le _ _ (q .0) in
       let hi : a ≤ 0x7E = leb→le _ _ (q .1) in
-      ap (unit 1) (sym (printable-class v a lo hi)) ∙ ap (unitOf (profileOf v)) (ascii-sequence s p a here ea (omega arith))
+      ap (unit a 1) (sym (printable-class v a lo hi)) ∙ ap (unitOf (profileOf v)) (ascii-sequence s p a here ea (omega arith))
 
   module _ (b : ℕ) (eb : b ≡ getD s (p + 1) 0) where
     two-read : 0xC2 ≤ a → a ≤ 0xDF → within tail b ≡ true → sequenceOf (a % 32 * 64 + b % 64) 2 ≡ firstSequence (decode (drop p s))
@@ -105,13 +105,13 @@ module _ (v : code.Profile) (s : List ℕ) (p a : ℕ) (here : p < length s) (ea
     unfolding value
     two-bad lo hi t = decode-at s p a b (getD s (p + 2) 0) (getD s (p + 3) 0) 0 0 here ea eb refl refl (two-none a b (getD s (p + 2) 0) (getD s (p + 3) 0) lo hi t) refl
 
-    pub unit-mark : (r : Bool) → r ≡ markBytes a b → r ≡ true → unit 2 3 ≡ unitOf (profileOf v) (firstSequence (decode (drop p s)))
+    pub unit-mark : (r : Bool) → r ≡ markBytes a b → r ≡ true → unit (a % 32 * 64 + b % 64) 2 3 ≡ unitOf (profileOf v) (firstSequence (decode (drop p s)))
     unit-mark r e f =
         let q = and-T (eqb a 0xCC) (within tail b) (true-T (sym e ∙ f)) in
         let i : a ≡ 0xCC = eqb→eq _ _ (q .0) in
         let x : ℕ = a % 32 * 64 + b % 64 in
         let k : 3 ≡ number (profileOf v .class x) = mark-class v x (rw (le-leb 0x300 x (omega arith), le-leb x 0x36F (omega arith)) refl) in
-        ap (unit 2) k ∙ ap (unitOf (profileOf v)) (two-read (omega arith) (omega arith) (is-true _ (q .1)))
+        ap (unit (a % 32 * 64 + b % 64) 2) k ∙ ap (unitOf (profileOf v)) (two-read (omega arith) (omega arith) (is-true _ (q .1)))
 
     letter-class : letterLead a ≡ true → number (profileOf v .class (a % 32 * 64 + b % 64)) ≡ 11
     letter-class e =
@@ -127,35 +127,35 @@ module _ (v : code.Profile) (s : List ℕ) (p a : ℕ) (here : p < length s) (ea
         let hi : a ≤ 0xD1 = leb→le _ _ (q .1) in
         greek-class v (a % 32 * 64 + b % 64) (omega arith) (omega arith))
 
-    letter-read : letterLead a ≡ true → within tail b ≡ true → unit 2 11 ≡ unitOf (profileOf v) (firstSequence (decode (drop p s)))
-    letter-read e t = let w = letter-bounds a e in ap (unit 2) (sym (letter-class e)) ∙ ap (unitOf (profileOf v)) (two-read (w .0) (w .1) t)
+    letter-read : letterLead a ≡ true → within tail b ≡ true → unit (a % 32 * 64 + b % 64) 2 11 ≡ unitOf (profileOf v) (firstSequence (decode (drop p s)))
+    letter-read e t = let w = letter-bounds a e in ap (unit (a % 32 * 64 + b % 64) 2) (sym (letter-class e)) ∙ ap (unitOf (profileOf v)) (two-read (w .0) (w .1) t)
 
     letter-bad : letterLead a ≡ true → within tail b ≡ false → sequenceOf 0 0 ≡ firstSequence (decode (drop p s))
     letter-bad e t = let w = letter-bounds a e in two-bad (w .0) (w .1) t
 
-    pub unit-letter : (r : Bool) → r ≡ letterBytes a b → r ≡ true → unit 2 11 ≡ unitOf (profileOf v) (firstSequence (decode (drop p s)))
+    pub unit-letter : (r : Bool) → r ≡ letterBytes a b → r ≡ true → unit (a % 32 * 64 + b % 64) 2 11 ≡ unitOf (profileOf v) (firstSequence (decode (drop p s)))
     unit-letter r e f = let q = and-T (letterLead a) (within tail b) (true-T (sym e ∙ f)) in letter-read (is-true _ (q .0)) (is-true _ (q .1))
 
     module _ (c : ℕ) (ec : c ≡ getD s (p + 2) 0) where
-      pub ideograph-read : 0xE3 ≤ a → a ≤ 0xE9 → (within tail b && within tail c) ≡ true → unit 3 11 ≡ unitOf (profileOf v) (firstSequence (decode (drop p s)))
+      pub ideograph-read : 0xE3 ≤ a → a ≤ 0xE9 → (within tail b && within tail c) ≡ true → unit ((a % 16 * 64 + b % 64) * 64 + c % 64) 3 11 ≡ unitOf (profileOf v) (firstSequence (decode (drop p s)))
       unfolding value more
       ideograph-read lo hi t =
           let x : ℕ = (a % 16 * 64 + b % 64) * 64 + c % 64 in
-          ap (unit 3) (sym (ideograph-class v x (omega arith) (omega arith)))
+          ap (unit ((a % 16 * 64 + b % 64) * 64 + c % 64) 3) (sym (ideograph-class v x (omega arith) (omega arith)))
           ∙ ap (unitOf (profileOf v)) (decode-at s p a b c (getD s (p + 3) 0) 3 x here ea eb ec refl (ideograph-length a b c (getD s (p + 3) 0) lo hi t) refl)
 
       pub ideograph-bad : 0xE3 ≤ a → a ≤ 0xE9 → (within tail b && within tail c) ≡ false → sequenceOf 0 0 ≡ firstSequence (decode (drop p s))
       unfolding value
       ideograph-bad lo hi t = decode-at s p a b c (getD s (p + 3) 0) 0 0 here ea eb ec refl (ideograph-none a b c (getD s (p + 3) 0) lo hi t) refl
 
-      pub unit-ideograph : (r : Bool) → r ≡ ideographBytes a b c → r ≡ true → unit 3 11 ≡ unitOf (profileOf v) (firstSequence (decode (drop p s)))
+      pub unit-ideograph : (r : Bool) → r ≡ ideographBytes a b c → r ≡ true → unit ((a % 16 * 64 + b % 64) * 64 + c % 64) 3 11 ≡ unitOf (profileOf v) (firstSequence (decode (drop p s)))
       unit-ideograph r e f =
           let q = and-T (within (to 0xE3 0xE9) a) (within tail b && within tail c) (true-T (sym e ∙ f)) in
           let l = and-T (leb 0xE3 a) (leb a 0xE9) (q .0) in
           ideograph-read (leb→le _ _ (l .0)) (leb→le _ _ (l .1)) (is-true _ (q .1))
 
-pub unit-read : (v : code.Profile) (u w : Sequence) (k : ℕ) → u ≡ w → k ≡ number (profileOf v .class (u .code)) → unit (u .len) k ≡ unitOf (profileOf v) w
-unit-read v u w k e f = ap (unit (u .len)) f ∙ ap (unitOf (profileOf v)) e
+pub unit-read : (v : code.Profile) (u w : Sequence) (k : ℕ) → u ≡ w → k ≡ number (profileOf v .class (u .code)) → unit (u .code) (u .len) k ≡ unitOf (profileOf v) w
+unit-read v u w k e f = ap (unit (u .code) (u .len)) f ∙ ap (unitOf (profileOf v)) e
 
 -- what a byte that begins a cluster begins joins nothing before it
 pub begins-alone : (v : code.Profile) (s : List ℕ) (p : ℕ) → p < length s → beginsCluster (getD s p 0) ≡ true → alone (number (profileOf v .class (firstSequence (decode (drop p s)) .code))) ≡ true

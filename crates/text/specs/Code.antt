@@ -66,9 +66,9 @@ syllable v = cond (eqb ((v - 0xAC00) % 28) 0) classLV classLVT
 
 -- ---- the walk through a cluster
 
--- a sequence's length and class
+-- a sequence with its class
 abbrev pub unitOf : Profile → Sequence → Unit
-unitOf P u = record { len = u .len; class = number (P .class (u .code)) }
+unitOf P u = record { code = u .code; len = u .len; class = number (P .class (u .code)) }
 
 -- the bytes of U+0300 to U+033F, of U+00C0 to U+02FF and U+0380 to U+047F, and of U+3000 to U+9FFF
 abbrev pub markBytes : ℕ → ℕ → Bool

@@ -70,8 +70,9 @@ fn is_joined(s: Seen, c: u8) -> bool
     false
 }
 
-// A sequence's length and its scalar's class. Where no sequence begins the length is 0.
+// A well-formed sequence and its scalar's class. Where none begins the length is 0.
 pub struct Unit {
+    pub code: u32,
     pub len: usize,
     pub class: u8,
 }
@@ -98,12 +99,13 @@ fn is_ideograph(a: u32, b: u32, c: u32) -> bool
 }
 
 // The sequence at a place with its class.
-fn decoded_unit(profile: Profile, s: &[u8], at: usize) -> Unit
+pub fn decoded_unit(profile: Profile, s: &[u8], at: usize) -> Unit
     requires { ⌜ at < length (now s) ⌝ }
     ensures { λ r. ⌜ r ≡ unitOf (profileOf profile) (firstSequence (decode (drop at (now (s .entry))))) ⌝ }
 {
     let u = decode(s, at);
     Unit {
+        code: u.code,
         len: u.len,
         class: class(profile, u.code),
     }
@@ -116,17 +118,34 @@ fn unit_at(profile: Profile, s: &[u8], at: usize) -> Unit
 {
     let a = byte_at(s, at);
     if (0x20 <= a) & (a <= 0x7E) {
-        return Unit { len: 1, class: 11 };
+        return Unit {
+            code: a,
+            len: 1,
+            class: 11,
+        };
     }
     let b = byte_at(s, at + 1);
     if is_mark(a, b) {
-        return Unit { len: 2, class: 3 };
+        return Unit {
+            code: a % 32 * 64 + b % 64,
+            len: 2,
+            class: 3,
+        };
     }
     if is_letter(a, b) {
-        return Unit { len: 2, class: 11 };
+        return Unit {
+            code: a % 32 * 64 + b % 64,
+            len: 2,
+            class: 11,
+        };
     }
-    if is_ideograph(a, b, byte_at(s, at + 2)) {
-        return Unit { len: 3, class: 11 };
+    let c = byte_at(s, at + 2);
+    if is_ideograph(a, b, c) {
+        return Unit {
+            code: (a % 16 * 64 + b % 64) * 64 + c % 64,
+            len: 3,
+            class: 11,
+        };
     }
     decoded_unit(profile, s, at)
 }
@@ -142,7 +161,7 @@ fn is_single(s: &[u8], at: usize) -> bool
 }
 
 // Is it a byte below 80, LF apart? No rule joins it to what stands before.
-fn is_lone(b: u32) -> bool
+pub fn is_lone(b: u32) -> bool
     ensures { λ r. ⌜ r ≡ loneByte b ⌝ }
 {
     (b < 0x80) & (b != 0x0A)
@@ -324,9 +343,6 @@ pub fn last_start(profile: Profile, t: &[u8], even: usize) -> usize
 {
     if t.len() == 0 {
         return 0;
-    }
-    if is_lone(byte_at(t, t.len() - 1)) {
-        return t.len() - 1;
     }
     let mut q = scalar_start(t, t.len());
     while 0 < q {
