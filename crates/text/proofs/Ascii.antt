@@ -11,7 +11,7 @@ use lib.Seq.{drop-cons}
 use borrow.Author.Tests.{eqb-false, eqb-true, le-leb, lt-leb, ne-eqb, not-true}
 use Rattle.text.specs.Class.{Profile, among, class01, control, controls, cr, extends, inAny, isControl, lf, number, other}
 use Rattle.text.specs.Cluster.{Context, joined}
-use Rattle.text.specs.Code.{back, firstSequence, isTail, loneByte, profileOf, quiets, regionalAt, sequenceOf}
+use Rattle.text.specs.Code.{back, firstSequence, isTail, loneByte, profileOf, quiets, regionalAt, sequenceOf, syllable}
 use Rattle.text.specs.Tests.{and-T, cases, is-false, is-true, or-T, true-T}
 use Rattle.text.specs.Utf8.{Range, decode, fits, lengthIn, sequence, table, to, value, within}
 use Rattle.text.specs.Width.{wides, width01}
@@ -328,6 +328,14 @@ module _ (p : code.Profile) (x : ℕ) where
   unfolding profileOf quiet-test clear controls extends
   printable-class lo hi = quiet-other 0x20 0x7E x tt lo hi
 
+  pub latin-class : 0xC0 ≤ x → x ≤ 0x2FF → number (profileOf p .class x) ≡ 11
+  unfolding profileOf quiet-test clear controls extends
+  latin-class lo hi = quiet-other 0xC0 0x2FF x tt lo hi
+
+  pub greek-class : 0x380 ≤ x → x ≤ 0x47F → number (profileOf p .class x) ≡ 11
+  unfolding profileOf quiet-test clear controls extends
+  greek-class lo hi = quiet-other 0x380 0x47F x tt lo hi
+
   pub ideograph-class : 0x3000 ≤ x → x ≤ 0x9FFF → number (profileOf p .class x) ≡ 11
   unfolding profileOf quiet-test clear controls extends
   ideograph-class lo hi = quiet-other 0x3000 0x9FFF x tt lo hi
@@ -340,6 +348,44 @@ mark-class p x e =
     let lo : 0x300 ≤ x = leb→le _ _ (q .0) in
     let hi : x ≤ 0x36F = leb→le _ _ (q .1) in
     sym (rw (not-one 0x0D 0x300 0x36F x tt lo hi, not-one 0x0A 0x300 0x36F x tt lo hi, clear-any controls 0x300 0x36F x tt lo hi, e) refl)
+
+module _ (p : code.Profile) (x : ℕ) where
+  pub syllable-class : (r : ℕ) → (leb 0xAC00 x && leb x 0xD7A3) ≡ true → r ≡ number (syllable x) → r ≡ number (profileOf p .class x)
+  unfolding profileOf class01 inAny clear controls extends
+  syllable-class r e f =
+      let q = and-T (leb 0xAC00 x) (leb x 0xD7A3) (true-T e) in
+      let lo : 0xAC00 ≤ x = leb→le _ _ (q .0) in
+      let hi : x ≤ 0xD7A3 = leb→le _ _ (q .1) in
+      rw (
+        not-one 0x0D 0xAC00 0xD7A3 x tt lo hi,
+        not-one 0x0A 0xAC00 0xD7A3 x tt lo hi,
+        clear-any controls 0xAC00 0xD7A3 x tt lo hi,
+        clear-any extends 0xAC00 0xD7A3 x tt lo hi,
+        not-one 0x200D 0xAC00 0xD7A3 x tt lo hi,
+        clear-any (to 0x1100 0x115F ∷ to 0xA960 0xA97C ∷ []) 0xAC00 0xD7A3 x tt lo hi,
+        clear-any (to 0x1160 0x11A7 ∷ to 0xD7B0 0xD7C6 ∷ []) 0xAC00 0xD7A3 x tt lo hi,
+        clear-any (to 0x11A8 0x11FF ∷ to 0xD7CB 0xD7FB ∷ []) 0xAC00 0xD7A3 x tt lo hi,
+        e,
+      ) f
+
+  pub indicator-class : (leb 0x1F1E6 x && leb x 0x1F1FF) ≡ true → 10 ≡ number (profileOf p .class x)
+  unfolding profileOf class01 number inAny clear controls extends
+  indicator-class e =
+      let q = and-T (leb 0x1F1E6 x) (leb x 0x1F1FF) (true-T e) in
+      let lo : 0x1F1E6 ≤ x = leb→le _ _ (q .0) in
+      let hi : x ≤ 0x1F1FF = leb→le _ _ (q .1) in
+      sym (rw (
+        not-one 0x0D 0x1F1E6 0x1F1FF x tt lo hi,
+        not-one 0x0A 0x1F1E6 0x1F1FF x tt lo hi,
+        clear-any controls 0x1F1E6 0x1F1FF x tt lo hi,
+        clear-any extends 0x1F1E6 0x1F1FF x tt lo hi,
+        not-one 0x200D 0x1F1E6 0x1F1FF x tt lo hi,
+        clear-any (to 0x1100 0x115F ∷ to 0xA960 0xA97C ∷ []) 0x1F1E6 0x1F1FF x tt lo hi,
+        clear-any (to 0x1160 0x11A7 ∷ to 0xD7B0 0xD7C6 ∷ []) 0x1F1E6 0x1F1FF x tt lo hi,
+        clear-any (to 0x11A8 0x11FF ∷ to 0xD7CB 0xD7FB ∷ []) 0x1F1E6 0x1F1FF x tt lo hi,
+        clear-any (to 0xAC00 0xD7A3 ∷ []) 0x1F1E6 0x1F1FF x tt lo hi,
+        e,
+      ) refl)
 
 -- ---- widths of common scalars
 

@@ -12,20 +12,22 @@ use Rattle.buffer.specs.Sink.{written}
 use Rattle.text.specs.Class.{Profile}
 use Rattle.text.specs.Cluster.{clusters, clustersAfter}
 use Rattle.text.specs.Cluster.Laws.{clusters-first, further}
-use Rattle.text.specs.Code.{FinishReady, Finished, Part, PieceDone, PieceReady, Sound, SpanDone, StepReady, Stepped, Wrote, backward, conversion, finishOn, firstOf, firstSize, partOf, pendingOf, plain, size, stateOf, styleOf, whole}
+use Rattle.text.specs.Code.{FinishReady, Finished, Part, PieceDone, PieceReady, Sound, SpanDone, StepReady, Stepped, Wrote, backward, conversion, finishOn, firstOf, firstSequence, firstSize, partOf, pendingOf, plain, profileOf, size, stateOf, styleOf, unitOf, whole}
 use Rattle.text.specs.Overstrike.{State, convertPieces, convertRun, none, normal, state, step, steps}
 use Rattle.text.specs.Overstrike.Length.{finish-size, start-weight, step-weight, weight}
 use Rattle.text.specs.Utf8.{Decoded, Piece, Scalar, addToRun, bytesOf, decode, decodeFrom, illFormed, run, runOf, runs, sequence, value, wellFormed, within}
 use Rattle.text.specs.Utf8.Laws.{bytesOf-append, decode-bad, decode-good, sequence-le}
 use Rattle.text.specs.Utf8.Valid.{valid}
+use Rattle.text.specs.declared.cluster.Unit.{Unit}
 use Rattle.text.specs.declared.overstrike.Conversion.{Conversion}
 use Rattle.text.specs.declared.overstrike.Progress.{Progress}
+use Rattle.text.specs.declared.class.Profile as code
 use Rattle.text.proofs.Even.{even-zero}
 use Rattle.text.proofs.Runs.{Head, no-head, part-slice, run-drop, run-head, size-bytes, size-cons, size-reverse}
 use Rattle.text.proofs.Steps.{front-size, front-text, part-none}
 use Rattle.text.proofs.Texts.{run-prefix}
 use Rattle.text.proofs.Units.{run-end, run-more}
-use Rattle.text.proofs.Walks.{first-none, first-size}
+use Rattle.text.proofs.Walks.{first-none, first-size, run-none, run-some}
 
 -- ---- the run of a text and what stands behind it
 
@@ -259,6 +261,22 @@ module _ (line l : List ℕ) (d : Progress) (w : PieceReady line l d) where
   pub piece-room : 8 * length (take (length line - d .read) (drop (d .read) line)) ≤ length (take (length l - d .written) (drop (d .written) l))
   piece-room = rw (rest-all line (d .read), rest-all l (d .written), length-drop, length-drop) (omega (arith, w .room, w .here))
 
+  -- no run there: a damaged byte copied
+  pub piece-damaged : (v : code.Profile) (u : Unit) → u ≡ unitOf (profileOf v) (firstSequence (decode (drop (d .read) line))) → u .len ≡ 0 → PieceDone (profileOf v) line l (set l (d .written) (getD line (d .read) 0)) d (record { read = d .read + 1; written = d .written + 1 })
+  unfolding convertPieces runs
+  piece-damaged v u read z =
+      let b : ℕ = getD line (d .read) 0 in
+      let q : drop (d .read) line ≡ b ∷ drop (suc (d .read)) line = drop-cons line (d .read) 0 (w .here) in
+      let s : size (runOf (decode (drop (d .read) line))) ≡ 0 = ap size (run-none (profileOf v) line (d .read) u (w .here) read z) ∙ size-none in
+      let c : decode (drop (d .read) line) ≡ illFormed b ∷ decode (drop (suc (d .read)) line) = ap decode q ∙ damaged-decode b (drop (suc (d .read)) line) (rw q at s) in
+      let t : take (suc (d .written)) (set l (d .written) b) ≡ take (d .written) l ++ (b ∷ []) = take-suc-set l (d .written) b (omega (arith, w .room, w .here)) in
+      record {
+        further = omega arith;
+        within = omega (arith, w .here);
+        work = rw (add-one, add-one, t, c) (append-assoc (take (d .written) l) (b ∷ []) (convertPieces (profileOf v) (runs (decode (drop (suc (d .read)) line)))));
+        room = rw length-set (omega (arith, w .room, w .here));
+      }
+
   -- the line's run converted into m, in the place of what stood behind
   module _ (P : Profile) (m z : List ℕ) (r : Progress) (long : length m ≡ length (take (length l - d .written) (drop (d .written) l))) (s : SpanDone P (take (length line - d .read) (drop (d .read) line)) m r) where
     span : SpanDone P (drop (d .read) line) m r
@@ -273,16 +291,15 @@ module _ (line l : List ℕ) (d : Progress) (w : PieceReady line l d) where
     pub piece-end : d .read + r .read ≤ length line
     piece-end = omega (arith, w .here, span .run, rw (length-drop (d .read) line) at (run-le (drop (d .read) line)))
 
-    pub piece-fits : d .written + r .written ≤ length l
-    piece-fits = omega (arith, w .room, behind, span .wrote .inside)
-
-    pub piece-run : (r .read ≢ 0) → PieceDone P line l (take (d .written) l ++ (m ++ z)) d (record { read = d .read + r .read; written = d .written + r .written })
+    pub piece-run : (u : Unit) → u ≡ unitOf P (firstSequence (decode (drop (d .read) line))) → (u .len ≢ 0) → PieceDone P line l (take (d .written) l ++ (m ++ z)) d (record { read = d .read + r .read; written = d .written + r .written })
     unfolding convertPieces
-    piece-run ne = go (runOf (decode (drop (d .read) line))) refl
+    piece-run u read ne = go (runOf (decode (drop (d .read) line))) refl
       where
         go : (cs : List Scalar) → runOf (decode (drop (d .read) line)) ≡ cs → PieceDone P line l (take (d .written) l ++ (m ++ z)) d (record { read = d .read + r .read; written = d .written + r .written })
-        go [] q = absurd (ne (span .run ∙ ap size q ∙ size-none))
+        go [] q = absurd (no-head _ _ (sym q ∙ run-some P line (d .read) u (w .here) read ne .run))
         go (c ∷ cs) q =
+            let x = run-some P line (d .read) u (w .here) read ne in
+            let some : 1 ≤ r .read = omega (arith, span .run, ap size (x .run), size-cons (x .c) (runOf (decode (drop (d .read + u .len) line))), x .size) in
             let x : take (d .written + r .written) (take (d .written) l ++ (m ++ z)) ≡ take (d .written) l ++ bytesOf (convertRun P (runOf (decode (drop (d .read) line)))) =
             ap (λ (j : ℕ). take (j + r .written) (take (d .written) l ++ (m ++ z))) (sym front)
             ∙ take-append-add (take (d .written) l) (m ++ z) (r .written)
@@ -297,25 +314,6 @@ module _ (line l : List ℕ) (d : Progress) (w : PieceReady line l d) where
                   ∙ sym (ap (λ (ps : List Piece). take (d .written) l ++ convertPieces P ps) (runs-behind (drop (d .read) line) c cs q ∙ ap (λ (v : List ℕ). run (runOf (decode (drop (d .read) line))) ∷ runs (decode v)) y));
               room = rw (length-append (take (d .written) l) (m ++ z), length-append m z, front) (omega (arith, w .room, piece-end, span .small, behind));
             }
-
-    -- no run there: a damaged byte copied
-    pub piece-damaged : r .read ≡ 0 → PieceDone P line l (set (take (d .written) l ++ (m ++ z)) (d .written) (getD line (d .read) 0)) d (record { read = d .read + 1; written = d .written + 1 })
-    unfolding convertPieces runs
-    piece-damaged e =
-        let s : size (runOf (decode (drop (d .read) line))) ≡ 0 = sym (span .run) ∙ e in
-        let b : ℕ = getD line (d .read) 0 in
-        let q : drop (d .read) line ≡ b ∷ drop (suc (d .read)) line = drop-cons line (d .read) 0 (w .here) in
-        let c : decode (drop (d .read) line) ≡ illFormed b ∷ decode (drop (suc (d .read)) line) = ap decode q ∙ damaged-decode b (drop (suc (d .read)) line) (rw q at s) in
-        let k : length (take (d .written) l ++ (m ++ z)) ≡ d .written + (length m + length z) = length-append (take (d .written) l) (m ++ z) ∙ ap₂ (λ (i j : ℕ). i + j) front (length-append m z) in
-        let t : take (suc (d .written)) (set (take (d .written) l ++ (m ++ z)) (d .written) b) ≡ take (d .written) l ++ (b ∷ []) =
-        take-suc-set (take (d .written) l ++ (m ++ z)) (d .written) b (omega (arith, w .room, w .here, behind))
-        ∙ ap (λ (v : List ℕ). v ++ (b ∷ [])) (take-at (take (d .written) l) (m ++ z) (d .written) front) in
-        record {
-          further = omega arith;
-          within = omega (arith, w .here);
-          work = rw (add-one, add-one, t, c) (append-assoc (take (d .written) l) (b ∷ []) (convertPieces P (runs (decode (drop (suc (d .read)) line)))));
-          room = rw (length-set, k) (omega (arith, w .room, w .here, behind));
-        }
 
 pub record Pieces (P : Profile) (line l : List ℕ) (d : Progress) : Type 0 where
   pub within : d .read ≤ length line

@@ -6,11 +6,11 @@ use mathlib.Core.Bool.{Bool, _&&_, cond, false, true}
 use mathlib.Core.List.{List, [], _++_, _∷_, reverse, reverse-reverse, reverseAux, reverseAux-append, reverseAux-eq}
 use mathlib.Core.Logic.{_≢_, _⊎_, inl, inr, ⊎-elim}
 use mathlib.Core.Path.{_∙_, _≡_, ap, refl, sym}
-use lib.ListN.{drop, length, length-set, set, take}
+use lib.ListN.{drop, getD, length, length-set, set, take}
 use lib.Seq.{length-take-le, take-all, take-length, take-suc-set, take-take}
 use Rattle.text.specs.Class.{Profile, isControl, number, other}
 use Rattle.text.specs.Cluster.{Context, context, joins}
-use Rattle.text.specs.Code.{BackReady, EvenAt, EvenBetween, EvenChoice, EvenKept, Front, FrontEven, Kept, KeptEven, PairEnd, back, backward, firstSequence, profileOf, regionalAt, size, whole, withoutLast}
+use Rattle.text.specs.Code.{BackReady, EvenAt, EvenBetween, EvenChoice, EvenKept, Front, FrontEven, Kept, KeptEven, PairEnd, back, backward, firstSequence, loneByte, profileOf, regionalAt, size, whole, withoutLast}
 use Rattle.text.specs.Overstrike.{backspace, eraseFrom}
 use Rattle.text.specs.Places.{behind}
 use Rattle.text.specs.Tests.{and-T, cases, is-true, true-T}
@@ -18,8 +18,8 @@ use Rattle.text.specs.Utf8.{Scalar, ascii, bytesOf, decode, decodeFrom, 
 use Rattle.text.specs.Utf8.Valid.{valid}
 use Rattle.text.specs.declared.overstrike.Erasure.{Erasure}
 use Rattle.text.specs.declared.utf8.Sequence.{Sequence}
-use Rattle.text.proofs.Ascii.{regional-back, regional-class, regional-control}
-use Rattle.text.proofs.Backward.{class-of}
+use Rattle.text.proofs.Ascii.{ascii-sequence, lone-low, regional-back, regional-class, regional-control}
+use Rattle.text.proofs.Backward.{class-of, last-lone}
 use Rattle.text.proofs.Even.{even-front, even-more, even-zero, pair-by, pair-front, pair-odd, push-reversed}
 use Rattle.text.proofs.Runs.{back-scalar, run-drop, run-head, run-inside, size-reverse}
 use Rattle.text.proofs.Texts.{run-append, run-prefix, whole-append, whole-prefix}
@@ -59,11 +59,11 @@ module _ (P : Profile) (t : List ℕ) (w : whole t) (some : length t ≢ 0) (q :
   pub kept-inside : q < length t
   kept-inside = rw eq (run-inside (at .c) (withoutLast P (reverse (runOf (decode t)))) (at .es) t (at .parts))
 
-  module _ (u : Sequence) (read : u ≡ firstSequence (decode (drop q t))) (r : Bool) (test : r ≡ isControl (u .code)) where
-    coded : u .code ≡ at .c .code
+  module _ (k : ℕ) (read : k ≡ firstSequence (decode (drop q t)) .code) (r : Bool) (test : r ≡ isControl k) where
+    coded : k ≡ at .c .code
     coded =
         let rest = withoutLast P (reverse (runOf (decode t))) in
-        ap (λ (x : Sequence). x .code) read ∙ ap (λ (i : ℕ). firstSequence (decode (drop i t)) .code) eq
+        read ∙ ap (λ (i : ℕ). firstSequence (decode (drop i t)) .code) eq
         ∙ run-head (drop (size rest) t) (at .c) (at .es) (run-drop rest (at .c ∷ at .es) t (at .parts)) .coded
 
     says : r ≡ isControl (at .c .code)
@@ -130,11 +130,22 @@ module _ (v : code.Profile) (t : List ℕ) (w : whole t) (some : length t ≢ 0)
       (λ (o : EvenKept i q r ⊎ (r ≡ 0)). ⊎-elim (λ (k : EvenKept i q r). rw (k .is) (even-front t q i (k .low) e)) (λ (z : r ≡ 0). rw z (even-zero (take q t))) o)
       (ch .choice)
 
-  pub kept-erased : (i r : ℕ) (u : Sequence) (b : Bool) → EvenAt t i → EvenChoice t q i r → u ≡ firstSequence (decode (drop q t)) → b ≡ isControl (u .code) → b ≡ false → KeptEven (profileOf v) t (record { at = q; even = r })
-  kept-erased i r u b e ch read test z = record { kept = kept-place (profileOf v) t w some q eq u read b test z; even = even-choice i r e ch }
+  pub kept-erased : (i r k : ℕ) (b : Bool) → EvenAt t i → EvenChoice t q i r → k ≡ firstSequence (decode (drop q t)) .code → b ≡ isControl k → b ≡ false → KeptEven (profileOf v) t (record { at = q; even = r })
+  kept-erased i r k b e ch read test z = record { kept = kept-place (profileOf v) t w some q eq k read b test z; even = even-choice i r e ch }
 
-  pub kept-added : (i : ℕ) (u : Sequence) (b : Bool) → EvenAt t i → u ≡ firstSequence (decode (drop q t)) → b ≡ isControl (u .code) → b ≡ true → KeptEven (profileOf v) t (record { at = length t; even = i })
-  kept-added i u b e read test z = record { kept = kept-control (profileOf v) t w some q eq u read b test z; even = rw (take-length t) e }
+  pub kept-added : (i k : ℕ) (b : Bool) → EvenAt t i → k ≡ firstSequence (decode (drop q t)) .code → b ≡ isControl k → b ≡ true → KeptEven (profileOf v) t (record { at = length t; even = i })
+  kept-added i k b e read test z = record { kept = kept-control (profileOf v) t w some q eq k read b test z; even = rw (take-length t) e }
+
+-- a byte below 80 at the end, LF apart
+module _ (v : code.Profile) (t : List ℕ) (b : ℕ) (w : whole t) (some : length t ≢ 0) (e : b ≡ getD t (length t - 1) 0) (r : Bool) (f : r ≡ loneByte b) (z : r ≡ true) where
+  lone-code : b ≡ firstSequence (decode (drop (length t - 1) t)) .code
+  lone-code = ap (λ (u : Sequence). u .code) (ascii-sequence t (length t - 1) b (omega arith) e (lone-low b (sym f ∙ z)))
+
+  pub lone-added : (i : ℕ) (a : Bool) → EvenAt t i → a ≡ isControl b → a ≡ true → KeptEven (profileOf v) t (record { at = length t; even = i })
+  lone-added i a ev test y = kept-added v t w some (length t - 1) (last-lone v t b r w some e f z) i b a ev lone-code test y
+
+  pub lone-erased : (i j : ℕ) (a : Bool) → EvenAt t i → EvenChoice t (length t - 1) i j → a ≡ isControl b → a ≡ false → KeptEven (profileOf v) t (record { at = length t - 1; even = j })
+  lone-erased i j a ev ch test y = kept-erased v t w some (length t - 1) (last-lone v t b r w some e f z) i j b a ev ch lone-code test y
 
 -- a pair of regional indicators that ends in an even place
 pub kept-pair : (v : code.Profile) (t : List ℕ) (i : ℕ) → whole t → (length t ≢ 0) → EvenAt t i → PairEnd t i → KeptEven (profileOf v) t (record { at = length t - 8; even = length t - 8 })
@@ -148,7 +159,7 @@ kept-pair v t i w some e p =
     let back-is : reverse (runOf (decode t)) ≡ n .rest = ap reverse rev ∙ reverse-reverse (n .rest) in
     let q : length t - 8 ≡ size (withoutLast (profileOf v) (reverse (runOf (decode t)))) = sym (k .place) ∙ ap size (sym (k .without)) ∙ ap (λ (x : List Scalar). size (withoutLast (profileOf v) x)) (sym back-is) in
     let ctl = regional-control t (length t - 8) (omega (arith, p .long)) (p .other) in
-    let c = kept-place (profileOf v) t w some (length t - 8) q (firstSequence (decode (drop (length t - 8) t))) refl false ctl refl in
+    let c = kept-place (profileOf v) t w some (length t - 8) q (firstSequence (decode (drop (length t - 8) t)) .code) refl false ctl refl in
     let x : runOf (decode (take (length t - 8) t)) ≡ reverse (k .left) = pair-front v t (n .rest) (length t - 8) rev k in
     record { kept = c; even = record { rest = k .left; es = []; parts = x; place = k .place; even = λ u. ap (λ (y : Context). y .odd) (same-context u v (k .left)) ∙ k .before } }
 

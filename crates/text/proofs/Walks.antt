@@ -81,8 +81,8 @@ first-single v s p r here e t =
     first-byte P s p a here refl l (more-ascii P s (p + 1) c (after start c) (λ k. apart v a (getD s (p + 1) 0) k l m n) m))
 
 module _ (P : Profile) (s : List ℕ) (p : ℕ) (u : Unit) (here : p < length s) (read : u ≡ unitOf P (firstSequence (decode (drop p s)))) where
-  none : u .len ≡ 0 → runOf (decode (drop p s)) ≡ []
-  none z = run-bad s p (firstSequence (decode (drop p s))) here refl (rw read at z)
+  pub run-none : u .len ≡ 0 → runOf (decode (drop p s)) ≡ []
+  run-none z = run-bad s p (firstSequence (decode (drop p s))) here refl (rw read at z)
 
   pub record Read : Type 0 where
     pub c : Scalar
@@ -90,8 +90,8 @@ module _ (P : Profile) (s : List ℕ) (p : ℕ) (u : Unit) (here : p < length s)
     pub class : classOf P c ≡ u .class
     pub size : length (c .bytes) ≡ u .len
 
-  some : (u .len ≢ 0) → Read
-  some z =
+  pub run-some : (u .len ≢ 0) → Read
+  run-some z =
       let v : Sequence = firstSequence (decode (drop p s)) in
       let n : u .len ≡ v .len = ap (λ (x : Unit). x .len) read in
       let y : v .len ≢ 0 = λ e. z (n ∙ e) in
@@ -108,26 +108,26 @@ module _ (P : Profile) (s : List ℕ) (p : ℕ) (u : Unit) (here : p < length s)
       rw n (run-room s p (firstSequence (decode (drop p s))) here refl (λ e. z (n ∙ e)))
 
   pub first-bad : u .len ≡ 0 → p ≡ p + firstSize P (runOf (decode (drop p s)))
-  first-bad z = sym (rw (none z, first-none P) (add-zero p))
+  first-bad z = sym (rw (run-none z, first-none P) (add-zero p))
 
   pub first-good : (m : ℕ) → (u .len ≢ 0) → m ≡ p + u .len + moreFrom P (u .class) (after start (u .class)) (runOf (decode (drop (p + u .len) s)))
       → m ≡ p + firstSize P (runOf (decode (drop p s)))
-  first-good m z e = let r = some z in rw (r .run, first-size P (r .c) (runOf (decode (drop (p + u .len) s))), r .class, r .size, ← add-assoc) e
+  first-good m z e = let r = run-some z in rw (r .run, first-size P (r .c) (runOf (decode (drop (p + u .len) s))), r .class, r .size, ← add-assoc) e
 
   -- one turn of the loop
   module _ (prev : ℕ) (odd : Bool) (total : ℕ) (same : total ≡ p + moreFrom P prev (contextOf odd) (runOf (decode (drop p s)))) where
     pub stop-bad : u .len ≡ 0 → p ≡ total
     unfolding moreFrom
-    stop-bad z = sym (rw (none z, add-zero) at same)
+    stop-bad z = sym (rw (run-none z, add-zero) at same)
 
     module _ (r : Bool) (z : u .len ≢ 0) (rr : r ≡ joined prev (contextOf odd) (u .class)) where
       pub stop-rule : r ≡ false → p ≡ total
       unfolding moreFrom
-      stop-rule f = let x = some z in sym (rw (x .run, x .class, sym rr ∙ f, add-zero) at same)
+      stop-rule f = let x = run-some z in sym (rw (x .run, x .class, sym rr ∙ f, add-zero) at same)
 
       pub go-on : r ≡ true → total ≡ p + u .len + moreFrom P (u .class) (after (contextOf odd) (u .class)) (runOf (decode (drop (p + u .len) s)))
       unfolding moreFrom
-      go-on t = let x = some z in rw (x .run, x .class, sym rr ∙ t, x .size, ← add-assoc) at same
+      go-on t = let x = run-some z in rw (x .run, x .class, sym rr ∙ t, x .size, ← add-assoc) at same
 
 -- a byte that begins a cluster ends one
 more-begins : (v : code.Profile) (s : List ℕ) (p prev : ℕ) (k : Context) → p < length s → beginsCluster (getD s p 0) ≡ true → moreFrom (profileOf v) prev k (runOf (decode (drop p s))) ≡ 0
@@ -135,9 +135,9 @@ unfolding moreFrom
 more-begins v s p prev k h e =
     let u : Unit = unitOf (profileOf v) (firstSequence (decode (drop p s))) in
     cases (eqb (u .len) 0)
-    (λ z. rw (none (profileOf v) s p u h refl (eqb-true (u .len) 0 z)) refl)
+    (λ z. rw (run-none (profileOf v) s p u h refl (eqb-true (u .len) 0 z)) refl)
     (λ z.
-    let x = some (profileOf v) s p u h refl (eqb-false (u .len) 0 z) in
+    let x = run-some (profileOf v) s p u h refl (eqb-false (u .len) 0 z) in
     rw (x .run, x .class, alone-numbers prev k (u .class) (begins-alone v s p h e)) refl)
 
 pub stop-before : (v : code.Profile) (s : List ℕ) (p prev b : ℕ) (odd r : Bool) (total : ℕ) → p < length s → b ≡ getD s p 0 → r ≡ beginsCluster b → r ≡ true

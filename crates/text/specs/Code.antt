@@ -1,5 +1,5 @@
 -- What the code's values say of the definitions' ones.
-use Prim.Native.Nat.{_*_, _+_, _-_, _<_, _≤_, suc, zero, ℕ}
+use Prim.Native.Nat.{_%_, _*_, _+_, _-_, _<_, _≤_, suc, zero, ℕ}
 use mathlib.Core.Bool.{Bool, _&&_, _||_, cond, false, not, true}
 use mathlib.Core.List.{List, [], _++_, _∷_, reverse, reverseAux}
 use mathlib.Core.Logic.{_≢_, _⊎_}
@@ -8,7 +8,7 @@ use lib.Dec.{eqb, ltb}
 use lib.ListN.{drop, getD, length, replicate, take}
 use lib.Seq.{slice}
 use Rattle.text.specs.Calls.{Converted}
-use Rattle.text.specs.Class.{Profile, number}
+use Rattle.text.specs.Class.{Class, Profile, classLV, classLVT, number}
 use Rattle.text.specs.Cluster.{Context, after, classOf, clusters, context, joined, joins}
 use Rattle.text.specs.Overstrike.{Pending, State, Style, backspace, bold, boldUnderline, convertPieces, convertRun, finish, held, none, normal, onBackspace, onCluster, order, push, state, struck, underline}
 use Rattle.text.specs.Overstrike.Length.{weight}
@@ -58,17 +58,27 @@ regionalAt s i = eqb (getD s i 0) 0xF0 && (eqb (getD s (i + 1) 0) 0x9F && (eqb (
 
 -- ranges of common scalars of class other
 unfoldable pub quiets : List Range
-quiets = to 0x20 0x7E ∷ to 0xA0 0x2FF ∷ to 0x370 0x482 ∷ to 0x2100 0xA95F ∷ []
+quiets = to 0x20 0x7E ∷ to 0xA0 0x2FF ∷ to 0x370 0x482 ∷ to 0x2100 0xA95F ∷ to 0x1F200 0xE00FF ∷ []
+
+-- the class of a Hangul syllable
+abbrev pub syllable : ℕ → Class
+syllable v = cond (eqb ((v - 0xAC00) % 28) 0) classLV classLVT
 
 -- ---- the walk through a cluster
 
--- a sequence's length and class
+-- a sequence with its class
 abbrev pub unitOf : Profile → Sequence → Unit
-unitOf P u = record { len = u .len; class = number (P .class (u .code)) }
+unitOf P u = record { code = u .code; len = u .len; class = number (P .class (u .code)) }
 
--- the bytes of U+0300 to U+033F, and of U+3000 to U+9FFF
+-- the bytes of U+0300 to U+033F, of U+00C0 to U+02FF and U+0380 to U+047F, and of U+3000 to U+9FFF
 abbrev pub markBytes : ℕ → ℕ → Bool
 markBytes a b = eqb a 0xCC && within tail b
+
+abbrev pub letterLead : ℕ → Bool
+letterLead a = within (to 0xC3 0xCB) a || within (to 0xCE 0xD1) a
+
+abbrev pub letterBytes : ℕ → ℕ → Bool
+letterBytes a b = letterLead a && within tail b
 
 abbrev pub ideographBytes : ℕ → ℕ → ℕ → Bool
 ideographBytes a b c = within (to 0xE3 0xE9) a && (within tail b && within tail c)
@@ -77,12 +87,12 @@ ideographBytes a b c = within (to 0xE3 0xE9) a && (within tail b && within tail 
 abbrev pub singleAt : List ℕ → ℕ → Bool
 singleAt s i = (ltb (getD s i 0) 0x20 || (ltb (getD s i 0) 0x80 && ltb (getD s (i + 1) 0) 0x80)) && not (eqb (getD s i 0) 0x0D)
 
--- a byte below 80, LF apart; such a byte, or the first of U+3000 to U+9FFF
+-- a byte below 80, LF apart; such a byte, or the first of a letter or an ideograph as above
 abbrev pub loneByte : ℕ → Bool
 loneByte b = ltb b 0x80 && not (eqb b 0x0A)
 
 abbrev pub beginsCluster : ℕ → Bool
-beginsCluster b = loneByte b || within (to 0xE3 0xE9) b
+beginsCluster b = loneByte b || (letterLead b || within (to 0xE3 0xE9) b)
 
 abbrev pub contextOf : Bool → Context
 contextOf o = record { odd = o }

@@ -1,7 +1,8 @@
 // Classes of scalars: UAX #29's Grapheme_Cluster_Break, whitespace.
 ghost use mathlib.Core.Path.{_≡_};
+ghost use Prim.Native.Nat.{_≤_};
 ghost use Rattle.text.specs.Class.{number, inAny, controls, extends, whitespace, isControl};
-ghost use Rattle.text.specs.Code.{profileOf, quiets};
+ghost use Rattle.text.specs.Code.{profileOf, quiets, syllable};
 
 // The version of the text profile that classes and widths are taken from: 0 is document 01's.
 pub struct Profile {
@@ -30,6 +31,17 @@ fn in_extends(x: u32) -> bool
                         | (((0xFE00 <= x) & (x <= 0xFE0F))
                             | (((0xFE20 <= x) & (x <= 0xFE2F))
                                 | ((0xE0100 <= x) & (x <= 0xE01EF))))))))
+}
+
+// The number of a Hangul syllable's class: LV, or LVT where it ends in a consonant.
+fn syllable_class(x: u32) -> u8
+    requires { ⌜ 0xAC00 ≤ x ⌝ }
+    ensures { λ r. ⌜ r ≡ number (syllable x) ⌝ }
+{
+    if (x - 0xAC00) % 28 == 0 {
+        return 8;
+    }
+    9
 }
 
 // The number of a scalar's class, by the ranges of the profile.
@@ -61,10 +73,7 @@ fn class_in_ranges(profile: Profile, x: u32) -> u8
         return 7;
     }
     if (0xAC00 <= x) & (x <= 0xD7A3) {
-        if (x - 0xAC00) % 28 == 0 {
-            return 8;
-        }
-        return 9;
+        return syllable_class(x);
     }
     if (0x1F1E6 <= x) & (x <= 0x1F1FF) {
         return 10;
@@ -78,7 +87,8 @@ fn is_quiet(x: u32) -> bool
 {
     ((0x20 <= x) & (x <= 0x7E))
         | (((0xA0 <= x) & (x <= 0x2FF))
-            | (((0x370 <= x) & (x <= 0x482)) | ((0x2100 <= x) & (x <= 0xA95F))))
+            | (((0x370 <= x) & (x <= 0x482))
+                | (((0x2100 <= x) & (x <= 0xA95F)) | ((0x1F200 <= x) & (x <= 0xE00FF)))))
 }
 
 // The number of a scalar's class.
@@ -90,6 +100,12 @@ pub fn class(profile: Profile, x: u32) -> u8
     }
     if (0x300 <= x) & (x <= 0x36F) {
         return 3;
+    }
+    if (0xAC00 <= x) & (x <= 0xD7A3) {
+        return syllable_class(x);
+    }
+    if (0x1F1E6 <= x) & (x <= 0x1F1FF) {
+        return 10;
     }
     class_in_ranges(profile, x)
 }

@@ -11,7 +11,7 @@ ghost use lib.Seq.{slice};
 ghost use Rattle.text.specs.Utf8.{decode};
 ghost use Rattle.text.specs.Class.{number};
 ghost use Rattle.text.specs.Cluster.{start, after, joined};
-ghost use Rattle.text.specs.Code.{profileOf, firstSequence, unitOf, markBytes, ideographBytes, singleAt, loneByte, beginsCluster, runOf, size, contextOf, seen, moreFrom, firstSize, back, whole, withoutLast, EvenAt, OddTo, JoinsAt, regionalAt, IndicatorsTo};
+ghost use Rattle.text.specs.Code.{profileOf, firstSequence, unitOf, markBytes, letterBytes, ideographBytes, singleAt, loneByte, beginsCluster, runOf, size, contextOf, seen, moreFrom, firstSize, back, whole, withoutLast, EvenAt, OddTo, JoinsAt, regionalAt, IndicatorsTo};
 
 // What the rules ask of the scalars before a place: the last one's class, and whether an odd number of regional indicators ends there.
 pub struct Seen {
@@ -70,8 +70,9 @@ fn is_joined(s: Seen, c: u8) -> bool
     false
 }
 
-// A sequence's length and its scalar's class. Where no sequence begins the length is 0.
+// A well-formed sequence and its scalar's class. Where none begins the length is 0.
 pub struct Unit {
+    pub code: u32,
     pub len: usize,
     pub class: u8,
 }
@@ -83,6 +84,13 @@ fn is_mark(a: u32, b: u32) -> bool
     (a == 0xCC) & ((0x80 <= b) & (b <= 0xBF))
 }
 
+// Do two bytes stand for one of U+00C0 to U+02FF or of U+0380 to U+047F, which are of class other?
+fn is_letter(a: u32, b: u32) -> bool
+    ensures { λ r. ⌜ r ≡ letterBytes a b ⌝ }
+{
+    (((0xC3 <= a) & (a <= 0xCB)) | ((0xCE <= a) & (a <= 0xD1))) & ((0x80 <= b) & (b <= 0xBF))
+}
+
 // Do three bytes stand for one of U+3000 to U+9FFF, which are of class other?
 fn is_ideograph(a: u32, b: u32, c: u32) -> bool
     ensures { λ r. ⌜ r ≡ ideographBytes a b c ⌝ }
@@ -90,27 +98,56 @@ fn is_ideograph(a: u32, b: u32, c: u32) -> bool
     ((0xE3 <= a) & (a <= 0xE9)) & (((0x80 <= b) & (b <= 0xBF)) & ((0x80 <= c) & (c <= 0xBF)))
 }
 
-// The sequence at a place with its class, the common ones by their bytes.
+// The sequence at a place with its class.
+pub fn decoded_unit(profile: Profile, s: &[u8], at: usize) -> Unit
+    requires { ⌜ at < length (now s) ⌝ }
+    ensures { λ r. ⌜ r ≡ unitOf (profileOf profile) (firstSequence (decode (drop at (now (s .entry))))) ⌝ }
+{
+    let u = decode(s, at);
+    Unit {
+        code: u.code,
+        len: u.len,
+        class: class(profile, u.code),
+    }
+}
+
+// The same, the common ones by their bytes.
 fn unit_at(profile: Profile, s: &[u8], at: usize) -> Unit
     requires { ⌜ at < length (now s) ⌝ }
     ensures { λ r. ⌜ r ≡ unitOf (profileOf profile) (firstSequence (decode (drop at (now (s .entry))))) ⌝ }
 {
     let a = byte_at(s, at);
     if (0x20 <= a) & (a <= 0x7E) {
-        return Unit { len: 1, class: 11 };
+        return Unit {
+            code: a,
+            len: 1,
+            class: 11,
+        };
     }
     let b = byte_at(s, at + 1);
     if is_mark(a, b) {
-        return Unit { len: 2, class: 3 };
+        return Unit {
+            code: a % 32 * 64 + b % 64,
+            len: 2,
+            class: 3,
+        };
     }
-    if is_ideograph(a, b, byte_at(s, at + 2)) {
-        return Unit { len: 3, class: 11 };
+    if is_letter(a, b) {
+        return Unit {
+            code: a % 32 * 64 + b % 64,
+            len: 2,
+            class: 11,
+        };
     }
-    let u = decode(s, at);
-    Unit {
-        len: u.len,
-        class: class(profile, u.code),
+    let c = byte_at(s, at + 2);
+    if is_ideograph(a, b, c) {
+        return Unit {
+            code: (a % 16 * 64 + b % 64) * 64 + c % 64,
+            len: 3,
+            class: 11,
+        };
     }
+    decoded_unit(profile, s, at)
 }
 
 // Is the byte at a place a cluster: a control, or a byte below 80 before another or the end? CR apart.
@@ -124,17 +161,19 @@ fn is_single(s: &[u8], at: usize) -> bool
 }
 
 // Is it a byte below 80, LF apart? No rule joins it to what stands before.
-fn is_lone(b: u32) -> bool
+pub fn is_lone(b: u32) -> bool
     ensures { λ r. ⌜ r ≡ loneByte b ⌝ }
 {
     (b < 0x80) & (b != 0x0A)
 }
 
-// Is it such a byte, or the first of U+3000 to U+9FFF, which no rule joins to what stands before?
+// Is it such a byte, or the first of a letter or an ideograph as above, which no rule joins to what stands before?
 fn begins_cluster(b: u32) -> bool
     ensures { λ r. ⌜ r ≡ beginsCluster b ⌝ }
 {
-    ((b < 0x80) & (b != 0x0A)) | ((0xE3 <= b) & (b <= 0xE9))
+    ((b < 0x80) & (b != 0x0A))
+        | ((((0xC3 <= b) & (b <= 0xCB)) | ((0xCE <= b) & (b <= 0xD1)))
+            | ((0xE3 <= b) & (b <= 0xE9)))
 }
 
 // The end of the cluster that a scalar of class c begins, whose next scalar stands at `from`.
@@ -207,8 +246,8 @@ fn class_at(profile: Profile, s: &[u8], at: usize) -> u8
     requires { ⌜ at < length (now s) ⌝ }
     ensures { λ r. ⌜ r ≡ number (profileOf profile .class (firstSequence (decode (drop at (now (s .entry)))) .code)) ⌝ }
 {
-    let u = decode(s, at);
-    class(profile, u.code)
+    let u = decoded_unit(profile, s, at);
+    u.class
 }
 
 // Do the bytes at a place stand for a regional indicator?
@@ -304,9 +343,6 @@ pub fn last_start(profile: Profile, t: &[u8], even: usize) -> usize
 {
     if t.len() == 0 {
         return 0;
-    }
-    if is_lone(byte_at(t, t.len() - 1)) {
-        return t.len() - 1;
     }
     let mut q = scalar_start(t, t.len());
     while 0 < q {

@@ -1,10 +1,12 @@
 // Overstrike conversion: src/overstrike.rs. The result so far stands at the front of the buffer.
 use super::class::Profile;
 use super::class::is_control;
+use super::cluster::decoded_unit;
 use super::cluster::first_end;
+use super::cluster::is_lone;
 use super::cluster::is_regional;
 use super::cluster::last_start;
-use super::utf8::decode;
+use super::utf8::byte_at;
 ghost use mathlib.Core.Path.{_≡_};
 ghost use mathlib.Core.Bool.{true};
 ghost use mathlib.Core.Logic.{_≢_};
@@ -94,6 +96,16 @@ fn kept(profile: Profile, t: &[u8], even: usize) -> Erasure
     if n == 0 {
         return Erasure { at: 0, even: 0 };
     }
+    let b = byte_at(t, n - 1);
+    if is_lone(b) {
+        if is_control(b) {
+            return Erasure { at: n, even: even };
+        }
+        return Erasure {
+            at: n - 1,
+            even: even_before(t, n - 1, even),
+        };
+    }
     if ends_in_pair(t, even) {
         return Erasure {
             at: n - 8,
@@ -101,7 +113,7 @@ fn kept(profile: Profile, t: &[u8], even: usize) -> Erasure
         };
     }
     let q = last_start(profile, t, even);
-    let u = decode(t, q);
+    let u = decoded_unit(profile, t, q);
     if is_control(u.code) {
         return Erasure { at: n, even: even };
     }
@@ -472,14 +484,15 @@ fn convert_piece(profile: Profile, line: &[u8], out: &mut [u8], done: Progress) 
 {
     let at = done.read;
     let len = done.written;
-    let run = convert_unicode_span(profile, &line[at..], &mut out[len..]);
-    if run.read == 0 {
+    let u = decoded_unit(profile, line, at);
+    if u.len == 0 {
         out[len] = line[at];
         return Progress {
             read: at + 1,
             written: len + 1,
         };
     }
+    let run = convert_unicode_span(profile, &line[at..], &mut out[len..]);
     Progress {
         read: at + run.read,
         written: len + run.written,

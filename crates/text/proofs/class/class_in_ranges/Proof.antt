@@ -44,8 +44,8 @@ returns-8 : tie.Need-returns-8
 unfolding number profileOf class01 inAny
 returns-8 c = search numbered depth 13 fits 20000
 
-sub-if10 : tie.Need-sub-if10
-sub-if10 c = low-of _ _ _ (c .if9 .taken)
+syllable-class-requires : tie.Need-syllable-class-requires
+syllable-class-requires c κs = low-of _ _ _ (c .if9 .taken)
 
 returns-9 : tie.Need-returns-9
 unfolding number profileOf class01 inAny
@@ -58,10 +58,6 @@ returns-10 c = search numbered depth 13 fits 20000
 returns-11 : tie.Need-returns-11
 unfolding number profileOf class01 inAny
 returns-11 c = search numbered depth 13 fits 20000
-
-returns-12 : tie.Need-returns-12
-unfolding number profileOf class01 inAny
-returns-12 c = search numbered depth 13 fits 20000
 
 pub class-in-ranges-spec : {M : Type 1} → statement M
 class-in-ranges-spec =
@@ -77,8 +73,7 @@ class-in-ranges-spec =
     returns-6
     returns-7
     returns-8
-    sub-if10
+    syllable-class-requires
     returns-9
     returns-10
-    returns-11
-    returns-12)
+    returns-11)

@@ -3,7 +3,7 @@ use mathlib.Core.List.{reverse}
 use borrow.Author.Needs.{needs}
 use Rattle.text.specs.Code.{profileOf, runOf, size, withoutLast}
 use Rattle.text.specs.Utf8.{decode}
-use Rattle.text.proofs.Backward.{At, last-begin, last-empty, last-end, last-inside, last-lone, last-on, last-stop}
+use Rattle.text.proofs.Backward.{At, last-begin, last-empty, last-end, last-inside, last-on, last-stop}
 use Rattle.text.proofs.Tails.{back-lt}
 use Rattle.text.proofs.cluster.last_start.Statement.{statement}
 use Rattle.text.proofs.cluster.last_start.Tie as tie
@@ -17,21 +17,6 @@ abbrev μ-loop : tie.MeasureT-loop
 returns : tie.Need-returns Inv-loop μ-loop
 returns c = last-empty _ (c .before .before .args .t .now) (c .if1 .taken)
 
-sub-byte-at : tie.Need-sub-byte-at Inv-loop μ-loop
-sub-byte-at c = search needs
-
-byte-at-requires : tie.Need-byte-at-requires Inv-loop μ-loop
-byte-at-requires c κs = search needs
-
-is-lone-requires : tie.Need-is-lone-requires Inv-loop μ-loop
-is-lone-requires c κs = search needs
-
-sub-result : tie.Need-sub-result Inv-loop μ-loop
-sub-result c = search needs
-
-returns-2 : tie.Need-returns-2 Inv-loop μ-loop
-returns-2 c = search last-lone
-
 scalar-start-requires : tie.Need-scalar-start-requires Inv-loop μ-loop
 scalar-start-requires c κs = search needs
 
@@ -42,19 +27,19 @@ joins-at-requires : tie.Need-joins-at-requires Inv-loop μ-loop
 joins-at-requires c κs = search last-inside
 
 scalar-start-requires-2 : tie.Need-scalar-start-requires-2 Inv-loop μ-loop
-scalar-start-requires-2 c κs = omega (arith, last-inside _ (c .before .before .before .before .before .before .before .before .before .before .args .t .now) (c .before .before .before .loop .q) _ (c .before .before .before .loop .inv))
+scalar-start-requires-2 c κs = omega (arith, last-inside _ (c .before .before .before .before .before .before .before .args .t .now) (c .before .before .before .loop .q) _ (c .before .before .before .loop .inv))
 
 loop-less : tie.Need-loop-less Inv-loop μ-loop
-loop-less c = omega (arith, back-lt (c .before .before .before .before .before .before .before .before .before .before .before .args .t .now) (c .before .before .before .before .loop .q) (c .before .before .before .loop-test .taken), c .scalar-start2 .ensures)
+loop-less c = omega (arith, back-lt (c .before .before .before .before .before .before .before .before .args .t .now) (c .before .before .before .before .loop .q) (c .before .before .before .loop-test .taken), c .scalar-start2 .ensures)
 
 loop-again : tie.Need-loop-again Inv-loop μ-loop
 loop-again c = search last-on
 
-returns-3 : tie.Need-returns-3 Inv-loop μ-loop
-returns-3 c = search last-stop
+returns-2 : tie.Need-returns-2 Inv-loop μ-loop
+returns-2 c = search last-stop
 
-returns-4 : tie.Need-returns-4 Inv-loop μ-loop
-returns-4 c = search last-end
+returns-3 : tie.Need-returns-3 Inv-loop μ-loop
+returns-3 c = search last-end
 
 pub last-start-spec : {M : Type 1} → statement M
 last-start-spec =
@@ -63,16 +48,11 @@ last-start-spec =
     Inv-loop
     μ-loop
     returns
-    sub-byte-at
-    byte-at-requires
-    is-lone-requires
-    sub-result
-    returns-2
     scalar-start-requires
     loop-holds
     joins-at-requires
     scalar-start-requires-2
     loop-less
     loop-again
-    returns-3
-    returns-4)
+    returns-2
+    returns-3)

@@ -1,9 +1,30 @@
 use native.Mathlib.Omega.{arith}
 use mathlib.Core.List.{[]}
 use borrow.Author.Needs.{needs}
-use Rattle.text.proofs.Converting.{piece-damaged, piece-end, piece-fits, piece-run}
+use Rattle.text.proofs.Converting.{piece-damaged, piece-end, piece-run}
 use Rattle.text.proofs.overstrike.convert_piece.Statement.{statement}
 use Rattle.text.proofs.overstrike.convert_piece.Tie as tie
+
+decoded-unit-requires : tie.Need-decoded-unit-requires
+decoded-unit-requires c κs = search needs
+
+shared-slice-read-out : tie.Need-shared-slice-read-out
+shared-slice-read-out c = search needs
+
+slice-write-out : tie.Need-slice-write-out
+slice-write-out c = search needs
+
+add-t13 : tie.Need-add-t13
+add-t13 c = search needs
+
+add-t14 : tie.Need-add-t14
+add-t14 c = search needs
+
+same-length : tie.Need-same-length
+same-length c = search needs
+
+returns : tie.Need-returns
+returns c = search piece-damaged
 
 sub-convert-unicode-span : tie.Need-sub-convert-unicode-span
 sub-convert-unicode-span c = search needs
@@ -26,29 +47,11 @@ part-convert-unicode-span-end-2 c = search needs
 convert-unicode-span-requires : tie.Need-convert-unicode-span-requires
 convert-unicode-span-requires c κs = search needs
 
-shared-slice-read-out : tie.Need-shared-slice-read-out
-shared-slice-read-out c = search needs
-
-slice-write-out : tie.Need-slice-write-out
-slice-write-out c = search needs
+add-t16 : tie.Need-add-t16
+add-t16 c = omega (arith, piece-end (c .before .before .before .before .before .before .before .before .before .before .before .args .line .now) (c .before .before .before .before .before .before .before .before .before .before .before .args .out .now) (c .before .before .before .before .before .before .before .before .before .before .before .args .done) (c .before .before .before .before .before .before .before .before .before .before .before .pre) _ (c .before .before .before .convert-unicode-span .last .1 .1 .0) [] (c .before .before .before .convert-unicode-span .result) (c .before .before .before .convert-unicode-span .kept .1 .1 .0) (c .before .before .before .convert-unicode-span .ensures))
 
 add-t20 : tie.Need-add-t20
 add-t20 c = search needs
-
-add-t21 : tie.Need-add-t21
-add-t21 c = search needs
-
-same-length : tie.Need-same-length
-same-length c = search needs
-
-returns : tie.Need-returns
-returns c = search piece-damaged
-
-add-t9 : tie.Need-add-t9
-add-t9 c = omega (arith, piece-end (c .before .before .before .before .before .before .before .before .before .before .args .line .now) (c .before .before .before .before .before .before .before .before .before .before .args .out .now) (c .before .before .before .before .before .before .before .before .before .before .args .done) (c .before .before .before .before .before .before .before .before .before .before .pre) _ (c .before .before .before .before .before .convert-unicode-span .last .1 .1 .0) [] (c .before .before .before .before .before .convert-unicode-span .result) (c .before .before .before .before .before .convert-unicode-span .kept .1 .1 .0) (c .before .before .before .before .before .convert-unicode-span .ensures))
-
-add-t13 : tie.Need-add-t13
-add-t13 c = omega (arith, piece-fits (c .before .before .before .before .before .before .before .before .before .before .before .args .line .now) (c .before .before .before .before .before .before .before .before .before .before .before .args .out .now) (c .before .before .before .before .before .before .before .before .before .before .before .args .done) (c .before .before .before .before .before .before .before .before .before .before .before .pre) _ (c .before .before .before .before .before .before .convert-unicode-span .last .1 .1 .0) [] (c .before .before .before .before .before .before .convert-unicode-span .result) (c .before .before .before .before .before .before .convert-unicode-span .kept .1 .1 .0) (c .before .before .before .before .before .before .convert-unicode-span .ensures))
 
 same-length-2 : tie.Need-same-length-2
 same-length-2 c = search needs
@@ -60,6 +63,13 @@ pub convert-piece-spec : {M : Type 1} → statement M
 convert-piece-spec =
     tie.close
     (tie.spec
+    decoded-unit-requires
+    shared-slice-read-out
+    slice-write-out
+    add-t13
+    add-t14
+    same-length
+    returns
     sub-convert-unicode-span
     part-convert-unicode-span-start
     part-convert-unicode-span-end
@@ -67,13 +77,7 @@ convert-piece-spec =
     part-convert-unicode-span-start-2
     part-convert-unicode-span-end-2
     convert-unicode-span-requires
-    shared-slice-read-out
-    slice-write-out
+    add-t16
     add-t20
-    add-t21
-    same-length
-    returns
-    add-t9
-    add-t13
     same-length-2
     returns-2)
