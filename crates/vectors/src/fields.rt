@@ -64,15 +64,77 @@ fn digit(b: u8) -> usize
     (b % 16) as usize
 }
 
+// Ten times a number, within usize.
+fn times_ten(n: usize) -> usize {
+    let two = std::num::wrapping_add_usize(n, n);
+    let four = std::num::wrapping_add_usize(two, two);
+    let eight = std::num::wrapping_add_usize(four, four);
+    std::num::wrapping_add_usize(eight, two)
+}
+
 // The decimal number from `at` to `end`.
 pub fn number(s: &[u8], at: usize, end: usize) -> usize {
     let mut n: usize = 0;
     let mut i = at;
     while i < end {
-        if n < 1000000000000000000 {
-            n = n * 10 + digit(byte_at(s, i));
-        }
+        n = std::num::wrapping_add_usize(times_ten(n), digit(byte_at(s, i)));
         i += 1;
+    }
+    n
+}
+
+// The field that stands n fields behind `at`.
+pub fn field(s: &[u8], at: usize, n: usize) -> usize
+    requires { ⌜ at ≤ length (now s) ⌝ }
+    ensures { λ r. ⌜ Past (now (s .entry)) at r ⌝ }
+{
+    let mut i = at;
+    let mut k: usize = 0;
+    while k < n {
+        i = behind(s, i, b' ');
+        k += 1;
+    }
+    i
+}
+
+// The decimal number that is the field at `at`.
+pub fn number_at(s: &[u8], at: usize) -> usize
+    requires { ⌜ at ≤ length (now s) ⌝ }
+{
+    number(s, at, past(s, at, b' '))
+}
+
+// The end of the number at `at` in a list that ends at `end`.
+fn number_end(s: &[u8], at: usize, end: usize) -> usize
+    requires { ⌜ at ≤ length (now s) ⌝ }
+    ensures { λ r. ⌜ r ≤ length (now (s .entry)) ⌝ }
+{
+    let comma = past(s, at, b',');
+    if comma < end {
+        return comma;
+    }
+    past(s, at, b' ')
+}
+
+// The numbers of the list at `at`, parted by commas, as many as `out` holds; how many. A single `-` is none.
+pub fn numbers(s: &[u8], at: usize, out: &mut [usize]) -> usize
+    requires { ⌜ at ≤ length (now s) ⌝ }
+    ensures { λ r. ⌜ Counts r (now (out .exit)) ⌝ }
+{
+    let end = past(s, at, b' ');
+    let mut i = at;
+    let mut n = 0;
+    while n < out.len() {
+        if end <= i {
+            return n;
+        }
+        if s[i] == b'-' {
+            return n;
+        }
+        let stop = number_end(s, i, end);
+        out[n] = number(s, i, stop);
+        n += 1;
+        i = behind(s, stop, b',');
     }
     n
 }
@@ -121,4 +183,27 @@ pub fn shows(s: &[u8], at: usize, end: usize, bytes: &[u8]) -> bool {
     let mut want = [0u8; 32776];
     hex_bytes(s, at, end, &mut want);
     same(bytes, &want)
+}
+
+fn same_numbers(a: &[usize], b: &[usize]) -> bool {
+    let mut i = 0;
+    while i < a.len() {
+        if b.len() <= i {
+            return false;
+        }
+        if a[i] != b[i] {
+            return false;
+        }
+        i += 1;
+    }
+    true
+}
+
+// Are these the numbers of the list at `at`, with zeros after them?
+pub fn shows_numbers(s: &[u8], at: usize, list: &[usize]) -> bool
+    requires { ⌜ at ≤ length (now s) ⌝ }
+{
+    let mut want = [0usize; 8192];
+    numbers(s, at, &mut want);
+    same_numbers(list, &want)
 }

@@ -98,6 +98,9 @@ fn more(buf: &mut [u8], state: Input) -> Input {
 pub fn all(buf: &mut [u8]) -> Counts {
     let none = Counts {
         convert: 0,
+        read: 0,
+        rows: 0,
+        height: 0,
         scalars: 0,
         clusters: 0,
         different: 0,

@@ -11,57 +11,101 @@ use libc::STDOUT_FILENO;
 // How many cases of each kind were replayed, and how many were not answered as recorded.
 pub struct Counts {
     pub convert: u64,
+    pub read: u64,
+    pub rows: u64,
+    pub height: u64,
     pub scalars: u64,
     pub clusters: u64,
     pub different: u64,
 }
 
-// Is the vector at `at` met: `scalars BYTES = LIST` or `clusters BYTES = LIST`?
-fn is_met(s: &[u8], at: usize, clusters: bool) -> bool
+// Is the vector at `at` met: `scalars BYTES = LIST` or `clusters BYTES = LIST`, from BYTES on?
+fn is_vector_met(s: &[u8], at: usize, clusters: bool) -> bool
     requires { ⌜ at ≤ length (now s) ⌝ }
 {
     let mut line = [0u8; 256];
-    let bytes = fields::behind(s, at, b' ');
-    let end = fields::past(s, bytes, b' ');
-    let n = fields::hex_bytes(s, bytes, end, &mut line);
-    let list = fields::behind(s, fields::behind(s, end, b' '), b' ');
+    let n = fields::hex_bytes(s, at, fields::past(s, at, b' '), &mut line);
+    let list = fields::field(s, at, 2);
     if clusters {
         return published::segments(&line[..n], s, list);
     }
     published::decodes(&line[..n], s, list)
 }
 
-fn same(met: bool) -> u64 {
-    if met {
-        return 0;
+// The kind of the case at `at`: 1 convert, 2 read, 3 rows, 4 height, 5 scalars, 6 clusters, 0 none of these.
+fn kind_of(s: &[u8], at: usize) -> usize
+    requires { ⌜ at ≤ length (now s) ⌝ }
+{
+    if fields::is_word(s, at, b"convert ") {
+        return 1;
     }
-    1
+    if fields::is_word(s, at, b"read ") {
+        return 2;
+    }
+    if fields::is_word(s, at, b"rows ") {
+        return 3;
+    }
+    if fields::is_word(s, at, b"height ") {
+        return 4;
+    }
+    if fields::is_word(s, at, b"scalars ") {
+        return 5;
+    }
+    if fields::is_word(s, at, b"clusters ") {
+        return 6;
+    }
+    0
+}
+
+// Is the case met whose fields begin at `at`?
+fn is_met(s: &[u8], at: usize, kind: usize) -> bool
+    requires { ⌜ at ≤ length (now s) ⌝ }
+{
+    if kind == 1 {
+        return recorded::convert(s, at);
+    }
+    if kind == 2 {
+        return recorded::read(s, at);
+    }
+    if kind == 3 {
+        return recorded::rows(s, at);
+    }
+    if kind == 4 {
+        return recorded::height(s, at);
+    }
+    is_vector_met(s, at, kind == 6)
+}
+
+// One more where it holds.
+fn with_one(n: u64, holds: bool) -> u64 {
+    if holds {
+        return std::num::wrapping_add_u64(n, 1);
+    }
+    n
+}
+
+// One more case of a kind, answered as recorded or not.
+fn with_case(counts: Counts, kind: usize, met: bool) -> Counts {
+    Counts {
+        convert: with_one(counts.convert, kind == 1),
+        read: with_one(counts.read, kind == 2),
+        rows: with_one(counts.rows, kind == 3),
+        height: with_one(counts.height, kind == 4),
+        scalars: with_one(counts.scalars, kind == 5),
+        clusters: with_one(counts.clusters, kind == 6),
+        different: with_one(counts.different, !met),
+    }
 }
 
 // The case at `at`, tried and counted.
 fn tried(counts: Counts, s: &[u8], at: usize) -> Counts
     requires { ⌜ at ≤ length (now s) ⌝ }
 {
-    let mut next = counts;
-    if fields::is_word(s, at, b"convert ") {
-        next.convert = std::num::wrapping_add_u64(counts.convert, 1);
-        next.different = std::num::wrapping_add_u64(
-            counts.different,
-            same(recorded::convert(s, fields::behind(s, at, b' '))),
-        );
-        return next;
+    let kind = kind_of(s, at);
+    if kind == 0 {
+        return counts;
     }
-    if fields::is_word(s, at, b"scalars ") {
-        next.scalars = std::num::wrapping_add_u64(counts.scalars, 1);
-        next.different = std::num::wrapping_add_u64(counts.different, same(is_met(s, at, false)));
-        return next;
-    }
-    if fields::is_word(s, at, b"clusters ") {
-        next.clusters = std::num::wrapping_add_u64(counts.clusters, 1);
-        next.different = std::num::wrapping_add_u64(counts.different, same(is_met(s, at, true)));
-        return next;
-    }
-    next
+    with_case(counts, kind, is_met(s, fields::field(s, at, 1), kind))
 }
 
 // The cases of some lines.
@@ -89,6 +133,9 @@ fn main() {
     let mut buf = io::large_buffer();
     let counts = input::all(&mut buf);
     print(b"convert ", counts.convert);
+    print(b"read ", counts.read);
+    print(b"rows ", counts.rows);
+    print(b"height ", counts.height);
     print(b"scalars ", counts.scalars);
     print(b"clusters ", counts.clusters);
     print(b"different ", counts.different);

@@ -1,12 +1,13 @@
-use Prim.Native.Nat.{_+_, _-_, _≤_}
-use lib.ListN.{length}
+use Prim.Native.Nat.{_-_}
 use borrow.Author.Needs.{needs}
 use Rattle.vectors.proofs.fields.number.Statement.{statement}
 use Rattle.vectors.proofs.fields.number.Tie as tie
 use Rattle.vectors.proofs.fields.number.Reads as reads
 use Rattle.vectors.proofs.fields.number.Lts as lts
+use Rattle.std.proofs.num.wrapping_add_usize.Reads as wrapping-add-usize-reads
 use Rattle.vectors.proofs.fields.byte_at.Reads as byte-at-reads
 use Rattle.vectors.proofs.fields.digit.Reads as digit-reads
+use Rattle.vectors.proofs.fields.times_ten.Reads as times-ten-reads
 
 abbrev Inv-loop : tie.InvT-loop
 Inv-loop s at end n₀ i₀ n i = Unit {0}
@@ -14,41 +15,41 @@ Inv-loop s at end n₀ i₀ n i = Unit {0}
 abbrev μ-loop : tie.MeasureT-loop
 μ-loop s at end n₀ i₀ n i = end - i
 
--- src/fields.rt:70:5
+-- src/fields.rt:79:5
 loop-holds : tie.Need-loop-holds Inv-loop μ-loop
-loop-holds c = search needs
+loop-holds c = tt
 
--- src/fields.rt:72:17
-mul-n : tie.Need-mul-n Inv-loop μ-loop
-mul-n c = search needs
+-- src/fields.rt:80:42
+times-ten-requires : tie.Need-times-ten-requires Inv-loop μ-loop
+times-ten-requires c κs = search needs
 
--- src/fields.rt:72:32
+-- src/fields.rt:80:62
 byte-at-requires : tie.Need-byte-at-requires Inv-loop μ-loop
 byte-at-requires c κs = search needs
 
--- src/fields.rt:72:26
+-- src/fields.rt:80:56
 digit-requires : tie.Need-digit-requires Inv-loop μ-loop
 digit-requires c κs = search needs
 
--- src/fields.rt:72:17
-add-n : tie.Need-add-n Inv-loop μ-loop
-add-n c = search needs
+-- src/fields.rt:80:9
+wrapping-add-usize-requires : tie.Need-wrapping-add-usize-requires Inv-loop μ-loop
+wrapping-add-usize-requires c κs = search needs
 
--- src/fields.rt:74:9
+-- src/fields.rt:81:9
 add-i : tie.Need-add-i Inv-loop μ-loop
 add-i c = search needs
 
--- src/fields.rt:70:5
+-- src/fields.rt:79:5
 loop-less : tie.Need-loop-less Inv-loop μ-loop
 loop-less c = search needs
 
--- src/fields.rt:70:5
+-- src/fields.rt:79:5
 loop-again : tie.Need-loop-again Inv-loop μ-loop
-loop-again c = search needs
+loop-again c = tt
 
--- src/fields.rt:67:1
+-- src/fields.rt:76:1
 returns : tie.Need-returns Inv-loop μ-loop
-returns c = search needs
+returns c = tt
 
 pub number-spec : {M : Type 1} → statement M
 number-spec =
@@ -57,10 +58,10 @@ number-spec =
     Inv-loop
     μ-loop
     loop-holds
-    mul-n
+    times-ten-requires
     byte-at-requires
     digit-requires
-    add-n
+    wrapping-add-usize-requires
     add-i
     loop-less
     loop-again
