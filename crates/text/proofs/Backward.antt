@@ -10,13 +10,14 @@ use lib.ListN.{drop, getD, length}
 use borrow.Author.Tests.{eqb-false, ne-eqb}
 use Rattle.text.specs.Class.{Profile, among, number}
 use Rattle.text.specs.Cluster.{Context, after, context, joined, joins}
+use Rattle.text.specs.Cluster.Walk.{size-is}
 use Rattle.text.specs.Code.{JoinsAt, Left, OddTo, back, beginsCluster, contextOf, firstSequence, flip, isTail, loneByte, profileOf, regionalAt, sequenceOf, size, whole, withoutLast}
 use Rattle.text.specs.Tests.{cases}
 use Rattle.text.specs.Utf8.{Scalar, decode, decodeFrom, runOf}
 use Rattle.text.specs.declared.utf8.Sequence.{Sequence}
 use Rattle.text.proofs.Ascii.{alone, alone-numbers, ascii-sequence, lone, lone-low, low-tail, regional-back}
 use Rattle.text.proofs.Common.{begins-alone}
-use Rattle.text.proofs.Runs.{back-scalar, run-drop, run-head, run-inside, size-bytes, size-pos, size-reverse}
+use Rattle.text.proofs.Runs.{back-scalar, run-drop, run-head, run-inside, size-pos, size-reverse}
 use Rattle.text.proofs.Tails.{back-here}
 use Rattle.text.specs.declared.class.Profile as code
 
@@ -154,7 +155,7 @@ module _ (P : Profile) where
   pub last-begin : (t : List ℕ) (q : ℕ) → whole t → (length t ≢ 0) → q ≡ back t (length t) → At P t q (size (withoutLast P (reverse (runOf (decode t)))))
   unfolding size
   last-begin t q w h b =
-      let e : size (reverse (runOf (decode t))) ≡ length t = size-reverse (runOf (decode t)) ∙ size-bytes (runOf (decode t)) ∙ ap length w in
+      let e : size (reverse (runOf (decode t))) ≡ length t = size-reverse (runOf (decode t)) ∙ size-is (runOf (decode t)) ∙ ap length w in
       begin-by t q (reverse (runOf (decode t))) (sym (reverse-reverse (runOf (decode t)))) e h b
 
   pub last-empty : (t : List ℕ) → length t ≡ 0 → 0 ≡ size (withoutLast P (reverse (runOf (decode t))))
@@ -200,7 +201,7 @@ module _ (P : Profile) where
   pub last-le : (t : List ℕ) → whole t → size (withoutLast P (reverse (runOf (decode t)))) ≤ length t
   unfolding size
   last-le t w =
-      let e : size (reverse (runOf (decode t))) ≡ length t = size-reverse (runOf (decode t)) ∙ size-bytes (runOf (decode t)) ∙ ap length w in
+      let e : size (reverse (runOf (decode t))) ≡ length t = size-reverse (runOf (decode t)) ∙ size-is (runOf (decode t)) ∙ ap length w in
       let h = without-le (reverse (runOf (decode t))) in omega arith
 
 pub joins-begins : (v : code.Profile) (t : List ℕ) (q b : ℕ) (r : Bool) → q < length t → b ≡ getD t q 0 → r ≡ beginsCluster b → r ≡ true → JoinsAt (profileOf v) t q false

@@ -12,6 +12,7 @@ use Rattle.buffer.specs.Sink.{written}
 use Rattle.text.specs.Class.{Profile}
 use Rattle.text.specs.Cluster.{clusters, clustersAfter}
 use Rattle.text.specs.Cluster.Laws.{clusters-first, further}
+use Rattle.text.specs.Cluster.Walk.{size-is}
 use Rattle.text.specs.Code.{FinishReady, Finished, Part, PieceDone, PieceReady, Sound, SpanDone, StepReady, Stepped, Wrote, backward, conversion, finishOn, firstOf, firstSequence, firstSize, partOf, pendingOf, plain, profileOf, size, stateOf, styleOf, unitOf, whole}
 use Rattle.text.specs.Overstrike.{State, convertPieces, convertRun, none, normal, state, step, steps}
 use Rattle.text.specs.Overstrike.Length.{finish-size, start-weight, step-weight, weight}
@@ -23,7 +24,7 @@ use Rattle.text.specs.declared.overstrike.Conversion.{Conversion}
 use Rattle.text.specs.declared.overstrike.Progress.{Progress}
 use Rattle.text.specs.declared.class.Profile as code
 use Rattle.text.proofs.Even.{even-zero}
-use Rattle.text.proofs.Runs.{Head, no-head, part-slice, run-drop, run-head, size-bytes, size-cons, size-reverse}
+use Rattle.text.proofs.Runs.{Head, no-head, part-slice, run-drop, run-head, size-cons, size-reverse}
 use Rattle.text.proofs.Steps.{front-size, front-text, part-none}
 use Rattle.text.proofs.Texts.{run-prefix}
 use Rattle.text.proofs.Units.{run-end, run-more}
@@ -41,7 +42,7 @@ run-behind g rest t e =
     rw (size-reverse g) at (run-drop (reverse g) rest t q)
 
 size-both : (a b : List Scalar) → size (a ++ b) ≡ size a + size b
-size-both a b = size-bytes (a ++ b) ∙ ap length (bytesOf-append a b) ∙ length-append (bytesOf a) (bytesOf b) ∙ ap₂ (λ (m n : ℕ). m + n) (sym (size-bytes a)) (sym (size-bytes b))
+size-both a b = size-is (a ++ b) ∙ ap length (bytesOf-append a b) ∙ length-append (bytesOf a) (bytesOf b) ∙ ap₂ (λ (m n : ℕ). m + n) (sym (size-is a)) (sym (size-is b))
 
 -- ---- the cluster at a place
 
@@ -64,7 +65,7 @@ cluster-by P line p e c s q h i =
     let all : runOf (decode (drop p line)) ≡ g ++ rest = q ∙ ap (λ (x : List Scalar). c ∷ x) (sym (take-append-drop n s)) in
     let cl : clusters P (runOf (decode (drop p line))) ≡ g ∷ clusters P rest = ap (clusters P) q ∙ clusters-first P c s in
     let j : e ≡ p + size g = i ∙ ap (λ (gs : List (List Scalar)). p + size (firstOf gs)) cl in
-    let z : size g ≡ length (bytesOf g) = size-bytes g in
+    let z : size g ≡ length (bytesOf g) = size-is g in
     let pre = run-prefix g rest (drop p line) all in
     let d : drop (size g) (drop p line) ≡ drop e line = drop-drop (size g) p line ∙ ap (λ (m : ℕ). drop m line) (sym j) in
     let k : e - p ≡ size g = omega arith in
@@ -202,7 +203,7 @@ module _ (t : List ℕ) where
   run-whole = run-prefix (runOf (decode t)) [] t (sym (append-nil (runOf (decode t))))
 
   pub run-le : size (runOf (decode t)) ≤ length t
-  run-le = rw (size-bytes (runOf (decode t)), run-whole .1, length-take) (omega arith)
+  run-le = rw (size-is (runOf (decode t)), run-whole .1, length-take) (omega arith)
 
   pub run-valid : whole (take (size (runOf (decode t))) t)
   run-valid = ap bytesOf (run-whole .0) ∙ run-whole .1

@@ -103,11 +103,6 @@ pub size-reverse : (s : List Scalar) → size (reverse s) ≡ size s
 unfolding size
 size-reverse s = size-append s [] ∙ add-zero (size s)
 
-pub size-bytes : (s : List Scalar) → size s ≡ length (bytesOf s)
-unfolding size bytesOf
-size-bytes [] = refl
-size-bytes (c ∷ s) = ap (λ (n : ℕ). length (c .bytes) + n) (size-bytes s) ∙ sym (length-append (c .bytes) (bytesOf s))
-
 -- a part of a slice by its start and its length
 pub part-slice : (f n : ℕ) (l : List ℕ) → take (n - f) (drop f l) ≡ slice f n l
 part-slice zero n l = ap (λ (m : ℕ). take m l) (sub-zero n)

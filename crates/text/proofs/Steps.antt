@@ -11,6 +11,7 @@ use lib.ListN.{drop, drop-of-length-le, getD, length, length-append, take}
 use lib.Seq.{drop-cons, length-slice, length-take-le, slice}
 use borrow.Author.Tests.{eq-eqb, ne-eqb}
 use Rattle.text.specs.Class.{Profile}
+use Rattle.text.specs.Cluster.Walk.{size-is}
 use Rattle.text.specs.Code.{BackReady, BackspaceStep, EvenAt, FinishReady, Finished, Front, FrontEven, Part, Pushed, Sound, StepReady, Stepped, Strike, StruckStep, backspaceOn, backward, clusterOn, conversion, finishOn, orderOf, partOf, pendingOf, plain, pushedOn, stateOf, styleOf, whole}
 use Rattle.text.specs.Overstrike.{State, Style, ambiguous, backspace, bold, boldUnderline, bolded, finish, held, none, normal, onBackspace, onCluster, order, push, state, step, strike, struck, underline, underlined}
 use Rattle.text.specs.Overstrike.Length.{cost, cost-normal, order-size, size-push, waiting, weight}
@@ -22,7 +23,7 @@ use Rattle.text.specs.declared.overstrike.Erasure.{Erasure}
 use Rattle.text.specs.declared.overstrike.Overstrike.{Overstrike}
 use Rattle.text.proofs.Even.{even-more, push-reversed}
 use Rattle.text.proofs.Pushing.{front-push}
-use Rattle.text.proofs.Runs.{part-slice, size-bytes, size-reverse}
+use Rattle.text.proofs.Runs.{part-slice, size-reverse}
 use Rattle.text.proofs.Texts.{run-append, whole-append}
 
 -- ---- parts of the line and fronts of a buffer
@@ -39,9 +40,9 @@ pub front-size : (l : List ℕ) (r : ℕ) (out : List Scalar) → Front l r out 
 unfolding backward
 front-size l r out f =
     ap (λ (x : List Scalar). length (bytesOf x)) (sym (f .scalars))
-    ∙ sym (size-bytes (reverse (runOf (decode (take r l)))))
+    ∙ sym (size-is (reverse (runOf (decode (take r l)))))
     ∙ size-reverse (runOf (decode (take r l)))
-    ∙ size-bytes (runOf (decode (take r l)))
+    ∙ size-is (runOf (decode (take r l)))
     ∙ ap length (f .valid)
     ∙ length-take-le r l (f .inside)
 

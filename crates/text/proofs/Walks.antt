@@ -9,13 +9,13 @@ use mathlib.Core.Path.{_∙_, _≡_, ap, refl, sym}
 use lib.Dec.{eqb, ltb, ltb→lt}
 use lib.ListN.{drop, getD, length, take}
 use borrow.Author.Tests.{eqb-false, eqb-true, ltb-false, ltb-true, not-true}
-use Rattle.text.specs.Class.{Profile, among, class01, classT, classV, control, cr, extend, inAny, lf, number, zwj}
+use Rattle.text.specs.Class.{Profile, number}
 use Rattle.text.specs.Cluster.{Context, after, classOf, clusters, context, joined, joins, start}
 use Rattle.text.specs.Cluster.Laws.{clusters-first, further}
 use Rattle.text.specs.Code.{beginsCluster, contextOf, firstOf, firstSequence, firstSize, moreFrom, profileOf, sequenceOf, singleAt, size, unitOf}
 use Rattle.text.specs.Tests.{and-T, cases, is-true, or-T, true-T}
 use Rattle.text.specs.Utf8.{Scalar, decode, runOf}
-use Rattle.text.specs.Width.{wides, width01, widthOf}
+use Rattle.text.specs.Width.{widthOf}
 use Rattle.text.specs.declared.cluster.Unit.{Unit}
 use Rattle.text.specs.declared.utf8.Sequence.{Sequence}
 use Rattle.text.proofs.Ascii.{alone-numbers, apart, ascii-sequence, breaks}
@@ -150,10 +150,6 @@ unfolding moreFrom
 stop-end P s p prev odd total h same = sym (rw (run-end s p h, add-zero) at same)
 
 -- ---- widths
-
-pub width-le : (v : ℕ) → width01 v ≤ 2
-unfolding width01
-width-le v = cases (among (number (class01 v)) (cr ∷ lf ∷ control ∷ extend ∷ zwj ∷ classV ∷ classT ∷ [])) (λ e. rw e (omega arith)) (λ e. rw e (cases (inAny wides v) (λ f. rw f (omega arith)) (λ f. rw f (omega arith))))
 
 module _ (P : Profile) (s : List ℕ) (p : ℕ) (u : Sequence) (here : p < length s) (read : u ≡ firstSequence (decode (drop p s)))
     (w total : ℕ) (same : total ≡ w + widthOf P (runOf (decode (drop p s)))) where

@@ -9,6 +9,31 @@ pub struct Profile {
     pub version: u8,
 }
 
+// The numbers of UAX #29's classes.
+pub const CR: u8 = 0;
+
+pub const LF: u8 = 1;
+
+pub const CONTROL: u8 = 2;
+
+pub const EXTEND: u8 = 3;
+
+pub const ZWJ: u8 = 4;
+
+pub const L: u8 = 5;
+
+pub const V: u8 = 6;
+
+pub const T: u8 = 7;
+
+pub const LV: u8 = 8;
+
+pub const LVT: u8 = 9;
+
+pub const REGIONAL_INDICATOR: u8 = 10;
+
+pub const OTHER: u8 = 11;
+
 fn in_controls(x: u32) -> bool
     ensures { λ r. ⌜ r ≡ inAny controls x ⌝ }
 {
@@ -39,9 +64,9 @@ fn syllable_class(x: u32) -> u8
     ensures { λ r. ⌜ r ≡ number (syllable x) ⌝ }
 {
     if (x - 0xAC00) % 28 == 0 {
-        return 8;
+        return LV;
     }
-    9
+    LVT
 }
 
 // The number of a scalar's class, by the ranges of the profile.
@@ -49,36 +74,36 @@ fn class_in_ranges(profile: Profile, x: u32) -> u8
     ensures { λ r. ⌜ r ≡ number (profileOf profile .class x) ⌝ }
 {
     if x == 0x0D {
-        return 0;
+        return CR;
     }
     if x == 0x0A {
-        return 1;
+        return LF;
     }
     if in_controls(x) {
-        return 2;
+        return CONTROL;
     }
     if in_extends(x) {
-        return 3;
+        return EXTEND;
     }
     if x == 0x200D {
-        return 4;
+        return ZWJ;
     }
     if ((0x1100 <= x) & (x <= 0x115F)) | ((0xA960 <= x) & (x <= 0xA97C)) {
-        return 5;
+        return L;
     }
     if ((0x1160 <= x) & (x <= 0x11A7)) | ((0xD7B0 <= x) & (x <= 0xD7C6)) {
-        return 6;
+        return V;
     }
     if ((0x11A8 <= x) & (x <= 0x11FF)) | ((0xD7CB <= x) & (x <= 0xD7FB)) {
-        return 7;
+        return T;
     }
     if (0xAC00 <= x) & (x <= 0xD7A3) {
         return syllable_class(x);
     }
     if (0x1F1E6 <= x) & (x <= 0x1F1FF) {
-        return 10;
+        return REGIONAL_INDICATOR;
     }
-    11
+    OTHER
 }
 
 // Is the scalar one of the common ones of class other?
@@ -96,16 +121,16 @@ pub fn class(profile: Profile, x: u32) -> u8
     ensures { λ r. ⌜ r ≡ number (profileOf profile .class x) ⌝ }
 {
     if is_quiet(x) {
-        return 11;
+        return OTHER;
     }
     if (0x300 <= x) & (x <= 0x36F) {
-        return 3;
+        return EXTEND;
     }
     if (0xAC00 <= x) & (x <= 0xD7A3) {
         return syllable_class(x);
     }
     if (0x1F1E6 <= x) & (x <= 0x1F1FF) {
-        return 10;
+        return REGIONAL_INDICATOR;
     }
     class_in_ranges(profile, x)
 }

@@ -1,5 +1,17 @@
 // Grapheme clusters: UAX #29's rules, walked forward and backward.
+use super::class::CONTROL;
+use super::class::CR;
+use super::class::EXTEND;
+use super::class::L;
+use super::class::LF;
+use super::class::LV;
+use super::class::LVT;
+use super::class::OTHER;
 use super::class::Profile;
+use super::class::REGIONAL_INDICATOR;
+use super::class::T;
+use super::class::V;
+use super::class::ZWJ;
 use super::class::class;
 use super::utf8::byte_at;
 use super::utf8::decode;
@@ -25,7 +37,7 @@ fn with_scalar(odd: bool, c: u8) -> Seen
 {
     Seen {
         class: c,
-        odd: (c == 10) & !odd,
+        odd: (c == REGIONAL_INDICATOR) & !odd,
     }
 }
 
@@ -35,35 +47,35 @@ fn is_joined(s: Seen, c: u8) -> bool
 {
     let p = s.class;
     // GB3
-    if (p == 0) & (c == 1) {
+    if (p == CR) & (c == LF) {
         return true;
     }
     // GB4
-    if (p == 2) | ((p == 0) | (p == 1)) {
+    if (p == CONTROL) | ((p == CR) | (p == LF)) {
         return false;
     }
     // GB5
-    if (c == 2) | ((c == 0) | (c == 1)) {
+    if (c == CONTROL) | ((c == CR) | (c == LF)) {
         return false;
     }
     // GB9, before GB6 to GB8, which speak of other classes
-    if (c == 3) | (c == 4) {
+    if (c == EXTEND) | (c == ZWJ) {
         return true;
     }
     // GB6
-    if (p == 5) & ((c == 5) | ((c == 6) | ((c == 8) | (c == 9)))) {
+    if (p == L) & ((c == L) | ((c == V) | ((c == LV) | (c == LVT)))) {
         return true;
     }
     // GB7
-    if ((p == 8) | (p == 6)) & ((c == 6) | (c == 7)) {
+    if ((p == LV) | (p == V)) & ((c == V) | (c == T)) {
         return true;
     }
     // GB8
-    if ((p == 9) | (p == 7)) & (c == 7) {
+    if ((p == LVT) | (p == T)) & (c == T) {
         return true;
     }
     // GB12, GB13
-    if s.odd & (c == 10) {
+    if s.odd & (c == REGIONAL_INDICATOR) {
         return true;
     }
     // GB999
@@ -121,7 +133,7 @@ fn unit_at(profile: Profile, s: &[u8], at: usize) -> Unit
         return Unit {
             code: a,
             len: 1,
-            class: 11,
+            class: OTHER,
         };
     }
     let b = byte_at(s, at + 1);
@@ -129,14 +141,14 @@ fn unit_at(profile: Profile, s: &[u8], at: usize) -> Unit
         return Unit {
             code: a % 32 * 64 + b % 64,
             len: 2,
-            class: 3,
+            class: EXTEND,
         };
     }
     if is_letter(a, b) {
         return Unit {
             code: a % 32 * 64 + b % 64,
             len: 2,
-            class: 11,
+            class: OTHER,
         };
     }
     let c = byte_at(s, at + 2);
@@ -144,7 +156,7 @@ fn unit_at(profile: Profile, s: &[u8], at: usize) -> Unit
         return Unit {
             code: (a % 16 * 64 + b % 64) * 64 + c % 64,
             len: 3,
-            class: 11,
+            class: OTHER,
         };
     }
     decoded_unit(profile, s, at)
@@ -300,7 +312,7 @@ fn odd_to(profile: Profile, t: &[u8], q: usize, even: usize) -> bool
             return odd;
         }
         let j = scalar_start(t, i);
-        if class_at(profile, t, j) == 10 {
+        if class_at(profile, t, j) == REGIONAL_INDICATOR {
             odd = !odd;
             i = j;
         } else {
@@ -323,7 +335,7 @@ fn joins_at(profile: Profile, t: &[u8], q: usize, even: usize) -> bool
     }
     let p = class_at(profile, t, scalar_start(t, q));
     let c = class_at(profile, t, q);
-    if (p == 10) & (c == 10) {
+    if (p == REGIONAL_INDICATOR) & (c == REGIONAL_INDICATOR) {
         let odd = odd_to(profile, t, q, even);
         return is_joined(Seen { class: p, odd: odd }, c);
     }

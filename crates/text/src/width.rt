@@ -1,5 +1,12 @@
 // Widths of scalars and of stretches, in columns.
+use super::class::CONTROL;
+use super::class::CR;
+use super::class::EXTEND;
+use super::class::LF;
 use super::class::Profile;
+use super::class::T;
+use super::class::V;
+use super::class::ZWJ;
 use super::class::class;
 use super::utf8::decode;
 ghost use mathlib.Core.Path.{_≡_};
@@ -35,7 +42,8 @@ fn has_no_width(profile: Profile, x: u32) -> bool
     ensures { λ r. ⌜ r ≡ among (number (profileOf profile .class x)) (cr ∷ lf ∷ control ∷ extend ∷ zwj ∷ classV ∷ classT ∷ []) ⌝ }
 {
     let c = class(profile, x);
-    (c == 0) | ((c == 1) | ((c == 2) | ((c == 3) | ((c == 4) | ((c == 6) | (c == 7))))))
+    (c == CR)
+        | ((c == LF) | ((c == CONTROL) | ((c == EXTEND) | ((c == ZWJ) | ((c == V) | (c == T))))))
 }
 
 // The width of a scalar.

@@ -19,14 +19,10 @@ use Rattle.text.specs.Class.{cr, lf, control, extend, zwj, classV, class
 use Rattle.text.specs.Width.{wides, width01, profile01, widthOf}
 use Rattle.text.specs.Cluster.{Context, joined, joins, context, clusters}
 use Rattle.text.specs.Cluster.Laws.{clusters-first, further}
+use Rattle.text.specs.Cluster.Walk.{size-is}
 use Rattle.text.specs.declared.class.Profile as code
 use Rattle.text.specs.declared.utf8.Sequence.{Sequence}
 use Rattle.text.specs.Code.{runOf, size, firstOf, profileOf, sequenceOf, firstSequence}
-
-pub size-bytes : (s : List Scalar) → size s ≡ length (bytesOf s)
-unfolding size bytesOf
-size-bytes [] = refl
-size-bytes (c ∷ s) = ap (λ (n : ℕ). length (c .bytes) + n) (size-bytes s) ∙ sym (length-append (c .bytes) (bytesOf s))
 
 pub size-append : (a b : List Scalar) → size (a ++ b) ≡ size a + size b
 unfolding size
@@ -78,10 +74,10 @@ module _ (s : List ℕ) (a b : List Scalar) (e : runOf (decode s) ≡ a ++ b) wh
   both-valid = all-split a (rw e at (run-valid s))
 
   front-bytes : take (size a) s ≡ bytesOf a
-  front-bytes = ap₂ take (size-bytes a) run-bytes ∙ take-append-seam (bytesOf a) _
+  front-bytes = ap₂ take (size-is a) run-bytes ∙ take-append-seam (bytesOf a) _
 
   behind-bytes : drop (size a) s ≡ bytesOf b ++ behind-run
-  behind-bytes = ap₂ drop (size-bytes a) run-bytes ∙ drop-append-seam (bytesOf a) _
+  behind-bytes = ap₂ drop (size-is a) run-bytes ∙ drop-append-seam (bytesOf a) _
 
   pub run-front : runOf (decode (take (size a) s)) ≡ a
   run-front = ap (λ (l : List ℕ). runOf (decode l)) front-bytes ∙ run-text (both-valid .0)
@@ -95,7 +91,7 @@ module _ (s : List ℕ) (a b : List Scalar) (e : runOf (decode s) ≡ a ++ b) wh
       ∙ e)
 
   pub run-fits : size a + size b ≤ length s
-  run-fits = rw (size-bytes a, size-bytes b) (omega (arith, ap length run-bytes, length-append (bytesOf a) (bytesOf b ++ behind-run), length-append (bytesOf b) behind-run))
+  run-fits = rw (size-is a, size-is b) (omega (arith, ap length run-bytes, length-append (bytesOf a) (bytesOf b ++ behind-run), length-append (bytesOf b) behind-run))
 
 -- ---- what stands at a place
 

@@ -4,10 +4,11 @@ use mathlib.Core.Path.{_≡_}
 use lib.ListN.{drop, length}
 use borrow.Author.Needs.{needs}
 use Rattle.text.specs.Code.{profileOf, runOf}
+use Rattle.text.specs.Code.Laws.{width-le}
 use Rattle.text.specs.Utf8.{decode}
 use Rattle.text.specs.Width.{widthOf}
 use Rattle.text.proofs.Units.{run-room}
-use Rattle.text.proofs.Walks.{width-end, width-le, width-on, width-stop}
+use Rattle.text.proofs.Walks.{width-end, width-on, width-stop}
 use Rattle.text.proofs.width.run_width.Statement.{statement}
 use Rattle.text.proofs.width.run_width.Tie as tie
 
