@@ -24,6 +24,51 @@ unit x n c = record { code = x; len = n; class = c }
 
 -- ---- their lengths
 
+stray-none : (a b c d : ℕ) → 0x7F < a → (leb a 0xC1 || leb 0xF5 a) ≡ true → 0 ≡ sequence (a ∷ b ∷ c ∷ d ∷ [])
+unfolding chain
+stray-none a b c d h e =
+    or-T (leb a 0xC1) (leb 0xF5 a) (true-T e)
+    (λ t.
+    let l : a ≤ 0xC1 = leb→le _ _ t in
+    by-chain a b c d 0 (sym (rw (
+      lt-leb a 0x7F (omega arith),
+      lt-leb 0xC2 a (omega arith),
+      lt-leb 0xE0 a (omega arith),
+      lt-leb 0xE1 a (omega arith),
+      lt-leb 0xED a (omega arith),
+      lt-leb 0xEE a (omega arith),
+      lt-leb 0xF0 a (omega arith),
+      lt-leb 0xF1 a (omega arith),
+      lt-leb 0xF4 a (omega arith),
+    ) refl)))
+    (λ t.
+    let l : 0xF5 ≤ a = leb→le _ _ t in
+    by-chain a b c d 0 (sym (rw (
+      lt-leb a 0x7F (omega arith),
+      le-leb 0xC2 a (omega arith),
+      lt-leb a 0xDF (omega arith),
+      le-leb 0xE0 a (omega arith),
+      lt-leb a 0xE0 (omega arith),
+      le-leb 0xE1 a (omega arith),
+      lt-leb a 0xEC (omega arith),
+      le-leb 0xED a (omega arith),
+      lt-leb a 0xED (omega arith),
+      le-leb 0xEE a (omega arith),
+      lt-leb a 0xEF (omega arith),
+      le-leb 0xF0 a (omega arith),
+      lt-leb a 0xF0 (omega arith),
+      le-leb 0xF1 a (omega arith),
+      lt-leb a 0xF3 (omega arith),
+      le-leb 0xF4 a (omega arith),
+      lt-leb a 0xF4 (omega arith),
+    ) refl)))
+
+-- 80 to C1 and F5 to FF begin no sequence
+pub stray-first : (s : List ℕ) (p a : ℕ) → p < length s → a ≡ getD s p 0 → 0x7F < a → (leb a 0xC1 || leb 0xF5 a) ≡ true → sequenceOf 0 0 ≡ firstSequence (decode (drop p s))
+unfolding value
+stray-first s p a h ea l e =
+    decode-at s p a (getD s (p + 1) 0) (getD s (p + 2) 0) (getD s (p + 3) 0) 0 0 h ea refl refl refl (stray-none a (getD s (p + 1) 0) (getD s (p + 2) 0) (getD s (p + 3) 0) l e) refl
+
 module _ (a b c d : ℕ) (low : 0xC2 ≤ a) (high : a ≤ 0xDF) where
   two-length : within tail b ≡ true → 2 ≡ sequence (a ∷ b ∷ c ∷ d ∷ [])
   unfolding chain

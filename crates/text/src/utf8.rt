@@ -90,6 +90,10 @@ pub fn decode(s: &[u8], at: usize) -> Sequence
     if a <= 0x7F {
         return Sequence { code: a, len: 1 };
     }
+    // no sequence begins with these
+    if (a <= 0xC1) | (0xF5 <= a) {
+        return Sequence { code: 0, len: 0 };
+    }
     let b = byte_at(s, at + 1);
     let c = byte_at(s, at + 2);
     let d = byte_at(s, at + 3);

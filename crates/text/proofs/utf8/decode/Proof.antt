@@ -1,5 +1,6 @@
 use borrow.Author.Needs.{needs}
 use Rattle.text.proofs.Ascii.{ascii-first}
+use Rattle.text.proofs.Common.{stray-first}
 use Rattle.text.proofs.Units.{decode-at}
 use Rattle.text.proofs.utf8.decode.Statement.{statement}
 use Rattle.text.proofs.utf8.decode.Tie as tie
@@ -9,6 +10,9 @@ byte-at-requires c κs = search needs
 
 returns : tie.Need-returns
 returns c = search ascii-first
+
+returns-2 : tie.Need-returns-2
+returns-2 c = search stray-first
 
 add-byte-at : tie.Need-add-byte-at
 add-byte-at c = search needs
@@ -34,8 +38,8 @@ sequence-of-requires c κs = search needs
 value-of-requires : tie.Need-value-of-requires
 value-of-requires c κs = search needs
 
-returns-2 : tie.Need-returns-2
-returns-2 c = search decode-at
+returns-3 : tie.Need-returns-3
+returns-3 c = search decode-at
 
 pub decode-spec : {M : Type 1} → statement M
 decode-spec =
@@ -43,6 +47,7 @@ decode-spec =
     (tie.spec
     byte-at-requires
     returns
+    returns-2
     add-byte-at
     byte-at-requires-2
     add-byte-at-2
@@ -51,4 +56,4 @@ decode-spec =
     byte-at-requires-4
     sequence-of-requires
     value-of-requires
-    returns-2)
+    returns-3)
