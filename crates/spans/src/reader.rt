@@ -4,6 +4,9 @@ use super::sequence::Sequence;
 use super::sequence::byte_at;
 use super::sequence::sequence_at;
 use text::BytePlace;
+use text::class::LV;
+use text::class::LVT;
+use text::class::OTHER;
 use text::class::Profile;
 use text::class::class;
 use text::cluster::first_end;
@@ -104,7 +107,7 @@ fn printable_end(profile: Profile, t: &[u8], at: usize) -> usize
 fn is_base(class: u8) -> bool
     ensures { λ r. ⌜ r ≡ base class ⌝ }
 {
-    (class == 8) | ((class == 9) | (class == 11))
+    (class == LV) | ((class == LVT) | (class == OTHER))
 }
 
 // Past scalars of these classes, in the same way.
