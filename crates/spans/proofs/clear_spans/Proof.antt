@@ -53,6 +53,7 @@ use Rattle.spans.specs.declared.Span.{Span}
 use Rattle.spans.specs.Calls.{noRecord}
 use Rattle.spans.proofs.Span as T
 use Rattle.spans.proofs.Span.Laws as T′
+use Rattle.spans.proofs.Local.{tvals, tmach, none-is}
 use Rattle.spans.proofs.clear_spans.Key.{name as #spans·clear-spans}
 use Rattle.spans.proofs.clear_spans as f
 use Rattle.spans.proofs.clear_spans.Statement as stated
@@ -89,12 +90,6 @@ cont-end (w ∷ ws) (suc i) h = ap {B = List Span} (λ r. w ∷ r) (cont-end ws 
 abbrev stayed : Stays (f.ended .signature .params) (f.ended .kept)
 stayed = (stay-slice (0 ∷ []) tt (plain (λ _. T.the-row)), (stay-none (λ _. usize) yes, tt))
 
-abbrev tvals : Span → List Val
-tvals = LL.vals T.the-type T′.the-laws
-
-abbrev tmach : Span → Val
-tmach x = LL.tuple-val T.the-type T′.the-laws (T.the-type .to x)
-
 abbrev bmach : Val
 bmach = LL.tuple-val B.the-type B′.the-laws (B.the-type .to (noRecord .place))
 
@@ -103,9 +98,6 @@ word = tyInt w64
 
 abbrev slice : Ty
 slice = sliceTy (tyRef (named 0) mut (pointee (T.the-row .written)))
-
-none-is : Is T.the-row noRecord (tvals noRecord)
-none-is = LL.owes T.the-type T′.the-laws noRecord ((refl, lit< tt), (LL.owes B.the-type B′.the-laws (noRecord .place) ((refl, lit< tt), tt), ((refl, lit< tt), ((refl, lit< tt), tt))))
 
 module _ {M : Type 1} (𝓤 : URA M) (H : Heap 𝓤) (A : Atoms 𝓤) (W : Given 𝓤 H A) (mem : Memory → SProp 𝓤) (run : Routine → Fun 𝓤) (κ : Lft) (q : Share) (b o : ℕ) (γ : GName) (ys : List Span) (start : ℕ) (room : Room T.the-row (length ys)) (start-fits : start < 2 ^ 64) where
   abbrev n : ℕ
