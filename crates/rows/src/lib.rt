@@ -3,6 +3,7 @@ use buffer::clear_bytes;
 use buffer::clear_numbers;
 use spans::Span;
 use spans::clear_spans;
+use spans::stretches::smaller;
 use text::Answer;
 use text::Column;
 use text::class::Profile;
@@ -11,9 +12,7 @@ use wrap::Wrapping;
 use wrap::begin;
 use wrap::make_wrap;
 ghost use mathlib.Core.Path.{_≡_};
-ghost use mathlib.Core.Bool.{cond};
 ghost use mathlib.Core.List.{[]};
-ghost use lib.Dec.{leb};
 ghost use lib.ListN.{length};
 ghost use Rattle.text.specs.Width.{profile01};
 ghost use Rattle.spans.specs.Calls.{noRecord};
@@ -45,15 +44,6 @@ fn no_matches<'a>(numbers: &'a [usize]) -> &'a [usize]
     ensures { λ r. ⌜ now r ≡ [] ⌝ }
 {
     &numbers[..0]
-}
-
-fn smaller(a: usize, b: usize) -> usize
-    ensures { λ r. ⌜ r ≡ cond (leb a b) a b ⌝ }
-{
-    if a <= b {
-        return a;
-    }
-    b
 }
 
 // The converted line has at most 8 times 4,096 bytes; no span lies behind it.

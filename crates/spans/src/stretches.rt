@@ -31,7 +31,7 @@ pub struct NextRecord {
     pub cursor: Cursor,
 }
 
-fn smaller(a: usize, b: usize) -> usize
+pub fn smaller(a: usize, b: usize) -> usize
     ensures { λ r. ⌜ r ≡ clipped a b ⌝ }
 {
     if a <= b {
