@@ -59,7 +59,7 @@ const NOISY: &[u8] =
     b"rx-03 \xFF\xFEsweep 11\xC08204: g\xF5in 41.5 dB\xE6\xBC tune\x80 94\xF8\xF810 \
     MHz \x00\x01 noise\x7F floor\xED\xA0\x80\n";
 
-pub const KINDS: [Kind; 23] = [
+pub const KINDS: [Kind; 27] = [
     common("plain log line", &[LOG]),
     common("coloured, with a link", &[COLOURED]),
     common("man page", &[MAN_PAGE]),
@@ -79,6 +79,10 @@ pub const KINDS: [Kind; 23] = [
     hostile("struck accents", &["e\u{301}\u{8}e\u{301}".as_bytes()]),
     hostile("bold wide characters", &["漢\u{8}漢".as_bytes()]),
     hostile("underlined wide", &["_\u{8}漢".as_bytes()]),
+    hostile("bold syllables", &["각\u{8}각".as_bytes()]),
+    hostile("bold emoji", &["🚢\u{8}🚢".as_bytes()]),
+    hostile("bold flags", &["🇳🇴\u{8}🇳🇴".as_bytes()]),
+    hostile("bold jamo", &["\u{1100}\u{1161}\u{8}\u{1100}\u{1161}".as_bytes()]),
     hostile(
         "indicators, nested runs",
         &["\u{1F1E6}".as_bytes(), "\u{1F1E6}x\u{8}\u{8}".as_bytes()],
