@@ -7,6 +7,7 @@ use lib.ListN.{length}
 use lib.Dec.{eqb, leb}
 use Rattle.rows_program.specs.declared.first_line.FirstLine.{FirstLine}
 use Rattle.rows_program.specs.declared.first_line.Part.{Part}
+pub mod Vectors
 
 abbrev pub digit : ℕ → Bool
 digit b = leb 0x30 b && leb b 0x39

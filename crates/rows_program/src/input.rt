@@ -1,5 +1,4 @@
 // Standard input: the first line, and the line behind it as far as question 1 looks.
-ghost use mathlib.Core.Path.{_≡_};
 ghost use Prim.Native.Nat.{_≤_};
 ghost use lib.ListN.{length};
 use super::first_line::FirstLine;

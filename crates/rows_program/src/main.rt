@@ -5,8 +5,6 @@ mod input;
 
 use libc::STDOUT_FILENO;
 use text::Answer;
-ghost use Prim.Native.Nat.{_≤_, _*_};
-ghost use lib.ListN.{length};
 
 fn print_number(n: usize, behind: &[u8]) {
     io::print_decimal(STDOUT_FILENO, n as u64);
