@@ -2,8 +2,8 @@
 use super::sequence::byte_at;
 ghost use mathlib.Core.Path.{_≡_};
 ghost use Prim.Native.Nat.{_+_, _≤_, _<_};
-ghost use lib.ListN.{length, drop, take};
-ghost use Rattle.spans.specs.Search.{sequenceByte, trimmed, escapesFrom, lengthOf, searchedLength, inOrder};
+ghost use lib.ListN.{length};
+ghost use Rattle.spans.specs.Search.{sequenceByte, trimmed, searchedLength, inOrder};
 ghost use Rattle.spans.specs.Contracts.{Skipped, Matching, Small, EscapeAt, EscapesLength, pairInOrder, OffsetsFrom, OffsetReady, OffsetAt};
 
 // A match of ESCAPE_SEQUENCE, or none.

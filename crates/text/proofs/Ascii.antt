@@ -1,5 +1,5 @@
 -- What the short cuts rest on: scalars below 80, and ranges in which every scalar is of class other.
-use Prim.Native.Nat.{_+_, _-_, _<_, _≤_, suc, zero, ℕ}
+use Prim.Native.Nat.{_%_, _+_, _-_, _<_, _≤_, suc, zero, ℕ}
 use native.Mathlib.Omega.{arith}
 use mathlib.Core.Bool.{Bool, _&&_, _||_, and-false, false, not, true}
 use mathlib.Core.List.{List, [], _∷_}
@@ -11,11 +11,12 @@ use lib.Seq.{drop-cons}
 use borrow.Author.Tests.{eqb-false, eqb-true, le-leb, lt-leb, ne-eqb, not-true}
 use Rattle.text.specs.Class.{Profile, among, class01, control, controls, cr, extends, inAny, isControl, lf, number, other}
 use Rattle.text.specs.Cluster.{Context, joined}
-use Rattle.text.specs.Code.{back, firstSequence, isTail, loneByte, profileOf, quiets, regionalAt, sequenceOf, syllable}
+use Rattle.text.specs.Code.{back, firstSequence, isTail, jamo, loneByte, profileOf, regionalAt, sequenceOf, syllable}
 use Rattle.text.specs.Tests.{and-T, cases, is-false, is-true, or-T, true-T}
 use Rattle.text.specs.Utf8.{Range, decode, fits, lengthIn, sequence, table, to, value, within}
 use Rattle.text.specs.Width.{wides, width01}
 use Rattle.text.specs.declared.utf8.Sequence.{Sequence}
+use Rattle.text.proofs.Branch.{in-range}
 use Rattle.text.proofs.Tails.{back-here, back-tail}
 use Rattle.text.proofs.Units.{decode-at, first-by, zero-leb}
 use Rattle.text.specs.declared.class.Profile as code
@@ -234,7 +235,7 @@ regional-control t j h f =
 -- ---- quiet ranges
 
 -- none of these ranges meets the scalars from a to b
-clear : ℕ → ℕ → List Range → Bool
+unfoldable pub clear : ℕ → ℕ → List Range → Bool
 clear a b [] = true
 clear a b (r ∷ rs) = (ltb (r .high) a || ltb b (r .low)) && clear a b rs
 
@@ -248,7 +249,7 @@ clear-within r a b x t h k =
     (λ u. let q : r .high < a = ltb→lt _ _ u in omega arith)
     (λ u. let q : b < r .low = ltb→lt _ _ u in omega arith))
 
-clear-any : (rs : List Range) (a b x : ℕ) → T (clear a b rs) → a ≤ x → x ≤ b → inAny rs x ≡ false
+pub clear-any : (rs : List Range) (a b x : ℕ) → T (clear a b rs) → a ≤ x → x ≤ b → inAny rs x ≡ false
 unfolding clear inAny
 clear-any [] a b x t h k = refl
 clear-any (r ∷ []) a b x t h k = clear-within r a b x (and-T (ltb (r .high) a || ltb b (r .low)) _ t .0) h k
@@ -264,7 +265,7 @@ not-one c a b x t h k =
     (λ u. let q : b < c = ltb→lt _ _ u in absurd (omega arith)))
 
 -- every test of class01 fails from a to b
-quiet-test : ℕ → ℕ → Bool
+unfoldable pub quiet-test : ℕ → ℕ → Bool
 quiet-test a b =
     (ltb 0x0D a || ltb b 0x0D)
     && ((ltb 0x0A a || ltb b 0x0A)
@@ -302,60 +303,49 @@ quiet-other a b x t h k =
       clear-any (to 0x1F1E6 0x1F1FF ∷ []) a b x (p₉ .1) h k,
     ) refl
 
-quiet-ranges : List Range → Bool
-quiet-ranges [] = true
-quiet-ranges (r ∷ rs) = quiet-test (r .low) (r .high) && quiet-ranges rs
+pub other-class : (p : code.Profile) (a b x : ℕ) → T (quiet-test a b) → a ≤ x → x ≤ b → 11 ≡ number (profileOf p .class x)
+unfolding profileOf
+other-class p a b x t lo hi = sym (quiet-other a b x t lo hi)
 
-quiet-any : (rs : List Range) (x : ℕ) → T (quiet-ranges rs) → inAny rs x ≡ true → number (class01 x) ≡ 11
-unfolding quiet-ranges inAny
-quiet-any [] x t e = absurd (true-T e)
-quiet-any (r ∷ []) x t e =
-    let p = and-T (quiet-test (r .low) (r .high)) _ t in
-    let q = and-T (leb (r .low) x) (leb x (r .high)) (true-T e) in
-    quiet-other (r .low) (r .high) x (p .0) (leb→le _ _ (q .0)) (leb→le _ _ (q .1))
-quiet-any (r ∷ s ∷ rs) x t e =
-    let p = and-T (quiet-test (r .low) (r .high)) (quiet-ranges (s ∷ rs)) t in
-    cases (within r x)
-    (λ w. let q = and-T (leb (r .low) x) (leb x (r .high)) (true-T w) in quiet-other (r .low) (r .high) x (p .0) (leb→le _ _ (q .0)) (leb→le _ _ (q .1)))
-    (λ w. quiet-any (s ∷ rs) x (p .1) (rw w at e))
+pub low-other : (p : code.Profile) (x : ℕ) → x < 0x300 → ((leb 0x20 x && leb x 0x7E) || leb 0xA0 x) ≡ true → 11 ≡ number (profileOf p .class x)
+unfolding quiet-test clear controls extends
+low-other p x h e =
+    or-T (leb 0x20 x && leb x 0x7E) (leb 0xA0 x) (true-T e)
+    (λ t. let w = in-range 0x20 0x7E x (is-true _ t) in other-class p 0x20 0x7E x tt (w .0) (w .1))
+    (λ t. other-class p 0xA0 0x2FF x tt (leb→le _ _ t) (omega arith))
 
-pub quiet-class : (p : code.Profile) (x : ℕ) (b : Bool) → b ≡ inAny quiets x → b ≡ true → 11 ≡ number (profileOf p .class x)
-unfolding profileOf quiet-ranges quiet-test clear quiets controls extends
-quiet-class p x b e t = sym (quiet-any quiets x tt (sym e ∙ t))
+-- ---- a small range, every class computed
 
-module _ (p : code.Profile) (x : ℕ) where
-  pub printable-class : 0x20 ≤ x → x ≤ 0x7E → number (profileOf p .class x) ≡ 11
-  unfolding profileOf quiet-test clear controls extends
-  printable-class lo hi = quiet-other 0x20 0x7E x tt lo hi
+classed : (ℕ → ℕ) → ℕ → Bool
+classed f x = eqb (f x) (number (class01 x))
 
-  pub latin-class : 0xC0 ≤ x → x ≤ 0x2FF → number (profileOf p .class x) ≡ 11
-  unfolding profileOf quiet-test clear controls extends
-  latin-class lo hi = quiet-other 0xC0 0x2FF x tt lo hi
-
-  pub greek-class : 0x380 ≤ x → x ≤ 0x47F → number (profileOf p .class x) ≡ 11
-  unfolding profileOf quiet-test clear controls extends
-  greek-class lo hi = quiet-other 0x380 0x47F x tt lo hi
-
-  pub ideograph-class : 0x3000 ≤ x → x ≤ 0x9FFF → number (profileOf p .class x) ≡ 11
-  unfolding profileOf quiet-test clear controls extends
-  ideograph-class lo hi = quiet-other 0x3000 0x9FFF x tt lo hi
-
--- the first range of Extend
-pub mark-class : (p : code.Profile) (x : ℕ) → (leb 0x300 x && leb x 0x36F) ≡ true → 3 ≡ number (profileOf p .class x)
-unfolding profileOf class01 number inAny extends clear controls
-mark-class p x e =
-    let q = and-T (leb 0x300 x) (leb x 0x36F) (true-T e) in
-    let lo : 0x300 ≤ x = leb→le _ _ (q .0) in
-    let hi : x ≤ 0x36F = leb→le _ _ (q .1) in
-    sym (rw (not-one 0x0D 0x300 0x36F x tt lo hi, not-one 0x0A 0x300 0x36F x tt lo hi, clear-any controls 0x300 0x36F x tt lo hi, e) refl)
+small-class : (p : code.Profile) (n lo x : ℕ) (f : ℕ → ℕ) → T (eachFrom lo n (classed f)) → lo ≤ x → x < lo + n → f x ≡ number (profileOf p .class x)
+unfolding profileOf classed
+small-class p n lo x f t h k = eqb-true (f x) (number (class01 x)) (each-at n lo x (classed f) t h k)
 
 module _ (p : code.Profile) (x : ℕ) where
-  pub syllable-class : (r : ℕ) → (leb 0xAC00 x && leb x 0xD7A3) ≡ true → r ≡ number (syllable x) → r ≡ number (profileOf p .class x)
+  pub mark-class : 0x300 ≤ x → x ≤ 0x36F → 3 ≡ number (profileOf p .class x)
+  unfolding eachFrom classed number class01
+  mark-class lo hi = small-class p 0x70 0x300 x (λ y. 3) tt lo (omega arith)
+
+  pub jamo-class : 0x1100 ≤ x → x < 0x1200 → number (jamo x) ≡ number (profileOf p .class x)
+  unfolding eachFrom classed number class01
+  jamo-class lo hi = small-class p 0x100 0x1100 x (λ y. number (jamo y)) tt lo hi
+
+  pub extended-jamo-class : 0xA960 ≤ x → x ≤ 0xA97C → 5 ≡ number (profileOf p .class x)
+  unfolding eachFrom classed number class01
+  extended-jamo-class lo hi = small-class p 0x1D 0xA960 x (λ y. 5) tt lo (omega arith)
+
+  pub indicator-class : 0x1F1E6 ≤ x → x ≤ 0x1F1FF → 10 ≡ number (profileOf p .class x)
+  unfolding eachFrom classed number class01
+  indicator-class lo hi = small-class p 0x1A 0x1F1E6 x (λ y. 10) tt lo (omega arith)
+
+-- ---- syllables
+
+module _ (p : code.Profile) (x : ℕ) (lo : 0xAC00 ≤ x) (hi : x ≤ 0xD7A3) where
+  pub syllable-class : (r : ℕ) → r ≡ number (syllable x) → r ≡ number (profileOf p .class x)
   unfolding profileOf class01 inAny clear controls extends
-  syllable-class r e f =
-      let q = and-T (leb 0xAC00 x) (leb x 0xD7A3) (true-T e) in
-      let lo : 0xAC00 ≤ x = leb→le _ _ (q .0) in
-      let hi : x ≤ 0xD7A3 = leb→le _ _ (q .1) in
+  syllable-class r f =
       rw (
         not-one 0x0D 0xAC00 0xD7A3 x tt lo hi,
         not-one 0x0A 0xAC00 0xD7A3 x tt lo hi,
@@ -365,43 +355,40 @@ module _ (p : code.Profile) (x : ℕ) where
         clear-any (to 0x1100 0x115F ∷ to 0xA960 0xA97C ∷ []) 0xAC00 0xD7A3 x tt lo hi,
         clear-any (to 0x1160 0x11A7 ∷ to 0xD7B0 0xD7C6 ∷ []) 0xAC00 0xD7A3 x tt lo hi,
         clear-any (to 0x11A8 0x11FF ∷ to 0xD7CB 0xD7FB ∷ []) 0xAC00 0xD7A3 x tt lo hi,
-        e,
+        le-leb 0xAC00 x lo,
+        le-leb x 0xD7A3 hi,
       ) f
-
-  pub indicator-class : (leb 0x1F1E6 x && leb x 0x1F1FF) ≡ true → 10 ≡ number (profileOf p .class x)
-  unfolding profileOf class01 number inAny clear controls extends
-  indicator-class e =
-      let q = and-T (leb 0x1F1E6 x) (leb x 0x1F1FF) (true-T e) in
-      let lo : 0x1F1E6 ≤ x = leb→le _ _ (q .0) in
-      let hi : x ≤ 0x1F1FF = leb→le _ _ (q .1) in
-      sym (rw (
-        not-one 0x0D 0x1F1E6 0x1F1FF x tt lo hi,
-        not-one 0x0A 0x1F1E6 0x1F1FF x tt lo hi,
-        clear-any controls 0x1F1E6 0x1F1FF x tt lo hi,
-        clear-any extends 0x1F1E6 0x1F1FF x tt lo hi,
-        not-one 0x200D 0x1F1E6 0x1F1FF x tt lo hi,
-        clear-any (to 0x1100 0x115F ∷ to 0xA960 0xA97C ∷ []) 0x1F1E6 0x1F1FF x tt lo hi,
-        clear-any (to 0x1160 0x11A7 ∷ to 0xD7B0 0xD7C6 ∷ []) 0x1F1E6 0x1F1FF x tt lo hi,
-        clear-any (to 0x11A8 0x11FF ∷ to 0xD7CB 0xD7FB ∷ []) 0x1F1E6 0x1F1FF x tt lo hi,
-        clear-any (to 0xAC00 0xD7A3 ∷ []) 0x1F1E6 0x1F1FF x tt lo hi,
-        e,
-      ) refl)
 
 -- ---- widths of common scalars
 
 module _ (p : code.Profile) (x : ℕ) where
-  pub narrow-width : (leb 0x20 x && leb x 0x7E) ≡ true → 1 ≡ profileOf p .width x
-  unfolding profileOf width01 clear wides quiet-test controls extends among number
-  narrow-width e =
-      let q = and-T (leb 0x20 x) (leb x 0x7E) (true-T e) in
-      let lo : 0x20 ≤ x = leb→le _ _ (q .0) in
-      let hi : x ≤ 0x7E = leb→le _ _ (q .1) in
-      sym (rw (quiet-other 0x20 0x7E x tt lo hi, clear-any wides 0x20 0x7E x tt lo hi) refl)
+  pub narrow-width : (a b : ℕ) → T (quiet-test a b) → T (clear a b wides) → a ≤ x → x ≤ b → 1 ≡ profileOf p .width x
+  unfolding profileOf width01 among number
+  narrow-width a b q w lo hi = sym (rw (quiet-other a b x q lo hi, clear-any wides a b x w lo hi) refl)
 
-  pub wide-width : (leb 0x3041 x && leb x 0xA4CF) ≡ true → 2 ≡ profileOf p .width x
+  pub letter-width : ((leb 0xA0 x && leb x 0x2FF) || (leb 0x370 x && leb x 0x482)) ≡ true → 1 ≡ profileOf p .width x
+  unfolding quiet-test clear controls extends wides
+  letter-width e =
+      or-T (leb 0xA0 x && leb x 0x2FF) (leb 0x370 x && leb x 0x482) (true-T e)
+      (λ t. let w = in-range 0xA0 0x2FF x (is-true _ t) in narrow-width 0xA0 0x2FF tt tt (w .0) (w .1))
+      (λ t. let w = in-range 0x370 0x482 x (is-true _ t) in narrow-width 0x370 0x482 tt tt (w .0) (w .1))
+
+  pub printable-width : (leb 0x20 x && leb x 0x7E) ≡ true → 1 ≡ profileOf p .width x
+  unfolding quiet-test clear controls extends wides
+  printable-width e = let w = in-range 0x20 0x7E x e in narrow-width 0x20 0x7E tt tt (w .0) (w .1)
+
+  pub wide-width : 0x3041 ≤ x → x ≤ 0xA4CF → 2 ≡ profileOf p .width x
   unfolding profileOf width01 clear wides inAny quiet-test controls extends among number
-  wide-width e =
-      let q = and-T (leb 0x3041 x) (leb x 0xA4CF) (true-T e) in
-      let lo : 0x3041 ≤ x = leb→le _ _ (q .0) in
-      let hi : x ≤ 0xA4CF = leb→le _ _ (q .1) in
-      sym (rw (quiet-other 0x3041 0xA4CF x tt lo hi, clear-within (to 0x1100 0x115F) 0x3041 0xA4CF x tt lo hi, clear-within (to 0x2E80 0x303E) 0x3041 0xA4CF x tt lo hi, e) refl)
+  wide-width lo hi =
+      sym (rw (quiet-other 0x3041 0xA4CF x tt lo hi, clear-within (to 0x1100 0x115F) 0x3041 0xA4CF x tt lo hi, clear-within (to 0x2E80 0x303E) 0x3041 0xA4CF x tt lo hi, le-leb 0x3041 x lo, le-leb x 0xA4CF hi) refl)
+
+  pub syllable-width : 0xAC00 ≤ x → x ≤ 0xD7A3 → 2 ≡ profileOf p .width x
+  unfolding profileOf width01 inAny wides clear among number
+  syllable-width lo hi =
+      let w₁ = clear-within (to 0x1100 0x115F) 0xAC00 0xD7A3 x tt lo hi in
+      let w₂ = clear-within (to 0x2E80 0x303E) 0xAC00 0xD7A3 x tt lo hi in
+      let w₃ = clear-within (to 0x3041 0xA4CF) 0xAC00 0xD7A3 x tt lo hi in
+      let w₄ = clear-within (to 0xA960 0xA97C) 0xAC00 0xD7A3 x tt lo hi in
+      cases (eqb ((x - 0xAC00) % 28) 0)
+      (λ z. sym (rw (← syllable-class p x lo hi 8 (rw z refl), w₁, w₂, w₃, w₄, le-leb 0xAC00 x lo, le-leb x 0xD7A3 hi) refl))
+      (λ z. sym (rw (← syllable-class p x lo hi 9 (rw z refl), w₁, w₂, w₃, w₄, le-leb 0xAC00 x lo, le-leb x 0xD7A3 hi) refl))

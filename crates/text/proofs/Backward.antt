@@ -1,5 +1,5 @@
 -- A text read backward: the regional indicators that end at a place, a boundary there, and where the last cluster begins.
-use Prim.Native.Nat.{_+_, _-_, _<_, _≤_, ℕ}
+use Prim.Native.Nat.{_-_, _<_, _≤_, ℕ}
 use native.Mathlib.Omega.{arith}
 use mathlib.Core.Bool.{Bool, _&&_, and-false, false, not, true}
 use mathlib.Core.List.{List, [], _∷_, reverse, reverse-reverse, reverseAux}
@@ -16,7 +16,7 @@ use Rattle.text.specs.Tests.{cases}
 use Rattle.text.specs.Utf8.{Scalar, decode, decodeFrom, runOf}
 use Rattle.text.specs.declared.utf8.Sequence.{Sequence}
 use Rattle.text.proofs.Ascii.{alone, alone-numbers, ascii-sequence, lone, lone-low, low-tail, regional-back}
-use Rattle.text.proofs.Common.{begins-alone}
+use Rattle.text.proofs.Leads.{begins-alone}
 use Rattle.text.proofs.Runs.{back-scalar, run-drop, run-head, run-inside, size-pos, size-reverse}
 use Rattle.text.proofs.Tails.{back-here}
 use Rattle.text.specs.declared.class.Profile as code

@@ -3,7 +3,7 @@ pub mod Units
 pub mod Tails
 pub mod Runs
 pub mod Ascii
-pub mod Common
+pub mod Leads
 pub mod Walks
 pub mod Backward
 pub mod Texts

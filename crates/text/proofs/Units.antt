@@ -1,5 +1,5 @@
 -- The sequence at a place, by its four bytes.
-use Prim.Native.Nat.{_%_, _*_, _+_, _<_, _≤_, suc, zero, zero-le, ℕ}
+use Prim.Native.Nat.{_+_, _<_, _≤_, suc, zero, zero-le, ℕ}
 use native.Mathlib.Nat.{add-assoc, add-zero}
 use native.Mathlib.Omega.{arith}
 use mathlib.Core.Bool.{Bool, _&&_, and-true, cond, true}
@@ -8,10 +8,10 @@ use mathlib.Core.Logic.{_≢_}
 use mathlib.Core.Path.{_∙_, _≡_, ap, refl, sym}
 use lib.Dec.{leb}
 use lib.ListN.{drop, drop-of-length-le, getD, length, length-drop, take}
-use lib.Seq.{drop-drop, getD-drop, length-take-le, take-all}
+use lib.Seq.{drop-drop, getD-drop, length-take-le}
 use borrow.Author.Tests.{le-leb}
 use Rattle.text.specs.Code.{firstSequence, runOf, sequenceOf, size}
-use Rattle.text.specs.Utf8.{Scalar, decode, decodeFrom, fits, lengthIn, more, scalar, sequence, table, value}
+use Rattle.text.specs.Utf8.{Scalar, decode, decodeFrom, fits, lengthIn, scalar, sequence, table, value}
 use Rattle.text.specs.Utf8.Laws.{decode-bad, decode-good, sequence-le}
 use Rattle.text.specs.declared.utf8.Sequence.{Sequence}
 
@@ -95,10 +95,6 @@ decode-at s p a b c d n v h ea eb ec ed en ev =
     let gc : getD (drop p s) 2 0 ≡ c = getD-drop p s 2 0 ∙ sym ec in
     let gd : getD (drop p s) 3 0 ≡ d = getD-drop p s 3 0 ∙ sym ed in
     first-pad (drop p s) (rw (length-drop p s) (omega arith)) n v (rw (ga, gb, gc, gd) en) (rw (ga, gb, gc, gd) ev)
-
-pub value-four : (n a b c d : ℕ) → 4 ≤ n → ((a % 8 * 64 + b % 64) * 64 + c % 64) * 64 + d % 64 ≡ value (take n (a ∷ b ∷ c ∷ d ∷ []))
-unfolding value more
-value-four n a b c d h = rw (take-all n (a ∷ b ∷ c ∷ d ∷ []) h)
 
 -- ---- the run from a place, one scalar after the other
 

@@ -12,14 +12,14 @@ use borrow.Author.Tests.{eqb-false, eqb-true, ltb-false, ltb-true, not-true}
 use Rattle.text.specs.Class.{Profile, number}
 use Rattle.text.specs.Cluster.{Context, after, classOf, clusters, context, joined, joins, start}
 use Rattle.text.specs.Cluster.Laws.{clusters-first, further}
-use Rattle.text.specs.Code.{beginsCluster, contextOf, firstOf, firstSequence, firstSize, moreFrom, profileOf, sequenceOf, singleAt, size, unitOf}
+use Rattle.text.specs.Code.{beginsCluster, contextOf, endsBefore, firstOf, firstSequence, firstSize, moreFrom, profileOf, sequenceOf, singleAt, size, unitOf}
 use Rattle.text.specs.Tests.{and-T, cases, is-true, or-T, true-T}
 use Rattle.text.specs.Utf8.{Scalar, decode, runOf}
 use Rattle.text.specs.Width.{widthOf}
 use Rattle.text.specs.declared.cluster.Unit.{Unit}
 use Rattle.text.specs.declared.utf8.Sequence.{Sequence}
 use Rattle.text.proofs.Ascii.{alone-numbers, apart, ascii-sequence, breaks}
-use Rattle.text.proofs.Common.{begins-alone}
+use Rattle.text.proofs.Leads.{begins-alone, ends-apart}
 use Rattle.text.proofs.Units.{run-bad, run-end, run-good, run-room, run-size, scalarAt}
 use Rattle.text.specs.declared.class.Profile as code
 
@@ -129,21 +129,24 @@ module _ (P : Profile) (s : List ℕ) (p : ℕ) (u : Unit) (here : p < length s)
       unfolding moreFrom
       go-on t = let x = run-some z in rw (x .run, x .class, sym rr ∙ t, x .size, ← add-assoc) at same
 
--- a byte that begins a cluster ends one
-more-begins : (v : code.Profile) (s : List ℕ) (p prev : ℕ) (k : Context) → p < length s → beginsCluster (getD s p 0) ≡ true → moreFrom (profileOf v) prev k (runOf (decode (drop p s))) ≡ 0
+-- a scalar that is not joined ends a cluster
+more-apart : (v : code.Profile) (s : List ℕ) (p prev : ℕ) (k : Context) → p < length s → joined prev k (number (profileOf v .class (firstSequence (decode (drop p s)) .code))) ≡ false
+    → moreFrom (profileOf v) prev k (runOf (decode (drop p s))) ≡ 0
 unfolding moreFrom
-more-begins v s p prev k h e =
+more-apart v s p prev k h e =
     let u : Unit = unitOf (profileOf v) (firstSequence (decode (drop p s))) in
     cases (eqb (u .len) 0)
     (λ z. rw (run-none (profileOf v) s p u h refl (eqb-true (u .len) 0 z)) refl)
-    (λ z.
-    let x = run-some (profileOf v) s p u h refl (eqb-false (u .len) 0 z) in
-    rw (x .run, x .class, alone-numbers prev k (u .class) (begins-alone v s p h e)) refl)
+    (λ z. let x = run-some (profileOf v) s p u h refl (eqb-false (u .len) 0 z) in rw (x .run, x .class, e) refl)
 
-pub stop-before : (v : code.Profile) (s : List ℕ) (p prev b : ℕ) (odd r : Bool) (total : ℕ) → p < length s → b ≡ getD s p 0 → r ≡ beginsCluster b → r ≡ true
+-- so does a byte that begins a cluster
+pub more-begins : (v : code.Profile) (s : List ℕ) (p prev : ℕ) (k : Context) → p < length s → beginsCluster (getD s p 0) ≡ true → moreFrom (profileOf v) prev k (runOf (decode (drop p s))) ≡ 0
+more-begins v s p prev k h e = more-apart v s p prev k h (alone-numbers prev k _ (begins-alone v s p h e))
+
+pub stop-before : (v : code.Profile) (s : List ℕ) (p prev b : ℕ) (odd r : Bool) (total : ℕ) → p < length s → b ≡ getD s p 0 → r ≡ endsBefore prev odd b → r ≡ true
     → total ≡ p + moreFrom (profileOf v) prev (contextOf odd) (runOf (decode (drop p s))) → p ≡ total
 stop-before v s p prev b odd r total h e f t same =
-    sym (rw (more-begins v s p prev (contextOf odd) h (ap beginsCluster (sym e) ∙ sym f ∙ t), add-zero) at same)
+    sym (rw (more-apart v s p prev (contextOf odd) h (ends-apart v s p h prev odd (ap (endsBefore prev odd) (sym e) ∙ sym f ∙ t)), add-zero) at same)
 
 pub stop-end : (P : Profile) (s : List ℕ) (p prev : ℕ) (odd : Bool) (total : ℕ) → length s ≤ p → total ≡ p + moreFrom P prev (contextOf odd) (runOf (decode (drop p s))) → p ≡ total
 unfolding moreFrom

@@ -1,6 +1,6 @@
 -- Classes of scalars: UAX #29's Grapheme_Cluster_Break as document 01's profile has it; whitespace.
 use Prim.Native.Nat.{ℕ, _-_, _%_}
-use mathlib.Core.Bool.{Bool, true, false, cond, _||_}
+use mathlib.Core.Bool.{Bool, false, cond, _||_}
 use mathlib.Core.List.{List, [], _∷_}
 use lib.Dec.{eqb}
 use Rattle.text.specs.Utf8.{Range, to, within}
@@ -63,9 +63,12 @@ class01 v =
     (cond (within (to 0x1F1E6 0x1F1FF) v) regionalIndicator other)))))))))
 
 -- char::is_whitespace
+unfoldable pub spaces : List Range
+spaces = to 0x09 0x0D ∷ to 0x20 0x20 ∷ to 0x85 0x85 ∷ to 0xA0 0xA0 ∷ to 0x1680 0x1680 ∷ to 0x2000 0x200A ∷ to 0x2028 0x2029 ∷ to 0x202F 0x202F ∷ to 0x205F 0x205F ∷ to 0x3000 0x3000 ∷ []
+
 unfoldable pub whitespace : ℕ → Bool
-unfolding inAny
-whitespace = inAny (to 0x09 0x0D ∷ to 0x20 0x20 ∷ to 0x85 0x85 ∷ to 0xA0 0xA0 ∷ to 0x1680 0x1680 ∷ to 0x2000 0x200A ∷ to 0x2028 0x2029 ∷ to 0x202F 0x202F ∷ to 0x205F 0x205F ∷ to 0x3000 0x3000 ∷ [])
+unfolding inAny spaces
+whitespace = inAny spaces
 
 -- char::is_control
 unfoldable pub isControl : ℕ → Bool

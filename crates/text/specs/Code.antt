@@ -4,15 +4,15 @@ use mathlib.Core.Bool.{Bool, _&&_, _||_, cond, false, not, true}
 use mathlib.Core.List.{List, [], _++_, _∷_, reverse, reverseAux}
 use mathlib.Core.Logic.{_≢_, _⊎_}
 use mathlib.Core.Path.{_≡_}
-use lib.Dec.{eqb, ltb}
+use lib.Dec.{eqb, leb, ltb}
 use lib.ListN.{drop, getD, length, replicate, take}
 use lib.Seq.{slice}
 use Rattle.text.specs.Calls.{Converted}
-use Rattle.text.specs.Class.{Class, Profile, classLV, classLVT, number}
+use Rattle.text.specs.Class.{Class, Profile, classL, classLV, classLVT, classT, classV, number}
 use Rattle.text.specs.Cluster.{Context, after, classOf, clusters, context, joined, joins}
 use Rattle.text.specs.Overstrike.{Pending, State, Style, backspace, bold, boldUnderline, convertPieces, convertRun, finish, held, none, normal, onBackspace, onCluster, order, push, state, struck, underline}
 use Rattle.text.specs.Overstrike.Length.{weight}
-use Rattle.text.specs.Utf8.{Decoded, Range, Scalar, ascii, asciis, bytesOf, decode, illFormed, runs, tail, to, wellFormed, within}
+use Rattle.text.specs.Utf8.{Decoded, Scalar, ascii, asciis, bytesOf, decode, illFormed, runs, tail, to, wellFormed, within}
 use Rattle.text.specs.Width.{profile01}
 unfoldable pub use Rattle.text.specs.Utf8.{runOf}
 use Rattle.text.specs.declared.Answer.{Answer}
@@ -43,6 +43,24 @@ firstSequence [] = sequenceOf 0 0
 firstSequence (wellFormed c ∷ ds) = sequenceOf (c .code) (length (c .bytes))
 firstSequence (illFormed b ∷ ds) = sequenceOf 0 0
 
+-- a continuation byte
+abbrev pub isTail : ℕ → Bool
+isTail b = within tail b
+
+-- the sequences of two, three and four bytes by their values: none longer than need be, no surrogate, nothing above 10FFFF
+abbrev pub twoBytes : ℕ → ℕ → Sequence
+twoBytes a b = cond (leb 0xC2 a && isTail b) (sequenceOf (a % 32 * 64 + b % 64) 2) (sequenceOf 0 0)
+
+abbrev pub threeBytes : ℕ → ℕ → ℕ → Sequence
+threeBytes a b c =
+    let x : ℕ = (a % 16 * 64 + b % 64) * 64 + c % 64 in
+    cond ((isTail b && isTail c) && (leb 0x800 x && (ltb x 0xD800 || ltb 0xDFFF x))) (sequenceOf x 3) (sequenceOf 0 0)
+
+abbrev pub fourBytes : ℕ → ℕ → ℕ → ℕ → Sequence
+fourBytes a b c d =
+    let x : ℕ = ((a % 8 * 64 + b % 64) * 64 + c % 64) * 64 + d % 64 in
+    cond ((leb a 0xF4 && (isTail b && (isTail c && isTail d))) && (leb 0x10000 x && leb x 0x10FFFF)) (sequenceOf x 4) (sequenceOf 0 0)
+
 -- the number of a text's bytes
 unfoldable pub size : List Scalar → ℕ
 size [] = 0
@@ -56,13 +74,12 @@ whole t = bytesOf (runOf (decode t)) ≡ t
 abbrev pub regionalAt : List ℕ → ℕ → Bool
 regionalAt s i = eqb (getD s i 0) 0xF0 && (eqb (getD s (i + 1) 0) 0x9F && (eqb (getD s (i + 2) 0) 0x87 && within (to 0xA6 0xBF) (getD s (i + 3) 0)))
 
--- ranges of common scalars of class other
-unfoldable pub quiets : List Range
-quiets = to 0x20 0x7E ∷ to 0xA0 0x2FF ∷ to 0x370 0x482 ∷ to 0x2100 0xA95F ∷ to 0x1F200 0xE00FF ∷ []
-
--- the class of a Hangul syllable
+-- the class of a Hangul syllable, and of U+1100 to U+11FF
 abbrev pub syllable : ℕ → Class
 syllable v = cond (eqb ((v - 0xAC00) % 28) 0) classLV classLVT
+
+abbrev pub jamo : ℕ → Class
+jamo v = cond (leb v 0x115F) classL (cond (leb v 0x11A7) classV classT)
 
 -- ---- the walk through a cluster
 
@@ -70,29 +87,25 @@ syllable v = cond (eqb ((v - 0xAC00) % 28) 0) classLV classLVT
 abbrev pub unitOf : Profile → Sequence → Unit
 unitOf P u = record { code = u .code; len = u .len; class = number (P .class (u .code)) }
 
--- the bytes of U+0300 to U+033F, of U+00C0 to U+02FF and U+0380 to U+047F, and of U+3000 to U+9FFF
-abbrev pub markBytes : ℕ → ℕ → Bool
-markBytes a b = eqb a 0xCC && within tail b
-
+-- the first bytes of U+00C0 to U+02FF and of U+0380 to U+047F
 abbrev pub letterLead : ℕ → Bool
 letterLead a = within (to 0xC3 0xCB) a || within (to 0xCE 0xD1) a
-
-abbrev pub letterBytes : ℕ → ℕ → Bool
-letterBytes a b = letterLead a && within tail b
-
-abbrev pub ideographBytes : ℕ → ℕ → ℕ → Bool
-ideographBytes a b c = within (to 0xE3 0xE9) a && (within tail b && within tail c)
 
 -- a control, or a byte below 80 and behind it another or nothing, CR apart
 abbrev pub singleAt : List ℕ → ℕ → Bool
 singleAt s i = (ltb (getD s i 0) 0x20 || (ltb (getD s i 0) 0x80 && ltb (getD s (i + 1) 0) 0x80)) && not (eqb (getD s i 0) 0x0D)
 
--- a byte below 80, LF apart; such a byte, or the first of a letter or an ideograph as above
+-- a byte below 80, LF apart; such a byte, or the first of a letter as above or of U+3000 to U+9FFF
 abbrev pub loneByte : ℕ → Bool
 loneByte b = ltb b 0x80 && not (eqb b 0x0A)
 
 abbrev pub beginsCluster : ℕ → Bool
-beginsCluster b = loneByte b || (letterLead b || within (to 0xE3 0xE9) b)
+beginsCluster b = cond (ltb b 0x80) (not (eqb b 0x0A)) (within (to 0xE3 0xE9) b || letterLead b)
+
+-- a byte that ends a cluster whose last scalar is of class p, odd where an odd number of regional indicators ends it: one that begins a
+-- cluster; F0, which begins a regional indicator at most; EA to EC, which begin what joins L alone
+abbrev pub endsBefore : ℕ → Bool → ℕ → Bool
+endsBefore p odd b = cond (beginsCluster b) true (cond (eqb b 0xF0) (not odd) (cond (within (to 0xEA 0xEC) b) (not (eqb p 5)) false))
 
 abbrev pub contextOf : Bool → Context
 contextOf o = record { odd = o }
@@ -115,10 +128,6 @@ module _ (P : Profile) where
   firstSize s = size (firstOf (clusters P s))
 
 -- ---- backward: a text's last cluster
-
--- a continuation byte
-abbrev pub isTail : ℕ → Bool
-isTail b = within tail b
 
 -- the last place before q that holds no continuation byte
 unfoldable pub back : List ℕ → ℕ → ℕ

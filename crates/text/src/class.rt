@@ -1,8 +1,8 @@
 // Classes of scalars: UAX #29's Grapheme_Cluster_Break, whitespace.
 ghost use mathlib.Core.Path.{_≡_};
-ghost use Prim.Native.Nat.{_≤_};
+ghost use Prim.Native.Nat.{_≤_, _<_};
 ghost use Rattle.text.specs.Class.{number, inAny, controls, extends, whitespace, isControl};
-ghost use Rattle.text.specs.Code.{profileOf, quiets, syllable};
+ghost use Rattle.text.specs.Code.{profileOf, jamo, syllable};
 
 // The version of the text profile that classes and widths are taken from: 0 is document 01's.
 pub struct Profile {
@@ -69,6 +69,19 @@ fn syllable_class(x: u32) -> u8
     LVT
 }
 
+// The number of the class of one of U+1100 to U+11FF.
+fn jamo_class(x: u32) -> u8
+    ensures { λ r. ⌜ r ≡ number (jamo x) ⌝ }
+{
+    if x <= 0x115F {
+        return L;
+    }
+    if x <= 0x11A7 {
+        return V;
+    }
+    T
+}
+
 // The number of a scalar's class, by the ranges of the profile.
 fn class_in_ranges(profile: Profile, x: u32) -> u8
     ensures { λ r. ⌜ r ≡ number (profileOf profile .class x) ⌝ }
@@ -106,31 +119,47 @@ fn class_in_ranges(profile: Profile, x: u32) -> u8
     OTHER
 }
 
-// Is the scalar one of the common ones of class other?
-fn is_quiet(x: u32) -> bool
-    ensures { λ r. ⌜ r ≡ inAny quiets x ⌝ }
+// The number of the class of one of U+0300 to U+11FF.
+fn low_class(profile: Profile, x: u32) -> u8
+    requires { ⌜ (0x300 ≤ x) × (x < 0x1200) ⌝ }
+    ensures { λ r. ⌜ r ≡ number (profileOf profile .class x) ⌝ }
 {
-    ((0x20 <= x) & (x <= 0x7E))
-        | (((0xA0 <= x) & (x <= 0x2FF))
-            | (((0x370 <= x) & (x <= 0x482))
-                | (((0x2100 <= x) & (x <= 0xA95F)) | ((0x1F200 <= x) & (x <= 0xE00FF)))))
+    if x <= 0x36F {
+        return EXTEND;
+    }
+    if x <= 0x482 {
+        return OTHER;
+    }
+    if x < 0x1100 {
+        return class_in_ranges(profile, x);
+    }
+    jamo_class(x)
 }
 
-// The number of a scalar's class.
+// The number of a scalar's class, the common ones found first.
 pub fn class(profile: Profile, x: u32) -> u8
     ensures { λ r. ⌜ r ≡ number (profileOf profile .class x) ⌝ }
 {
-    if is_quiet(x) {
-        return OTHER;
+    if x < 0x300 {
+        if ((0x20 <= x) & (x <= 0x7E)) | (0xA0 <= x) {
+            return OTHER;
+        }
+        return class_in_ranges(profile, x);
     }
-    if (0x300 <= x) & (x <= 0x36F) {
-        return EXTEND;
+    if x < 0x1200 {
+        return low_class(profile, x);
+    }
+    if (0x2100 <= x) & (x <= 0xA95F) {
+        return OTHER;
     }
     if (0xAC00 <= x) & (x <= 0xD7A3) {
         return syllable_class(x);
     }
-    if (0x1F1E6 <= x) & (x <= 0x1F1FF) {
-        return REGIONAL_INDICATOR;
+    if (0x1F1E6 <= x) & (x <= 0xE00FF) {
+        if x <= 0x1F1FF {
+            return REGIONAL_INDICATOR;
+        }
+        return OTHER;
     }
     class_in_ranges(profile, x)
 }

@@ -14,7 +14,7 @@ use super::class::V;
 use super::class::ZWJ;
 use super::class::class;
 use super::utf8::byte_at;
-use super::utf8::decode;
+use super::utf8::decode_long;
 ghost use mathlib.Core.Path.{_≡_};
 ghost use Prim.Native.Nat.{_+_, _≤_, _<_};
 ghost use mathlib.Core.List.{reverse};
@@ -23,7 +23,7 @@ ghost use lib.Seq.{slice};
 ghost use Rattle.text.specs.Utf8.{decode};
 ghost use Rattle.text.specs.Class.{number};
 ghost use Rattle.text.specs.Cluster.{start, after, joined};
-ghost use Rattle.text.specs.Code.{profileOf, firstSequence, unitOf, markBytes, letterBytes, ideographBytes, singleAt, loneByte, beginsCluster, runOf, size, contextOf, seen, moreFrom, firstSize, back, whole, withoutLast, EvenAt, OddTo, JoinsAt, regionalAt, IndicatorsTo};
+ghost use Rattle.text.specs.Code.{profileOf, firstSequence, unitOf, singleAt, loneByte, beginsCluster, endsBefore, runOf, size, contextOf, seen, moreFrom, firstSize, back, whole, withoutLast, EvenAt, OddTo, JoinsAt, regionalAt, IndicatorsTo};
 
 // What the rules ask of the scalars before a place: the last one's class, and whether an odd number of regional indicators ends there.
 pub struct Seen {
@@ -89,33 +89,20 @@ pub struct Unit {
     pub class: u8,
 }
 
-// Do two bytes stand for one of U+0300 to U+033F, which are of class Extend?
-fn is_mark(a: u32, b: u32) -> bool
-    ensures { λ r. ⌜ r ≡ markBytes a b ⌝ }
-{
-    (a == 0xCC) & ((0x80 <= b) & (b <= 0xBF))
-}
-
-// Do two bytes stand for one of U+00C0 to U+02FF or of U+0380 to U+047F, which are of class other?
-fn is_letter(a: u32, b: u32) -> bool
-    ensures { λ r. ⌜ r ≡ letterBytes a b ⌝ }
-{
-    (((0xC3 <= a) & (a <= 0xCB)) | ((0xCE <= a) & (a <= 0xD1))) & ((0x80 <= b) & (b <= 0xBF))
-}
-
-// Do three bytes stand for one of U+3000 to U+9FFF, which are of class other?
-fn is_ideograph(a: u32, b: u32, c: u32) -> bool
-    ensures { λ r. ⌜ r ≡ ideographBytes a b c ⌝ }
-{
-    ((0xE3 <= a) & (a <= 0xE9)) & (((0x80 <= b) & (b <= 0xBF)) & ((0x80 <= c) & (c <= 0xBF)))
-}
-
 // The sequence at a place with its class.
 pub fn decoded_unit(profile: Profile, s: &[u8], at: usize) -> Unit
     requires { ⌜ at < length (now s) ⌝ }
     ensures { λ r. ⌜ r ≡ unitOf (profileOf profile) (firstSequence (decode (drop at (now (s .entry))))) ⌝ }
 {
-    let u = decode(s, at);
+    let a = s[at] as u32;
+    if a <= 0x7F {
+        return Unit {
+            code: a,
+            len: 1,
+            class: class(profile, a),
+        };
+    }
+    let u = decode_long(s, at);
     Unit {
         code: u.code,
         len: u.len,
@@ -123,51 +110,12 @@ pub fn decoded_unit(profile: Profile, s: &[u8], at: usize) -> Unit
     }
 }
 
-// The same, the common ones by their bytes.
-fn unit_at(profile: Profile, s: &[u8], at: usize) -> Unit
-    requires { ⌜ at < length (now s) ⌝ }
-    ensures { λ r. ⌜ r ≡ unitOf (profileOf profile) (firstSequence (decode (drop at (now (s .entry))))) ⌝ }
-{
-    let a = byte_at(s, at);
-    if (0x20 <= a) & (a <= 0x7E) {
-        return Unit {
-            code: a,
-            len: 1,
-            class: OTHER,
-        };
-    }
-    let b = byte_at(s, at + 1);
-    if is_mark(a, b) {
-        return Unit {
-            code: a % 32 * 64 + b % 64,
-            len: 2,
-            class: EXTEND,
-        };
-    }
-    if is_letter(a, b) {
-        return Unit {
-            code: a % 32 * 64 + b % 64,
-            len: 2,
-            class: OTHER,
-        };
-    }
-    let c = byte_at(s, at + 2);
-    if is_ideograph(a, b, c) {
-        return Unit {
-            code: (a % 16 * 64 + b % 64) * 64 + c % 64,
-            len: 3,
-            class: OTHER,
-        };
-    }
-    decoded_unit(profile, s, at)
-}
-
 // Is the byte at a place a cluster: a control, or a byte below 80 before another or the end? CR apart.
 fn is_single(s: &[u8], at: usize) -> bool
     requires { ⌜ at < length (now s) ⌝ }
     ensures { λ r. ⌜ r ≡ singleAt (now (s .entry)) at ⌝ }
 {
-    let a = byte_at(s, at);
+    let a = s[at] as u32;
     let b = byte_at(s, at + 1);
     ((a < 0x20) | ((a < 0x80) & (b < 0x80))) & (a != 0x0D)
 }
@@ -179,13 +127,30 @@ pub fn is_lone(b: u32) -> bool
     (b < 0x80) & (b != 0x0A)
 }
 
-// Is it such a byte, or the first of a letter or an ideograph as above, which no rule joins to what stands before?
-fn begins_cluster(b: u32) -> bool
+// Is it such a byte, or the first of one of U+00C0 to U+02FF, U+0380 to U+047F or U+3000 to U+9FFF? No rule joins these either.
+pub fn begins_cluster(b: u32) -> bool
     ensures { λ r. ⌜ r ≡ beginsCluster b ⌝ }
 {
-    ((b < 0x80) & (b != 0x0A))
-        | ((((0xC3 <= b) & (b <= 0xCB)) | ((0xCE <= b) & (b <= 0xD1)))
-            | ((0xE3 <= b) & (b <= 0xE9)))
+    if b < 0x80 {
+        return b != 0x0A;
+    }
+    ((0xE3 <= b) & (b <= 0xE9)) | (((0xC3 <= b) & (b <= 0xCB)) | ((0xCE <= b) & (b <= 0xD1)))
+}
+
+// Does a byte end a cluster that ends in these scalars? F0 begins a regional indicator at most, EA to EC what joins L alone.
+fn ends_before(s: Seen, b: u32) -> bool
+    ensures { λ r. ⌜ r ≡ endsBefore (s .class) (s .odd) b ⌝ }
+{
+    if begins_cluster(b) {
+        return true;
+    }
+    if b == 0xF0 {
+        return !s.odd;
+    }
+    if (0xEA <= b) & (b <= 0xEC) {
+        return s.class != L;
+    }
+    false
 }
 
 // The end of the cluster that a scalar of class c begins, whose next scalar stands at `from`.
@@ -196,10 +161,10 @@ fn more_end(profile: Profile, s: &[u8], from: usize, c: u8) -> usize
     let mut p = from;
     let mut before = with_scalar(false, c);
     while p < s.len() {
-        if begins_cluster(byte_at(s, p)) {
+        if ends_before(before, byte_at(s, p)) {
             return p;
         }
-        let u = unit_at(profile, s, p);
+        let u = decoded_unit(profile, s, p);
         if u.len == 0 {
             return p;
         }
@@ -213,7 +178,19 @@ fn more_end(profile: Profile, s: &[u8], from: usize, c: u8) -> usize
     p
 }
 
-// The end of the cluster that begins at a place; the place itself where a damaged byte stands there.
+// The end of the cluster that begins at a place, scalar by scalar; the place itself where a damaged byte stands there.
+fn walked_end(profile: Profile, s: &[u8], at: usize) -> usize
+    requires { ⌜ at < length (now s) ⌝ }
+    ensures { λ r. ⌜ r ≡ at + firstSize (profileOf profile) (runOf (decode (drop at (now (s .entry))))) ⌝ }
+{
+    let u = decoded_unit(profile, s, at);
+    if u.len == 0 {
+        return at;
+    }
+    more_end(profile, s, at + u.len, u.class)
+}
+
+// The same, single bytes told first.
 pub fn first_end(profile: Profile, s: &[u8], at: usize) -> usize
     requires { ⌜ at < length (now s) ⌝ }
     ensures { λ r. ⌜ r ≡ at + firstSize (profileOf profile) (runOf (decode (drop at (now (s .entry))))) ⌝ }
@@ -221,11 +198,7 @@ pub fn first_end(profile: Profile, s: &[u8], at: usize) -> usize
     if is_single(s, at) {
         return at + 1;
     }
-    let u = unit_at(profile, s, at);
-    if u.len == 0 {
-        return at;
-    }
-    more_end(profile, s, at + u.len, u.class)
+    walked_end(profile, s, at)
 }
 
 // The same within the stretch that ends at `end`.

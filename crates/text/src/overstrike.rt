@@ -9,13 +9,12 @@ use super::cluster::last_start;
 use super::utf8::byte_at;
 ghost use mathlib.Core.Path.{_≡_};
 ghost use mathlib.Core.Bool.{true};
-ghost use mathlib.Core.Logic.{_≢_};
 ghost use Prim.Native.Nat.{_+_, _-_, _*_, _≤_, _<_};
 ghost use mathlib.Core.List.{[], _++_, _∷_};
-ghost use lib.ListN.{length, take, drop};
-ghost use Rattle.text.specs.Utf8.{sameBytes, decode, runs, bytesOf};
-ghost use Rattle.text.specs.Overstrike.{bolded, underlined, ambiguous, backspace, step, convertRun, convertPieces, hasBackspace, convert};
-ghost use Rattle.text.specs.Code.{profileOf, runOf, whole, backward, EvenAt, KeptEven, Front, FrontEven, BackReady, PairEnd, EvenBetween, EvenChoice, Pushed, styleOf, orderOf, partOf, stateOf, Sound, Stepped, clusterOn, finishOn, BackspaceStep, StruckStep, StepReady, FinishReady, Finished, conversion, plain, Strike, Wrote, changedStyle, SpanDone, PieceReady, PieceDone};
+ghost use lib.ListN.{length, take};
+ghost use Rattle.text.specs.Utf8.{sameBytes, decode, runs};
+ghost use Rattle.text.specs.Overstrike.{bolded, underlined, ambiguous, backspace, step, convertPieces, hasBackspace, convert};
+ghost use Rattle.text.specs.Code.{profileOf, whole, backward, EvenAt, KeptEven, FrontEven, BackReady, PairEnd, EvenBetween, EvenChoice, Pushed, styleOf, orderOf, partOf, stateOf, Stepped, BackspaceStep, StruckStep, StepReady, FinishReady, Finished, conversion, plain, Strike, Wrote, changedStyle, SpanDone, PieceReady, PieceDone};
 
 // An overstrike style.
 pub struct Overstrike {

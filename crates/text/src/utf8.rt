@@ -1,10 +1,9 @@
 // UTF-8 decoding.
 ghost use mathlib.Core.Path.{_≡_};
 ghost use Prim.Native.Nat.{_+_, _<_, _≤_};
-ghost use mathlib.Core.List.{[], _∷_};
-ghost use lib.ListN.{length, getD, take, drop};
-ghost use Rattle.text.specs.Utf8.{sequence, value, decode};
-ghost use Rattle.text.specs.Code.{firstSequence, runOf, size};
+ghost use lib.ListN.{length, getD, drop};
+ghost use Rattle.text.specs.Utf8.{decode};
+ghost use Rattle.text.specs.Code.{isTail, twoBytes, threeBytes, fourBytes, firstSequence, runOf, size};
 
 // A well-formed sequence: its scalar and the number of its bytes. Where none begins the length is 0.
 pub struct Sequence {
@@ -19,66 +18,65 @@ pub fn byte_at(s: &[u8], at: usize) -> u32
     if at < s.len() { s[at] as u32 } else { 0 }
 }
 
-// The length of the sequence that four bytes begin with, or 0: Unicode, Table 3-7.
-fn sequence_of(a: u32, b: u32, c: u32, d: u32) -> usize
-    ensures { λ r. ⌜ r ≡ sequence (a ∷ b ∷ c ∷ d ∷ []) ⌝ }
+// Is it a continuation byte?
+fn is_tail(b: u32) -> bool
+    ensures { λ r. ⌜ r ≡ isTail b ⌝ }
 {
-    if a <= 0x7F {
-        return 1;
-    }
-    if ((0xC2 <= a) & (a <= 0xDF)) & ((0x80 <= b) & (b <= 0xBF)) {
-        return 2;
-    }
-    if ((0xE0 <= a) & (a <= 0xE0)) & (((0xA0 <= b) & (b <= 0xBF)) & ((0x80 <= c) & (c <= 0xBF))) {
-        return 3;
-    }
-    if ((0xE1 <= a) & (a <= 0xEC)) & (((0x80 <= b) & (b <= 0xBF)) & ((0x80 <= c) & (c <= 0xBF))) {
-        return 3;
-    }
-    if ((0xED <= a) & (a <= 0xED)) & (((0x80 <= b) & (b <= 0x9F)) & ((0x80 <= c) & (c <= 0xBF))) {
-        return 3;
-    }
-    if ((0xEE <= a) & (a <= 0xEF)) & (((0x80 <= b) & (b <= 0xBF)) & ((0x80 <= c) & (c <= 0xBF))) {
-        return 3;
-    }
-    if ((0xF0 <= a) & (a <= 0xF0))
-        & (((0x90 <= b) & (b <= 0xBF))
-            & (((0x80 <= c) & (c <= 0xBF)) & ((0x80 <= d) & (d <= 0xBF))))
-    {
-        return 4;
-    }
-    if ((0xF1 <= a) & (a <= 0xF3))
-        & (((0x80 <= b) & (b <= 0xBF))
-            & (((0x80 <= c) & (c <= 0xBF)) & ((0x80 <= d) & (d <= 0xBF))))
-    {
-        return 4;
-    }
-    if ((0xF4 <= a) & (a <= 0xF4))
-        & (((0x80 <= b) & (b <= 0x8F))
-            & (((0x80 <= c) & (c <= 0xBF)) & ((0x80 <= d) & (d <= 0xBF))))
-    {
-        return 4;
-    }
-    0
+    (0x80 <= b) & (b <= 0xBF)
 }
 
-// The scalar that the first n of four bytes stand for: Unicode, Table 3-6.
-fn value_of(n: usize, a: u32, b: u32, c: u32, d: u32) -> u32
-    ensures { λ r. ⌜ r ≡ value (take n (a ∷ b ∷ c ∷ d ∷ [])) ⌝ }
+// The sequence of two bytes, the first of which is below E0: Unicode, Table 3-6.
+fn two(a: u32, b: u32) -> Sequence
+    ensures { λ r. ⌜ r ≡ twoBytes a b ⌝ }
 {
-    if n == 0 {
-        return 0;
+    if (0xC2 <= a) & is_tail(b) {
+        return Sequence {
+            code: a % 32 * 64 + b % 64,
+            len: 2,
+        };
     }
-    if n == 1 {
-        return a;
+    Sequence { code: 0, len: 0 }
+}
+
+// The sequence of three bytes, the first of which is E0 to EF.
+fn three(a: u32, b: u32, c: u32) -> Sequence
+    ensures { λ r. ⌜ r ≡ threeBytes a b c ⌝ }
+{
+    let x = (a % 16 * 64 + b % 64) * 64 + c % 64;
+    if (is_tail(b) & is_tail(c)) & ((0x800 <= x) & ((x < 0xD800) | (0xDFFF < x))) {
+        return Sequence { code: x, len: 3 };
     }
-    if n == 2 {
-        return a % 32 * 64 + b % 64;
+    Sequence { code: 0, len: 0 }
+}
+
+// The sequence of four bytes, the first of which is F0 or above.
+fn four(a: u32, b: u32, c: u32, d: u32) -> Sequence
+    ensures { λ r. ⌜ r ≡ fourBytes a b c d ⌝ }
+{
+    let x = ((a % 8 * 64 + b % 64) * 64 + c % 64) * 64 + d % 64;
+    if ((a <= 0xF4) & (is_tail(b) & (is_tail(c) & is_tail(d))))
+        & ((0x10000 <= x) & (x <= 0x10FFFF))
+    {
+        return Sequence { code: x, len: 4 };
     }
-    if n == 3 {
-        return (a % 16 * 64 + b % 64) * 64 + c % 64;
+    Sequence { code: 0, len: 0 }
+}
+
+// The sequence at a byte above 7F.
+pub fn decode_long(s: &[u8], at: usize) -> Sequence
+    requires { ⌜ (at < length (now s)) × (0x7F < getD (now s) at 0) ⌝ }
+    ensures { λ r. ⌜ r ≡ firstSequence (decode (drop at (now (s .entry)))) ⌝ }
+{
+    let a = s[at] as u32;
+    let b = byte_at(s, at + 1);
+    let c = byte_at(s, at + 2);
+    if a <= 0xDF {
+        return two(a, b);
     }
-    ((a % 8 * 64 + b % 64) * 64 + c % 64) * 64 + d % 64
+    if a <= 0xEF {
+        return three(a, b, c);
+    }
+    four(a, b, c, byte_at(s, at + 3))
 }
 
 // The sequence at a place.
@@ -86,22 +84,11 @@ pub fn decode(s: &[u8], at: usize) -> Sequence
     requires { ⌜ at < length (now s) ⌝ }
     ensures { λ r. ⌜ r ≡ firstSequence (decode (drop at (now (s .entry)))) ⌝ }
 {
-    let a = byte_at(s, at);
+    let a = s[at] as u32;
     if a <= 0x7F {
         return Sequence { code: a, len: 1 };
     }
-    // no sequence begins with these
-    if (a <= 0xC1) | (0xF5 <= a) {
-        return Sequence { code: 0, len: 0 };
-    }
-    let b = byte_at(s, at + 1);
-    let c = byte_at(s, at + 2);
-    let d = byte_at(s, at + 3);
-    let n = sequence_of(a, b, c, d);
-    Sequence {
-        code: value_of(n, a, b, c, d),
-        len: n,
-    }
+    decode_long(s, at)
 }
 
 // The end of the run of valid text that begins at a place.

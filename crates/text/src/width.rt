@@ -56,6 +56,12 @@ pub fn width(profile: Profile, x: u32) -> usize
     if (0x3041 <= x) & (x <= 0xA4CF) {
         return 2;
     }
+    if ((0xA0 <= x) & (x <= 0x2FF)) | ((0x370 <= x) & (x <= 0x482)) {
+        return 1;
+    }
+    if (0xAC00 <= x) & (x <= 0xD7A3) {
+        return 2;
+    }
     if has_no_width(profile, x) {
         return 0;
     }

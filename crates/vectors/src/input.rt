@@ -1,7 +1,6 @@
 // Standard input, some whole lines at a time.
 ghost use Prim.Native.Nat.{_≤_};
 ghost use lib.ListN.{length};
-ghost use mathlib.Core.Path.{_≡_};
 use super::Counts;
 
 // The place behind the last newline, or 0.

@@ -1,42 +1,62 @@
+use native.Mathlib.Omega.{arith}
 use borrow.Author.Needs.{needs}
-use Rattle.text.proofs.Ascii.{indicator-class, mark-class, quiet-class, syllable-class}
-use Rattle.text.proofs.Branch.{low-of}
+use Rattle.text.specs.Class.{controls, extends}
+use Rattle.text.proofs.Ascii.{clear, indicator-class, low-other, other-class, quiet-test, syllable-class}
+use Rattle.text.proofs.Branch.{in-range}
 use Rattle.text.proofs.class.class.Statement.{statement}
 use Rattle.text.proofs.class.class.Tie as tie
 
-is-quiet-requires : tie.Need-is-quiet-requires
-is-quiet-requires c κs = search needs
-
 returns : tie.Need-returns
-returns c = search quiet-class
-
-returns-2 : tie.Need-returns-2
-returns-2 c = mark-class _ _ (c .if2 .taken)
-
-syllable-class-requires : tie.Need-syllable-class-requires
-syllable-class-requires c κs = low-of _ _ _ (c .if3 .taken)
-
-returns-3 : tie.Need-returns-3
-returns-3 c = search syllable-class
-
-returns-4 : tie.Need-returns-4
-returns-4 c = indicator-class _ _ (c .if4 .taken)
+returns c = search low-other
 
 class-in-ranges-requires : tie.Need-class-in-ranges-requires
 class-in-ranges-requires c κs = search needs
 
+returns-2 : tie.Need-returns-2
+returns-2 c = search needs
+
+low-class-requires : tie.Need-low-class-requires
+low-class-requires c κs = (omega arith, omega arith)
+
+returns-3 : tie.Need-returns-3
+returns-3 c = search needs
+
+returns-4 : tie.Need-returns-4
+unfolding quiet-test clear controls extends
+returns-4 c = let w = in-range _ _ _ (c .if4 .taken) in other-class _ 0x2100 0xA95F _ tt (w .0) (w .1)
+
+syllable-class-requires : tie.Need-syllable-class-requires
+syllable-class-requires c κs = in-range _ _ _ (c .if5 .taken) .0
+
 returns-5 : tie.Need-returns-5
-returns-5 c = search needs
+returns-5 c = let w = in-range _ _ _ (c .before .if5 .taken) in syllable-class _ _ (w .0) (w .1) _ (c .syllable-class .ensures)
+
+returns-6 : tie.Need-returns-6
+returns-6 c = let w = in-range _ _ _ (c .before .if6 .taken) in indicator-class _ _ (w .0) (c .if7 .taken)
+
+returns-7 : tie.Need-returns-7
+unfolding quiet-test clear controls extends
+returns-7 c = other-class _ 0x1F200 0xE00FF _ tt (c .if7 .left) (in-range _ _ _ (c .before .if6 .taken) .1)
+
+class-in-ranges-requires-2 : tie.Need-class-in-ranges-requires-2
+class-in-ranges-requires-2 c κs = search needs
+
+returns-8 : tie.Need-returns-8
+returns-8 c = search needs
 
 pub class-spec : {M : Type 1} → statement M
 class-spec =
     tie.close
     (tie.spec
-    is-quiet-requires
     returns
+    class-in-ranges-requires
     returns-2
-    syllable-class-requires
+    low-class-requires
     returns-3
     returns-4
-    class-in-ranges-requires
-    returns-5)
+    syllable-class-requires
+    returns-5
+    returns-6
+    returns-7
+    class-in-ranges-requires-2
+    returns-8)

@@ -2,7 +2,7 @@ use borrow.Author.Needs.{needs}
 use Rattle.text.specs.Class.{class01, inAny, number}
 use Rattle.text.specs.Code.{profileOf}
 use Rattle.text.specs.Utf8.{fits}
-use Rattle.text.proofs.Branch.{low-of, numbered}
+use Rattle.text.proofs.Branch.{in-range, numbered}
 use Rattle.text.proofs.class.class_in_ranges.Statement.{statement}
 use Rattle.text.proofs.class.class_in_ranges.Tie as tie
 
@@ -45,7 +45,7 @@ unfolding number profileOf class01 inAny
 returns-8 c = search numbered depth 13 fits 20000
 
 syllable-class-requires : tie.Need-syllable-class-requires
-syllable-class-requires c κs = low-of _ _ _ (c .if9 .taken)
+syllable-class-requires c κs = in-range _ _ _ (c .if9 .taken) .0
 
 returns-9 : tie.Need-returns-9
 unfolding number profileOf class01 inAny
