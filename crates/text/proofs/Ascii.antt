@@ -234,7 +234,7 @@ regional-control t j h f =
 -- ---- quiet ranges
 
 -- none of these ranges meets the scalars from a to b
-clear : ℕ → ℕ → List Range → Bool
+unfoldable pub clear : ℕ → ℕ → List Range → Bool
 clear a b [] = true
 clear a b (r ∷ rs) = (ltb (r .high) a || ltb b (r .low)) && clear a b rs
 
@@ -248,7 +248,7 @@ clear-within r a b x t h k =
     (λ u. let q : r .high < a = ltb→lt _ _ u in omega arith)
     (λ u. let q : b < r .low = ltb→lt _ _ u in omega arith))
 
-clear-any : (rs : List Range) (a b x : ℕ) → T (clear a b rs) → a ≤ x → x ≤ b → inAny rs x ≡ false
+pub clear-any : (rs : List Range) (a b x : ℕ) → T (clear a b rs) → a ≤ x → x ≤ b → inAny rs x ≡ false
 unfolding clear inAny
 clear-any [] a b x t h k = refl
 clear-any (r ∷ []) a b x t h k = clear-within r a b x (and-T (ltb (r .high) a || ltb b (r .low)) _ t .0) h k

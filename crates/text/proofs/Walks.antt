@@ -130,7 +130,7 @@ module _ (P : Profile) (s : List ℕ) (p : ℕ) (u : Unit) (here : p < length s)
       go-on t = let x = run-some z in rw (x .run, x .class, sym rr ∙ t, x .size, ← add-assoc) at same
 
 -- a byte that begins a cluster ends one
-more-begins : (v : code.Profile) (s : List ℕ) (p prev : ℕ) (k : Context) → p < length s → beginsCluster (getD s p 0) ≡ true → moreFrom (profileOf v) prev k (runOf (decode (drop p s))) ≡ 0
+pub more-begins : (v : code.Profile) (s : List ℕ) (p prev : ℕ) (k : Context) → p < length s → beginsCluster (getD s p 0) ≡ true → moreFrom (profileOf v) prev k (runOf (decode (drop p s))) ≡ 0
 unfolding moreFrom
 more-begins v s p prev k h e =
     let u : Unit = unitOf (profileOf v) (firstSequence (decode (drop p s))) in

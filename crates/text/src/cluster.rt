@@ -180,7 +180,7 @@ pub fn is_lone(b: u32) -> bool
 }
 
 // Is it such a byte, or the first of a letter or an ideograph as above, which no rule joins to what stands before?
-fn begins_cluster(b: u32) -> bool
+pub fn begins_cluster(b: u32) -> bool
     ensures { λ r. ⌜ r ≡ beginsCluster b ⌝ }
 {
     ((b < 0x80) & (b != 0x0A))
