@@ -3,17 +3,17 @@ use mathlib.Core.Path.{_≡_, refl, sym, ap, _∙_}
 use Prim.Native.Nat.{ℕ, zero, suc, _+_, _-_, _*_, _≤_, _<_}
 use native.Mathlib.Nat.{add-zero, add-suc, add-comm, add-assoc}
 use native.Mathlib.Omega.{arith}
-use mathlib.Core.Bool.{Bool, true, false, not, cond, _&&_}
+use mathlib.Core.Bool.{Bool, true, false, not, cond, _&&_, _||_}
 use mathlib.Core.List.{List, [], _∷_, _++_}
 use mathlib.Core.Logic.{_≢_}
 use lib.ListN.{length, drop, take, getD, length-drop}
 use lib.Seq.{slice, drop-drop, take-nil}
-use lib.Dec.{T, eqb, leb, leb→le, eqb→eq}
+use lib.Dec.{T, eqb, leb, ltb, leb→le, ltb→lt, eqb→eq}
 use borrow.Author.Tests.{eq-eqb, ne-eqb, eqb-false}
-use Rattle.text.specs.Tests.{cases, and-T, true-T}
+use Rattle.text.specs.Tests.{cases, and-T, or-T, true-T}
 use Rattle.text.specs.Each.{All, all-cons, all-split}
 use Rattle.text.specs.Utf8.Valid.{Valid}
-use Rattle.text.specs.Utf8.{Scalar, decode, ascii}
+use Rattle.text.specs.Utf8.{Range, to, Scalar, decode, ascii}
 use Rattle.text.specs.Class.{Profile, whitespace}
 use Rattle.text.specs.Width.{widthOf, width01, profile01}
 use Rattle.text.specs.Cluster.{clusters}
@@ -23,10 +23,28 @@ use Rattle.text.specs.declared.BytePlace.{BytePlace}
 use Rattle.text.specs.declared.Column.{Column}
 use Rattle.text.specs.declared.utf8.Sequence.{Sequence}
 use Rattle.text.specs.declared.class.Profile as code
+use Rattle.text.proofs.Ascii.{clear, clear-any}
 use Rattle.rows.specs.Words.{Word, aWord}
 use Rattle.rows.specs.Words.Laws.{belongs, leading, beyond, leading-beyond, wordFrom, firstWord}
 use Rattle.rows.specs.Contracts.{column, printable, textAt, Measured, hyphenSize, HyphenAt, WordAt}
 use Rattle.rows.specs.declared.words.Stretch.{Stretch}
+
+-- the ranges of whitespace
+abbrev spaces : List Range
+spaces = to 0x09 0x0D ∷ to 0x20 0x20 ∷ to 0x85 0x85 ∷ to 0xA0 0xA0 ∷ to 0x1680 0x1680 ∷ to 0x2000 0x200A ∷ to 0x2028 0x2029 ∷ to 0x202F 0x202F ∷ to 0x205F 0x205F ∷ to 0x3000 0x3000 ∷ []
+
+-- a scalar from 21 to 7E or above 3000 is none
+module _ (v : ℕ) (t : ((leb 0x21 v && leb v 0x7E) || ltb 0x3000 v) ≡ true) where
+  no-space : whitespace v ≡ false
+  unfolding whitespace clear
+  no-space =
+      or-T (leb 0x21 v && leb v 0x7E) (ltb 0x3000 v) (true-T t)
+      (λ h. let p = and-T (leb 0x21 v) (leb v 0x7E) h in clear-any spaces 0x21 0x7E v tt (leb→le _ _ (p .0)) (leb→le _ _ (p .1)))
+      (λ h. let p : 0x3000 < v = ltb→lt _ _ h in clear-any spaces 0x3001 v v tt (omega arith) (omega arith))
+
+  pub other-is : (sep : Bool) → (not sep && not (eqb v 0x2D)) ≡ belongs sep v
+  unfolding belongs
+  other-is sep = cases sep (λ h. rw (h, no-space)) (λ h. rw (h, no-space))
 
 pub sep-is : (v : ℕ) (b sep : Bool) → b ≡ whitespace v → sep ≡ true → b ≡ belongs sep v
 unfolding belongs

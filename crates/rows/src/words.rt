@@ -33,6 +33,10 @@ pub struct Word {
 fn belongs(sep: bool, x: u32) -> bool
     ensures { λ r. ⌜ r ≡ belongs sep x ⌝ }
 {
+    // no whitespace
+    if ((0x21 <= x) & (x <= 0x7E)) | (0x3000 < x) {
+        return !sep & (x != 0x2D);
+    }
     let space = is_whitespace(x);
     if sep {
         return space;
