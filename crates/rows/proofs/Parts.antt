@@ -3,38 +3,57 @@ use mathlib.Core.Path.{_≡_, refl, sym, ap, _∙_}
 use Prim.Native.Nat.{ℕ, zero, suc, _+_, _-_, _*_, _≤_, _<_}
 use native.Mathlib.Nat.{add-zero, add-suc, add-comm, add-assoc}
 use native.Mathlib.Omega.{arith}
-use mathlib.Core.Bool.{Bool, true, false, not, cond, _&&_}
+use mathlib.Core.Bool.{Bool, _&&_, _||_, and-true, false, not, true}
 use mathlib.Core.List.{List, [], _∷_, _++_}
 use mathlib.Core.Logic.{_≢_}
 use lib.ListN.{length, drop, take, getD, length-drop}
 use lib.Seq.{slice, drop-drop, take-nil}
-use lib.Dec.{T, eqb, leb, leb→le, eqb→eq}
-use borrow.Author.Tests.{eq-eqb, ne-eqb, eqb-false}
-use Rattle.text.specs.Tests.{cases, and-T, true-T}
+use lib.Dec.{eqb, leb, ltb, leb→le, ltb→lt, eqb→eq}
+use borrow.Author.Tests.{eq-eqb, ne-eqb, eqb-false, ltb-true, ltb-false}
+use Rattle.text.specs.Tests.{cases, and-T, or-T, true-T}
 use Rattle.text.specs.Each.{All, all-cons, all-split}
 use Rattle.text.specs.Utf8.Valid.{Valid}
-use Rattle.text.specs.Utf8.{Scalar, decode, ascii}
-use Rattle.text.specs.Class.{Profile, whitespace}
+use Rattle.text.specs.Utf8.{to, Scalar, decode, ascii}
+use Rattle.text.specs.Class.{Profile, spaces, whitespace}
 use Rattle.text.specs.Width.{widthOf, width01, profile01}
-use Rattle.text.specs.Cluster.{clusters}
-use Rattle.text.specs.Code.{runOf, size, firstOf, firstSize, firstSequence, profileOf}
-use Rattle.text.specs.Code.Laws.{ScalarAt, scalar-at, none-at, none-code, none-past, run-front, run-behind, run-fits, run-valid, size-append, width-append, width-le, width-size, FirstCluster, first-cluster, plain-cluster, plain-width}
+use Rattle.text.specs.Cluster.{Context, clusters}
+use Rattle.text.specs.Code.{runOf, size, firstOf, firstSize, firstSequence, profileOf, moreFrom, beginsCluster}
+use Rattle.text.specs.Code.Laws.{scalar-at, none-at, none-code, none-past, run-front, run-behind, run-fits, run-valid, size-append, width-append, width-le, width-size, first-cluster, plain-cluster, plain-width}
 use Rattle.text.specs.declared.BytePlace.{BytePlace}
 use Rattle.text.specs.declared.Column.{Column}
 use Rattle.text.specs.declared.utf8.Sequence.{Sequence}
 use Rattle.text.specs.declared.class.Profile as code
+use Rattle.text.proofs.Ascii.{clear, clear-any}
+use Rattle.text.proofs.Walks.{first-size, more-begins}
 use Rattle.rows.specs.Words.{Word, aWord}
 use Rattle.rows.specs.Words.Laws.{belongs, leading, beyond, leading-beyond, wordFrom, firstWord}
 use Rattle.rows.specs.Contracts.{column, printable, textAt, Measured, hyphenSize, HyphenAt, WordAt}
 use Rattle.rows.specs.declared.words.Stretch.{Stretch}
 
+-- a scalar from 21 to 7E or above 3000 is no whitespace
+module _ (v : ℕ) (t : ((leb 0x21 v && leb v 0x7E) || ltb 0x3000 v) ≡ true) where
+  no-space : whitespace v ≡ false
+  unfolding whitespace spaces clear
+  no-space =
+      or-T (leb 0x21 v && leb v 0x7E) (ltb 0x3000 v) (true-T t)
+      (λ h. let p = and-T (leb 0x21 v) (leb v 0x7E) h in clear-any spaces 0x21 0x7E v tt (leb→le _ _ (p .0)) (leb→le _ _ (p .1)))
+      (λ h. let p : 0x3000 < v = ltb→lt _ _ h in clear-any spaces 0x3001 v v tt (omega arith) (omega arith))
+
+  pub other-is : (sep : Bool) → (not sep && not (eqb v 0x2D)) ≡ belongs sep v
+  unfolding belongs
+  other-is sep = cases sep (λ h. rw (h, no-space)) (λ h. rw (h, no-space))
+
 pub sep-is : (v : ℕ) (b sep : Bool) → b ≡ whitespace v → sep ≡ true → b ≡ belongs sep v
 unfolding belongs
 sep-is v b sep e h = rw h e
 
-pub word-is : (v : ℕ) (b sep : Bool) → b ≡ whitespace v → sep ≡ false → (not b && not (eqb v 0x2D)) ≡ belongs sep v
+-- `-` is such a scalar
+pub word-is : (v : ℕ) (b sep : Bool) → ((leb 0x21 v && leb v 0x7E) || ltb 0x3000 v) ≡ false → b ≡ whitespace v → sep ≡ false → not b ≡ belongs sep v
 unfolding belongs
-word-is v b sep e h = rw (h, e)
+word-is v b sep t e h =
+    cases (eqb v 0x2D)
+    (λ i. let z : true ≡ false = rw (eqb→eq v 0x2D (true-T i)) at t in absurd (true-T (sym z)))
+    (λ i. rw (h, e, i, and-true))
 
 pub wide : (f : code.Profile) (v x : ℕ) → x ≡ profileOf f .width v → x ≤ 2
 unfolding profileOf profile01
@@ -177,6 +196,14 @@ unfolding firstOf clusters
 first-all P [] = ([], refl)
 first-all P (c ∷ t) = let k = first-cluster P c t in (k .rest, k .text)
 
+-- nothing joins a cluster at a byte that begins one, or at the end
+more-none : (f : code.Profile) (s : List ℕ) (p prev : ℕ) (k : Context) → beginsCluster (getD s p 0) ≡ true → moreFrom (profileOf f) prev k (textAt s p) ≡ 0
+unfolding moreFrom
+more-none f s p prev k e =
+    cases (ltb p (length s))
+    (λ h. more-begins f s p prev k (ltb-true p (length s) h) e)
+    (λ h. rw (none-past s p (ltb-false p (length s) h)) refl)
+
 module _ (f : code.Profile) (s : List ℕ) (at : ℕ) where
   abbrev first : List Scalar
   first = firstOf (clusters (profileOf f) (textAt s at))
@@ -192,6 +219,24 @@ module _ (f : code.Profile) (s : List ℕ) (at : ℕ) where
         width = rw (e, plain-width a (leb→le _ _ (x .0)) (leb→le _ _ (x .1))) (omega arith);
         inside = omega arith;
         small = omega arith;
+      }
+
+  -- a scalar that nothing joins
+  pub single-measured : (u : Sequence) (b x : ℕ) (q : Bool) → at < length s → u ≡ firstSequence (decode (drop at s)) → (u .len ≢ 0) → b ≡ getD s (at + u .len) 0 → q ≡ beginsCluster b → q ≡ true → x ≡ profileOf f .width (u .code)
+      → Measured (profileOf f) s at first (record { end = record { 0 = at + u .len }; width = column x })
+  unfolding size widthOf firstSize
+  single-measured u b x q here read z eb hq tq v =
+      let a = scalar-at s at u here read z in
+      let k = first-all (profileOf f) (textAt s at) in
+      let t : List Scalar = textAt s (at + u .len) in
+      let g : beginsCluster (getD s (at + u .len) 0) ≡ true = ap beginsCluster (sym eb) ∙ sym hq ∙ tq in
+      let n : size first ≡ size (a .scalar ∷ []) = ap (firstSize (profileOf f)) (a .run) ∙ first-size (profileOf f) (a .scalar) t ∙ ap (λ (m : ℕ). length (a .scalar .bytes) + m) (more-none f s (at + u .len) _ _ g) in
+      let e : first ≡ a .scalar ∷ [] = sym (run-front (drop at s) first (k .0) (k .1)) ∙ rw n (run-front (drop at s) (a .scalar ∷ []) t (a .run)) in
+      record {
+        end = rw (e, a .len) (omega arith);
+        width = rw (e, a .code) (omega (arith, v));
+        inside = a .fits;
+        small = omega (arith, a .some, wide f (u .code) x v);
       }
 
   -- the general case

@@ -3,6 +3,7 @@ use text::BytePlace;
 use text::Column;
 use text::class::Profile;
 use text::class::is_whitespace;
+use text::cluster::begins_cluster;
 use text::cluster::first_end;
 use text::utf8::byte_at;
 use text::utf8::decode;
@@ -33,11 +34,15 @@ pub struct Word {
 fn belongs(sep: bool, x: u32) -> bool
     ensures { λ r. ⌜ r ≡ belongs sep x ⌝ }
 {
+    // no whitespace, `-` among these
+    if ((0x21 <= x) & (x <= 0x7E)) | (0x3000 < x) {
+        return !sep & (x != 0x2D);
+    }
     let space = is_whitespace(x);
     if sep {
         return space;
     }
-    !space & !(x == 0x2D)
+    !space
 }
 
 // The leading scalars that belong.
@@ -121,6 +126,16 @@ pub fn cluster(profile: Profile, text: &[u8], at: BytePlace) -> Stretch
             return Stretch {
                 end: BytePlace(at.0 + 1),
                 width: Column(1),
+            };
+        }
+    }
+    let u = decode(text, at.0);
+    if u.len != 0 {
+        let next = BytePlace(at.0 + u.len);
+        if begins_cluster(byte_at(text, next.0)) {
+            return Stretch {
+                end: next,
+                width: Column(width(profile, u.code)),
             };
         }
     }
