@@ -141,6 +141,13 @@ mark-joins p k c e f =
     (λ g. rw (eqb-true c 3 g, and-false (eqb p 0), e, and-false (eqb p 5), and-false (eqb p 8 || eqb p 6), and-false (eqb p 9 || eqb p 7)) refl)
     (λ g. let y : c ≡ 4 = eqb-true c 4 (rw g at f) in rw (y, and-false (eqb p 0), e, and-false (eqb p 5), and-false (eqb p 8 || eqb p 6), and-false (eqb p 9 || eqb p 7)) refl)
 
+-- a regional indicator joins an odd number of them
+pub pair-joins : (p : ℕ) (k : Context) (c : ℕ) → (eqb p 2 || (eqb p 0 || eqb p 1)) ≡ false → (k .odd && eqb c 10) ≡ true → true ≡ joined p k c
+unfolding joined among number
+pair-joins p k c e f =
+    let q = and-T (k .odd) (eqb c 10) (true-T f) in
+    rw (eqb-true c 10 (is-true _ (q .1)), is-true (k .odd) (q .0), and-false (eqb p 0), e, and-false (eqb p 5), and-false (eqb p 8 || eqb p 6), and-false (eqb p 9 || eqb p 7)) refl
+
 -- a byte below 80 is a sequence by itself
 sequence-one : (a : ℕ) (s : List ℕ) → a < 128 → sequence (a ∷ s) ≡ 1
 unfolding sequence lengthIn fits table

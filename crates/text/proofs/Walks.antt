@@ -8,7 +8,7 @@ use mathlib.Core.Logic.{_≢_}
 use mathlib.Core.Path.{_∙_, _≡_, ap, refl, sym}
 use lib.Dec.{eqb, ltb, ltb→lt}
 use lib.ListN.{drop, getD, length, take}
-use borrow.Author.Tests.{eqb-false, eqb-true, ltb-false, ltb-true, not-true}
+use borrow.Author.Tests.{eqb-false, eqb-true, le-ltb, ltb-false, ltb-true, not-true}
 use Rattle.text.specs.Class.{Profile, number}
 use Rattle.text.specs.Cluster.{Context, after, classOf, clusters, context, joined, joins, start}
 use Rattle.text.specs.Cluster.Laws.{clusters-first, further}
@@ -79,6 +79,9 @@ first-single v s p r here e t =
     let l : a < 128 = ltb→lt _ _ (w .0) in
     let m : getD s (p + 1) 0 < 128 = ltb→lt _ _ (w .1) in
     first-byte P s p a here refl l (more-ascii P s (p + 1) c (after start c) (λ k. apart v a (getD s (p + 1) 0) k l m n) m))
+
+pub not-single : (s : List ℕ) (p : ℕ) → 0x80 ≤ getD s p 0 → false ≡ singleAt s p
+not-single s p h = rw (le-ltb (getD s p 0) 0x20 (omega arith), le-ltb (getD s p 0) 0x80 h) refl
 
 module _ (P : Profile) (s : List ℕ) (p : ℕ) (u : Unit) (here : p < length s) (read : u ≡ unitOf P (firstSequence (decode (drop p s)))) where
   pub run-none : u .len ≡ 0 → runOf (decode (drop p s)) ≡ []

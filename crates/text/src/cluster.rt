@@ -58,8 +58,11 @@ fn is_joined(s: Seen, c: u8) -> bool
     if (c == CONTROL) | ((c == CR) | (c == LF)) {
         return false;
     }
-    // GB9, before GB6 to GB8, which speak of other classes
+    // GB9, GB12 and GB13 before GB6 to GB8, which speak of other classes
     if (c == EXTEND) | (c == ZWJ) {
+        return true;
+    }
+    if s.odd & (c == REGIONAL_INDICATOR) {
         return true;
     }
     // GB6
@@ -72,10 +75,6 @@ fn is_joined(s: Seen, c: u8) -> bool
     }
     // GB8
     if ((p == LVT) | (p == T)) & (c == T) {
-        return true;
-    }
-    // GB12, GB13
-    if s.odd & (c == REGIONAL_INDICATOR) {
         return true;
     }
     // GB999
@@ -116,8 +115,11 @@ fn is_single(s: &[u8], at: usize) -> bool
     ensures { λ r. ⌜ r ≡ singleAt (now (s .entry)) at ⌝ }
 {
     let a = s[at] as u32;
+    if 0x80 <= a {
+        return false;
+    }
     let b = byte_at(s, at + 1);
-    ((a < 0x20) | ((a < 0x80) & (b < 0x80))) & (a != 0x0D)
+    ((a < 0x20) | (b < 0x80)) & (a != 0x0D)
 }
 
 // Is it a byte below 80, LF apart? No rule joins it to what stands before.

@@ -1,7 +1,7 @@
 use Rattle.text.specs.Class.{among, number}
 use Rattle.text.specs.Cluster.{joined}
 use Rattle.text.specs.Utf8.{fits}
-use Rattle.text.proofs.Ascii.{mark-joins}
+use Rattle.text.proofs.Ascii.{mark-joins, pair-joins}
 use Rattle.text.proofs.Branch.{branch}
 use Rattle.text.proofs.cluster.is_joined.Statement.{statement}
 use Rattle.text.proofs.cluster.is_joined.Tie as tie
@@ -22,8 +22,7 @@ returns-4 : tie.Need-returns-4
 returns-4 c = search mark-joins
 
 returns-5 : tie.Need-returns-5
-unfolding joined among number
-returns-5 c = search branch depth 10 fits 20000
+returns-5 c = search pair-joins
 
 returns-6 : tie.Need-returns-6
 unfolding joined among number

@@ -1,6 +1,8 @@
 use native.Mathlib.Omega.{arith}
 use mathlib.Core.Path.{refl}
 use borrow.Author.Needs.{needs}
+use borrow.Author.Tests.{lt-ltb}
+use Rattle.text.proofs.Walks.{not-single}
 use Rattle.text.proofs.cluster.is_single.Statement.{statement}
 use Rattle.text.proofs.cluster.is_single.Tie as tie
 
@@ -10,14 +12,17 @@ shared-slice-read-a c = search needs
 cast-a : tie.Need-cast-a
 cast-a c = omega (arith, c .shared-slice-known2 .given (c .before .before .args .at))
 
+returns : tie.Need-returns
+returns c = not-single (c .before .before .before .args .s .now) (c .before .before .before .args .at) (c .if1 .taken)
+
 add-byte-at : tie.Need-add-byte-at
 add-byte-at c = search needs
 
 byte-at-requires : tie.Need-byte-at-requires
 byte-at-requires c κs = search needs
 
-returns : tie.Need-returns
-returns c = rw (c .byte-at .ensures) refl
+returns-2 : tie.Need-returns-2
+returns-2 c = rw (lt-ltb _ 0x80 (c .before .if1 .left), c .byte-at .ensures) refl
 
 pub is-single-spec : {M : Type 1} → statement M
-is-single-spec = tie.close (tie.spec shared-slice-read-a cast-a add-byte-at byte-at-requires returns)
+is-single-spec = tie.close (tie.spec shared-slice-read-a cast-a returns add-byte-at byte-at-requires returns-2)
