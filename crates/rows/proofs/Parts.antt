@@ -10,50 +10,33 @@ use lib.ListN.{length, drop, take, getD, length-drop}
 use lib.Seq.{slice, drop-drop, take-nil}
 use lib.Dec.{eqb, leb, ltb, leb→le, ltb→lt, eqb→eq}
 use borrow.Author.Tests.{eq-eqb, ne-eqb, eqb-false, ltb-true, ltb-false}
-use Rattle.text.specs.Tests.{cases, and-T, or-T, true-T}
+use Rattle.text.specs.Tests.{cases, and-T, or-T, true-T, is-true}
 use Rattle.text.specs.Each.{All, all-cons, all-split}
 use Rattle.text.specs.Utf8.Valid.{Valid}
 use Rattle.text.specs.Utf8.{to, Scalar, decode, ascii}
-use Rattle.text.specs.Class.{Profile, spaces, whitespace}
+use Rattle.text.specs.Class.{Profile, inAny, spaces, whitespace}
 use Rattle.text.specs.Width.{widthOf, width01, profile01}
 use Rattle.text.specs.Cluster.{Context, clusters}
-use Rattle.text.specs.Code.{runOf, size, firstOf, firstSize, firstSequence, profileOf, moreFrom, beginsCluster}
+use Rattle.text.specs.Code.{runOf, size, firstOf, firstSize, firstSequence, profileOf, moreFrom, beginsCluster, sequenceOf}
 use Rattle.text.specs.Code.Laws.{scalar-at, none-at, none-code, none-past, run-front, run-behind, run-fits, run-valid, size-append, width-append, width-le, width-size, first-cluster, plain-cluster, plain-width}
 use Rattle.text.specs.declared.BytePlace.{BytePlace}
 use Rattle.text.specs.declared.Column.{Column}
 use Rattle.text.specs.declared.utf8.Sequence.{Sequence}
 use Rattle.text.specs.declared.class.Profile as code
-use Rattle.text.proofs.Ascii.{clear, clear-any}
+use Rattle.text.proofs.Ascii.{ascii-first, clear, clear-any}
 use Rattle.text.proofs.Walks.{first-size, more-begins}
 use Rattle.rows.specs.Words.{Word, aWord}
 use Rattle.rows.specs.Words.Laws.{belongs, leading, beyond, leading-beyond, wordFrom, firstWord}
-use Rattle.rows.specs.Contracts.{column, printable, textAt, Measured, hyphenSize, HyphenAt, WordAt}
+use Rattle.rows.specs.Contracts.{byteBelongs, column, printable, textAt, Measured, hyphenSize, HyphenAt, WordAt}
 use Rattle.rows.specs.declared.words.Stretch.{Stretch}
-
--- a scalar from 21 to 7E or above 3000 is no whitespace
-module _ (v : ℕ) (t : ((leb 0x21 v && leb v 0x7E) || ltb 0x3000 v) ≡ true) where
-  no-space : whitespace v ≡ false
-  unfolding whitespace spaces clear
-  no-space =
-      or-T (leb 0x21 v && leb v 0x7E) (ltb 0x3000 v) (true-T t)
-      (λ h. let p = and-T (leb 0x21 v) (leb v 0x7E) h in clear-any spaces 0x21 0x7E v tt (leb→le _ _ (p .0)) (leb→le _ _ (p .1)))
-      (λ h. let p : 0x3000 < v = ltb→lt _ _ h in clear-any spaces 0x3001 v v tt (omega arith) (omega arith))
-
-  pub other-is : (sep : Bool) → (not sep && not (eqb v 0x2D)) ≡ belongs sep v
-  unfolding belongs
-  other-is sep = cases sep (λ h. rw (h, no-space)) (λ h. rw (h, no-space))
 
 pub sep-is : (v : ℕ) (b sep : Bool) → b ≡ whitespace v → sep ≡ true → b ≡ belongs sep v
 unfolding belongs
 sep-is v b sep e h = rw h e
 
--- `-` is such a scalar
-pub word-is : (v : ℕ) (b sep : Bool) → ((leb 0x21 v && leb v 0x7E) || ltb 0x3000 v) ≡ false → b ≡ whitespace v → sep ≡ false → not b ≡ belongs sep v
+pub word-is : (v : ℕ) (b sep : Bool) → b ≡ whitespace v → sep ≡ false → (not b && not (eqb v 0x2D)) ≡ belongs sep v
 unfolding belongs
-word-is v b sep t e h =
-    cases (eqb v 0x2D)
-    (λ i. let z : true ≡ false = rw (eqb→eq v 0x2D (true-T i)) at t in absurd (true-T (sym z)))
-    (λ i. rw (h, e, i, and-true))
+word-is v b sep e h = rw (h, e)
 
 pub wide : (f : code.Profile) (v x : ℕ) → x ≡ profileOf f .width v → x ≤ 2
 unfolding profileOf profile01
@@ -108,6 +91,29 @@ walk-on f s sep at p w u b x k here read z e t v =
       width = rw v (add-assoc (w .0) (profileOf f .width (u .code)) _ ∙ (rw (a .run, a .code, sym e ∙ t, a .code) at (k .width)));
       small = omega (arith, k .small, k .from, a .some, wide f (u .code) x v);
     }
+
+-- a byte of one column
+record Narrow (sep : Bool) (b : ℕ) : Type 0 where
+  low : 0x20 ≤ b
+  high : b ≤ 0x7E
+  fits : belongs sep b ≡ true
+
+narrow : (sep : Bool) (b : ℕ) → byteBelongs sep b ≡ true → Narrow sep b
+unfolding belongs whitespace spaces inAny clear
+narrow true b e = let i : b ≡ 0x20 = eqb→eq b 0x20 (true-T e) in record { low = omega arith; high = omega arith; fits = rw i refl }
+narrow false b e =
+    let p = and-T (leb 0x21 b && leb b 0x7E) (not (eqb b 0x2D)) (true-T e) in
+    let q = and-T (leb 0x21 b) (leb b 0x7E) (p .0) in
+    let lo : 0x21 ≤ b = leb→le _ _ (q .0) in
+    let hi : b ≤ 0x7E = leb→le _ _ (q .1) in
+    record { low = omega arith; high = hi; fits = rw (clear-any spaces 0x21 0x7E b tt lo hi, is-true (not (eqb b 0x2D)) (p .1)) refl }
+
+pub byte-on : (f : code.Profile) (s : List ℕ) (sep : Bool) (at p : BytePlace) (w : Column) (b : ℕ) (r : Bool) → Walking (profileOf f) s sep at p w → p .0 < length s
+    → b ≡ getD s (p .0) 0 → r ≡ byteBelongs sep b → r ≡ true → Walking (profileOf f) s sep at (record { 0 = p .0 + 1 }) (column (w .0 + 1))
+unfolding profileOf profile01
+byte-on f s sep at p w b r k here e h t =
+    let n = narrow sep b (sym h ∙ t) in
+    walk-on f s sep at p w (sequenceOf b 1) true 1 k here (ascii-first s (p .0) b here e (omega (arith, n .high))) (λ z. absurd (omega arith)) (sym (n .fits)) refl (sym (plain-width b (n .low) (n .high)))
 
 -- ---- a word
 

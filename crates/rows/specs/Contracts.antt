@@ -1,7 +1,7 @@
 -- What the code's values say: stretches and words of a text; the state of wrapping and the lent row list, of the rows pushed.
 use mathlib.Core.Path.{_≡_}
 use Prim.Native.Nat.{ℕ, _+_, _-_, _*_, _/_, _≤_, _<_, _^_}
-use mathlib.Core.Bool.{Bool, true, false, cond, _&&_, _||_}
+use mathlib.Core.Bool.{Bool, true, false, cond, _&&_, _||_, not}
 use mathlib.Core.List.{List, [], _∷_, _++_}
 use lib.ListN.{length, set, take, drop, replicate}
 use lib.Dec.{eqb, leb, ltb}
@@ -34,6 +34,10 @@ pub mod Laws
 -- an ASCII scalar that is no control
 abbrev pub printable : ℕ → Bool
 printable v = leb 0x20 v && leb v 0x7E
+
+-- a byte that belongs to a separator, or else to a word before a `-`, of those of one column
+abbrev pub byteBelongs : Bool → ℕ → Bool
+byteBelongs sep b = cond sep (eqb b 0x20) ((leb 0x21 b && leb b 0x7E) && not (eqb b 0x2D))
 
 -- the text from a place on, up to a damaged byte
 abbrev pub textAt : List ℕ → ℕ → List Scalar

@@ -15,7 +15,7 @@ ghost use lib.ListN.{length};
 ghost use Rattle.text.specs.Cluster.{clusters};
 ghost use Rattle.text.specs.Code.{profileOf, firstOf};
 ghost use Rattle.rows.specs.Words.Laws.{belongs, leading};
-ghost use Rattle.rows.specs.Contracts.{printable, textAt, Measured, HyphenAt, WordAt};
+ghost use Rattle.rows.specs.Contracts.{printable, byteBelongs, textAt, Measured, HyphenAt, WordAt};
 
 // A part of a text from some place on: where it ends, and its width.
 pub struct Stretch {
@@ -34,15 +34,21 @@ pub struct Word {
 fn belongs(sep: bool, x: u32) -> bool
     ensures { λ r. ⌜ r ≡ belongs sep x ⌝ }
 {
-    // no whitespace, `-` among these
-    if ((0x21 <= x) & (x <= 0x7E)) | (0x3000 < x) {
-        return !sep & (x != 0x2D);
-    }
     let space = is_whitespace(x);
     if sep {
         return space;
     }
-    !space
+    !space & !(x == 0x2D)
+}
+
+// Is it a byte that belongs, of one column: a space, or else one of 21 to 7E but for `-`?
+fn byte_belongs(sep: bool, b: u8) -> bool
+    ensures { λ r. ⌜ r ≡ byteBelongs sep b ⌝ }
+{
+    if sep {
+        return b == 0x20;
+    }
+    ((0x21 <= b) & (b <= 0x7E)) & (b != 0x2D)
 }
 
 // The leading scalars that belong.
@@ -53,15 +59,21 @@ fn leading(profile: Profile, text: &[u8], at: BytePlace, sep: bool) -> Stretch
     let mut p = at;
     let mut w = Column(0);
     while p.0 < text.len() {
-        let u = decode(text, p.0);
-        if u.len == 0 {
-            return Stretch { end: p, width: w };
-        }
-        if belongs(sep, u.code) {
-            w = Column(w.0 + width(profile, u.code));
-            p = BytePlace(p.0 + u.len);
+        let i = p.0;
+        if byte_belongs(sep, text[i]) {
+            w = Column(w.0 + 1);
+            p = BytePlace(i + 1);
         } else {
-            return Stretch { end: p, width: w };
+            let u = decode(text, p.0);
+            if u.len == 0 {
+                return Stretch { end: p, width: w };
+            }
+            if belongs(sep, u.code) {
+                w = Column(w.0 + width(profile, u.code));
+                p = BytePlace(p.0 + u.len);
+            } else {
+                return Stretch { end: p, width: w };
+            }
         }
     }
     Stretch { end: p, width: w }
