@@ -3,17 +3,17 @@ use mathlib.Core.Path.{_≡_, refl, sym, ap, _∙_}
 use Prim.Native.Nat.{ℕ, zero, suc, _+_, _-_, _*_, _≤_, _<_}
 use native.Mathlib.Nat.{add-zero, add-suc, add-comm, add-assoc}
 use native.Mathlib.Omega.{arith}
-use mathlib.Core.Bool.{Bool, _&&_, _||_, and-true, false, not, true}
+use mathlib.Core.Bool.{Bool, _&&_, false, not, true}
 use mathlib.Core.List.{List, [], _∷_, _++_}
 use mathlib.Core.Logic.{_≢_}
 use lib.ListN.{length, drop, take, getD, length-drop}
 use lib.Seq.{slice, drop-drop, take-nil}
-use lib.Dec.{eqb, leb, ltb, leb→le, ltb→lt, eqb→eq}
+use lib.Dec.{eqb, leb, ltb, leb→le, eqb→eq}
 use borrow.Author.Tests.{eq-eqb, ne-eqb, eqb-false, ltb-true, ltb-false}
-use Rattle.text.specs.Tests.{cases, and-T, or-T, true-T, is-true}
+use Rattle.text.specs.Tests.{cases, and-T, true-T, is-true}
 use Rattle.text.specs.Each.{All, all-cons, all-split}
 use Rattle.text.specs.Utf8.Valid.{Valid}
-use Rattle.text.specs.Utf8.{to, Scalar, decode, ascii}
+use Rattle.text.specs.Utf8.{Scalar, decode, ascii}
 use Rattle.text.specs.Class.{Profile, inAny, spaces, whitespace}
 use Rattle.text.specs.Width.{widthOf, width01, profile01}
 use Rattle.text.specs.Cluster.{Context, clusters}

@@ -4,22 +4,20 @@ use mathlib.Core.Logic.{_≢_}
 use Prim.Native.Nat.{ℕ, _+_, _-_, _*_, _≤_, _<_}
 use native.Mathlib.Numerals.{add-one}
 use native.Mathlib.Omega.{arith}
-use mathlib.Core.Bool.{Bool, true, false, cond, _||_}
-use mathlib.Core.List.{List, [], _∷_, _++_}
+use mathlib.Core.Bool.{true, false, _||_}
+use mathlib.Core.List.{List, [], _∷_}
 use lib.ListN.{length, drop, take, getD, length-drop, length-take, drop-of-length-le}
 use lib.Seq.{take-all, take-nil, length-take-le, drop-cons, getD-take}
 use lib.Dec.{eqb}
 use borrow.Author.Tests.{eq-eqb, ne-eqb, eqb-false}
 use Rattle.text.specs.Tests.{cases}
-use Rattle.text.specs.Utf8.{decode}
 use Rattle.text.specs.Class.{Profile}
-use Rattle.text.specs.Code.{runOf}
 use Rattle.spans.specs.Spans.{Record}
 use Rattle.spans.specs.Spans.ContentLaw.{textIn}
 use Rattle.spans.specs.Calls.{noRecord}
-use Rattle.rows.specs.Rows.{Wrap, unit, tabbed, splitText}
+use Rattle.rows.specs.Rows.{Wrap, tabbed}
 use Rattle.rows.specs.Rows.Laws.{Natural, unit-over, tabbed-over, splitText-over}
-use Rattle.rows.specs.Contracts.{textAt, held, on, Room, Stepped, unitOf, textOf, recordIn, spanOf, spansOf, lastKept, LastRow, SpanRoom, SpansRoom, MadeWrap}
+use Rattle.rows.specs.Contracts.{textAt, held, on, Stepped, unitOf, textOf, recordIn, spanOf, spansOf, lastKept, LastRow, SpanRoom, SpansRoom, MadeWrap}
 use Rattle.rows.specs.declared.wrap.Tally.{Tally}
 use Rattle.rows.specs.declared.wrap.WrapState.{WrapState}
 use Rattle.rows.proofs.Texts.{renamed, on-id, turn, done}

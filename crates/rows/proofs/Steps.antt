@@ -1,18 +1,17 @@
 -- The ends of the functions that push a row or none.
-use mathlib.Core.Path.{_≡_, refl, sym, ap, _∙_}
-use Prim.Native.Nat.{ℕ, _+_, _-_, _*_, _/_, _%_, _≤_, _<_, _^_}
-use native.Mathlib.Nat.{add-zero}
+use mathlib.Core.Path.{_≡_, sym, ap, _∙_}
+use Prim.Native.Nat.{ℕ, _+_, _-_, _*_, _/_, _%_, _≤_, _<_}
 use native.Mathlib.Omega.{arith}
-use mathlib.Core.Bool.{Bool, true, false, cond, _||_}
+use mathlib.Core.Bool.{Bool, true, false, cond}
 use mathlib.Core.List.{List, [], _∷_}
 use mathlib.Core.Logic.{_≢_}
 use lib.ListN.{length, set}
 use lib.Dec.{leb, ltb, eqb}
-use borrow.Author.Tests.{le-leb, lt-leb, lt-ltb, le-ltb, eq-eqb, ne-eqb}
+use borrow.Author.Tests.{lt-ltb, le-ltb, eq-eqb, ne-eqb}
 use Rattle.text.specs.Tests.{cases}
 use Rattle.text.specs.declared.Column.{Column}
 use Rattle.rows.specs.Rows.{Row, row, Wrap, wrap, unit, tabbed, pushed}
-use Rattle.rows.specs.Contracts.{column, nextCount, tallied, pairAt, Kept, kept, keep, keeps, Held, held, on, Room, Stepped, advanced, unitOf, lastKept, LastRow}
+use Rattle.rows.specs.Contracts.{column, nextCount, tallied, pairAt, Kept, kept, keep, keeps, on, Room, Stepped, advanced, unitOf, lastKept, LastRow}
 use Rattle.rows.specs.declared.wrap.Tally.{Tally}
 use Rattle.rows.specs.declared.wrap.WrapState.{WrapState}
 

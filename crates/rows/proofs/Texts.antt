@@ -1,29 +1,28 @@
 -- Texts wrapped by clusters and by words: steps one after the other, and the loops.
 use mathlib.Core.Path.{_≡_, refl, sym, ap, _∙_}
-use Prim.Native.Nat.{ℕ, _+_, _-_, _*_, _≤_, _<_}
+use Prim.Native.Nat.{ℕ, _+_, _-_, _*_, _≤_}
 use native.Mathlib.Nat.{add-zero}
 use native.Mathlib.Omega.{arith}
-use mathlib.Core.Bool.{Bool, true, false, cond}
+use mathlib.Core.Bool.{Bool, true, false}
 use mathlib.Core.List.{List, [], _∷_, _++_, append-assoc}
 use mathlib.Core.Logic.{_≢_}
 use lib.ListN.{length, drop, take, length-take}
 use lib.Seq.{drop-drop}
 use lib.Dec.{eqb, leb}
-use borrow.Author.Tests.{le-leb, lt-leb, eq-eqb, ne-eqb}
+use borrow.Author.Tests.{eq-eqb, ne-eqb}
 use Rattle.text.specs.Each.{All, all-nil, all-cons}
-use Rattle.text.specs.Utf8.{Scalar, decode}
+use Rattle.text.specs.Utf8.{Scalar}
 use Rattle.text.specs.Utf8.Valid.{Valid}
 use Rattle.text.specs.Class.{Profile}
 use Rattle.text.specs.Width.{widthOf}
 use Rattle.text.specs.Cluster.{clusters}
-use Rattle.text.specs.Code.{runOf, size, firstOf, profileOf}
+use Rattle.text.specs.Code.{size, firstOf}
 use Rattle.text.specs.Code.Laws.{none-past, run-valid, run-front, run-behind, size-append, FirstCluster, first-cluster}
 use Rattle.text.specs.Cluster.Laws.{clusters-first, further}
 use Rattle.text.specs.declared.BytePlace.{BytePlace}
-use Rattle.text.specs.declared.Column.{Column}
-use Rattle.rows.specs.Words.{Word, aWord, words}
+use Rattle.rows.specs.Words.{Word, words}
 use Rattle.rows.specs.Words.Laws.{firstWord, restWords, first-word-all, first-word-some, words-first}
-use Rattle.rows.specs.Rows.{Row, row, Wrap, wrap, unit, pushed, byClusters, byWords, longWord, oneWord, splitText}
+use Rattle.rows.specs.Rows.{Row, Wrap, wrap, pushed, byClusters, byWords, longWord, oneWord, splitText}
 use Rattle.rows.specs.Rows.Laws.{over, Natural, byClusters-over, longWord-over, byWords-over}
 use Rattle.rows.specs.Contracts.{column, textAt, Measured, WordAt, WordRoom, Kept, kept, keep, keeps, Held, held, on, Room, Stepped, advanced, unitOf, clustersOf, longWordOf, oneWordOf, wordsOf, textOf}
 use Rattle.rows.specs.declared.words.Stretch.{Stretch}

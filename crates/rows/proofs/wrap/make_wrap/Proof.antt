@@ -3,7 +3,7 @@ use Rattle.rows.proofs.wrap.split_span.Symbol.{name as #rows·split-spa
 use Rattle.rows.proofs.wrap.last_row.Symbol.{name as #rows·last-row}
 use Rattle.rows.proofs.wrap.make_wrap.Key.{name as #rows·make-wrap}
 use mathlib.Core.Path.{_≡_, refl, sym, _∙_, ap, subst}
-use mathlib.Core.Logic.{_⊎_, inl, inr}
+use mathlib.Core.Logic.{inl, inr}
 use mathlib.Core.Bool.{Bool}
 use mathlib.Core.WellFounded.{WellFounded, InvImage·wf}
 use Prim.Native.Nat.{ℕ, _<_, _≤_, _^_, _*_, _+_, _-_}
@@ -51,7 +51,6 @@ use denote.Triple.Spec.{Meets, tripleOf}
 use denote.Triple.Table.{entered, cited}
 use denote.Triple.Walked.{says, needs, Stays, stay-slice, stay-none-slice, stay-none, walkOf, goes-slice, goes-none-slice, goes-none, Walks, ends-at, walked, walk-meets}
 use denote.Exit.{yes}
-use Rattle.text.specs.Class.{Profile}
 use Rattle.text.specs.Code.{profileOf}
 use Rattle.spans.specs.declared.Span.{Span}
 use Rattle.spans.specs.Calls.{noRecord}
