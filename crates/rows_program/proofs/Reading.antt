@@ -1,19 +1,17 @@
 -- The first line, read byte by byte.
-use mathlib.Core.Path.{_≡_, refl, sym, ap, ap₂, _∙_}
-use Prim.Native.Nat.{ℕ, zero, suc, _+_, _≤_, _<_}
-use native.Mathlib.Nat.{add-zero}
+use mathlib.Core.Path.{_≡_, refl, sym, ap, _∙_}
+use Prim.Native.Nat.{ℕ, suc, _+_, _≤_, _<_}
 use native.Mathlib.Numerals.{add-one}
 use native.Mathlib.Omega.{arith}
 use mathlib.Core.Bool.{Bool, true, false, cond}
 use mathlib.Core.List.{List, [], _∷_}
 use lib.ListN.{length, drop, getD, drop-of-length-le}
 use lib.Seq.{drop-cons}
-use lib.Dec.{eqb, leb, leb→le}
+use lib.Dec.{leb, leb→le}
 use borrow.Author.Tests.{ne-eqb}
 use Rattle.text.specs.Tests.{and-T, true-T}
 use Rattle.rows_program.specs.FirstLine.{digit, more, withDigit, withByte, withBytes, readOf, ReadPart}
 use Rattle.rows_program.specs.declared.first_line.FirstLine.{FirstLine}
-use Rattle.rows_program.specs.declared.first_line.Part.{Part}
 
 -- ---- one byte
 

@@ -1,11 +1,11 @@
 -- The ends of the functions that make up the call `read`.
-use mathlib.Core.Path.{_≡_, refl, sym, ap, ap₂, _∙_, subst}
+use mathlib.Core.Path.{_≡_, refl, sym, ap, ap₂, _∙_}
 use Prim.Native.Nat.{ℕ, zero, suc, _+_, _-_, _*_, _≤_, _<_}
 use native.Mathlib.Nat.{not-suc-le-zero, le-of-suc-le-suc}
 use native.Mathlib.Omega.{arith}
 use mathlib.Core.Bool.{Bool, true, false, cond}
-use mathlib.Core.List.{List, [], _∷_, _++_, map, append-assoc, append-nil}
-use lib.ListN.{length, take, drop, set, replicate, length-set, length-append, length-replicate, length-map}
+use mathlib.Core.List.{List, [], _∷_, _++_, append-assoc, append-nil}
+use lib.ListN.{length, take, drop, set, replicate, length-append, length-replicate, length-map}
 use lib.Seq.{take-append-seam}
 use lib.Dec.{eqb, leb, ltb}
 use borrow.Author.Tests.{eq-eqb, ne-eqb, eqb-true, eqb-false, le-leb, lt-leb, leb-true, lt-ltb, le-ltb, ltb-true, ltb-false}
@@ -20,8 +20,8 @@ use Rattle.text.specs.declared.Answer.{Answer}
 use Rattle.text.specs.declared.class.Profile as code
 use Rattle.spans.specs.Search.{searchedLength, inOrder, read}
 use Rattle.spans.specs.Spans.{Span, Record, recordOf, records}
-use Rattle.spans.specs.Calls.{question3, question4, noRecord, Read, readCall}
-use Rattle.spans.specs.Contracts.{remaining, Sound, Counting, firstRecord, Nexted, Begun, Started, refusedBy, AtStart, thirdQuestion, Planned, HeldIn, Holds, recordsOf, Ongoing, NextHolds, Fillable, Filled, numberOf, Finished, readAs, firstQuestions, Beginning, Prepared}
+use Rattle.spans.specs.Calls.{noRecord, Read, readCall}
+use Rattle.spans.specs.Contracts.{remaining, Sound, Counting, firstRecord, Nexted, Begun, Started, refusedBy, thirdQuestion, Planned, Holds, recordsOf, Ongoing, NextHolds, Fillable, Filled, numberOf, Finished, readAs, firstQuestions, Prepared}
 use Rattle.spans.specs.declared.stretches.Cursor.{Cursor}
 use Rattle.spans.specs.declared.stretches.NextRecord.{NextRecord}
 use Rattle.spans.specs.declared.Reading.{Reading}

@@ -1,21 +1,21 @@
 -- What a cluster is, by its bytes.
 use mathlib.Core.Path.{_≡_, refl, sym, ap, _∙_}
-use Prim.Native.Nat.{ℕ, zero, suc, _+_, _-_, _≤_, _<_}
+use Prim.Native.Nat.{ℕ, suc, _+_, _-_, _<_}
 use native.Mathlib.Omega.{arith}
-use mathlib.Core.Bool.{Bool, true, false, not, cond, _&&_, _||_, and-true, and-false}
-use mathlib.Core.List.{List, [], _∷_, _++_}
-use lib.ListN.{length, take, drop, getD}
+use mathlib.Core.Bool.{false, not, cond, _&&_, _||_, and-true, and-false}
+use mathlib.Core.List.{List, [], _∷_}
+use lib.ListN.{length, getD}
 use lib.Seq.{getD-take}
-use lib.Dec.{T, eqb, leb, eqb→eq}
-use borrow.Author.Tests.{eq-eqb, ne-eqb, le-leb, lt-leb, eqb-true}
-use Rattle.text.specs.Tests.{cases, true-T}
+use lib.Dec.{eqb, leb}
+use borrow.Author.Tests.{ne-eqb, le-leb, eqb-true}
+use Rattle.text.specs.Tests.{cases}
 use Rattle.text.specs.Utf8.{Scalar, decode, runOf, bytesOf, sameBytes, reads}
 use Rattle.text.specs.Class.{Profile}
 use Rattle.text.specs.Width.{widthOf}
 use Rattle.text.specs.Cluster.{clusters}
 use Rattle.text.specs.Cluster.Walk.{cluster-bytes, cluster-some}
-use Rattle.spans.specs.Sequence.{Sequence, sgr, eraseToEnd, ignored, hyperlink, lineDrawing, Found, found, missing, parse}
-use Rattle.spans.specs.Spans.{Content, text, control, invalid, unprintable, escape, tab, crlf, lf, Seen, plain, special, escapeSeen, controlSeen, seen, kindOf, matchOf}
+use Rattle.spans.specs.Sequence.{sgr, eraseToEnd, ignored, hyperlink, lineDrawing, Found, found, missing, parse}
+use Rattle.spans.specs.Spans.{control, unprintable, tab, crlf, lf, Seen, plain, special, escapeSeen, controlSeen, seen, kindOf}
 use Rattle.spans.specs.Spans.Steps.{isPlain, escape-special, plainCluster, plain-same}
 use Rattle.spans.specs.Contracts.{plainBytes, aLook, told, escapeLook, lookBytes}
 use Rattle.spans.specs.declared.reader.Look.{Look}

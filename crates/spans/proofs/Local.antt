@@ -4,7 +4,7 @@
 --     lends-first    the array  ⊢ ⇛ ∃ γ. own (the `&κ mut [Span]` on the first k of xs) ∗ LentFirst γ
 --     first-back     given that zs has k records:  [†κ] ∗ LentFirst γ ∗ finally γ zs  ⊢ ⇛ the array, with zs in front
 -- Assumes `Given`.
-use mathlib.Core.Path.{_≡_, refl, sym, _∙_, ap, subst}
+use mathlib.Core.Path.{_≡_, refl, sym, _∙_, subst}
 use Prim.Native.Nat.{ℕ, _≤_}
 use mathlib.Core.List.{List, [], _∷_, _++_}
 use lib.ListN.{length, take, drop as dropped, replicate, length-replicate, take-append-drop}
@@ -17,7 +17,7 @@ use base.Logic.{ent, sep, ex}
 use base.Fml.{Lft, GName, Fml, fsep, fat, fdead, flent}
 use prog.Wp.{Heap}
 use ghost.Atoms.{Atoms, sem}
-use types.Kit.{Given, ‵, _⊛_, some, later, _$_, _∵_, !, qed, move, drop, use1, use2, use3, split, pick, rewrite, fsplit, fjoin, fpick, fpack, feqI, feqL, frame, await, updating, now as at-once, show, done}
+use types.Kit.{Given, ‵, _⊛_, some, later, _$_, _∵_, !, qed, move, drop, use1, use2, use3, split, pick, rewrite, fsplit, fjoin, fpick, fpack, feqI, frame, await, updating, now as at-once, show, done}
 use types.SemTy.{Arr, cells}
 use types.Share.{arr-parts}
 use denote.Laws.{Is, shows}

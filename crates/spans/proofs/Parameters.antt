@@ -1,20 +1,19 @@
 -- The parameters of a style order: numbers that stay where they have passed 65,535 serve as well, and the scan of them.
 use mathlib.Core.Path.{_≡_, refl, sym, ap, _∙_}
-use Prim.Native.Nat.{ℕ, zero, suc, _+_, _-_, _*_, _%_, _≤_, _<_}
+use Prim.Native.Nat.{ℕ, suc, _+_, _-_, _*_, _%_, _≤_, _<_}
 use native.Mathlib.Numerals.{add-one}
 use native.Mathlib.Omega.{arith}
 use native.Mathlib.Nat.{zero-add}
-use mathlib.Core.Bool.{Bool, true, false, cond, _&&_, _||_}
+use mathlib.Core.Bool.{Bool, true, false, cond, _&&_}
 use mathlib.Core.List.{List, [], _∷_, map}
 use lib.ListN.{length, drop, getD, drop-of-length-le, length-map}
 use lib.Seq.{drop-cons}
-use lib.Dec.{T, eqb, leb, ltb, leb→le, ltb→lt, nltb→le}
+use lib.Dec.{eqb, leb, ltb, leb→le}
 use borrow.Author.Tests.{eq-eqb, ne-eqb, le-leb, lt-leb, leb-true, leb-false}
 use Rattle.text.specs.Tests.{cases, and-T, true-T}
-use Rattle.spans.specs.Sgr.{digit, parameters, allAtMost, allowed, stepOf, follow, ordersFrom, orders, saidBy, known}
+use Rattle.spans.specs.Sgr.{digit, parameters, allAtMost, allowed, stepOf, follow, ordersFrom, orders}
 use Rattle.spans.specs.Sequence.{leading, parameterByte}
 use Rattle.spans.specs.Contracts.{more, numbers, Scanned, numbersAt, room, ParameterAt, parametersAt, ordersAt, ordersOf}
-use Rattle.spans.specs.declared.sgr.Scan.{Scan}
 use Rattle.spans.specs.declared.sgr.Parameter.{Parameter}
 use Rattle.spans.specs.declared.sgr.Orders.{Orders}
 use Rattle.spans.specs.declared.sgr.NextOrder.{NextOrder}

@@ -9,15 +9,14 @@ use mathlib.Core.List.{List, [], _∷_}
 use mathlib.Core.Logic.{_≢_}
 use lib.ListN.{length, take, drop, getD, drop-of-length-le, List·getD-eq-default}
 use lib.Seq.{drop-cons, drop-drop, drop-nil, getD-drop}
-use lib.Dec.{T, eqb, leb, ltb, eqb→eq, leb→le, ltb→lt, nltb→le}
-use borrow.Author.Tests.{eq-eqb, ne-eqb, le-leb, lt-leb, lt-ltb, le-ltb}
+use lib.Dec.{eqb, leb, ltb, eqb→eq, ltb→lt, nltb→le}
+use borrow.Author.Tests.{eq-eqb, ne-eqb, lt-ltb, le-ltb}
 use Rattle.text.specs.Tests.{cases, and-T, true-T}
 use Rattle.spans.specs.Sequence.{leading, past}
 use Rattle.spans.specs.Search.{Stretch, stretch, sequenceByte, escapeMatch, addStretch, escapesFrom, trimmed, escapes, lengthOf, searchedLength, inOrder, offsetFrom}
 use Rattle.spans.specs.Contracts.{Skipped, Small, Matching, escapesAt, escapesOf, Lies, EscapeAt, EscapesLength, pairInOrder, offsetOn, OffsetsFrom, OffsetReady, OffsetAt}
 use Rattle.spans.specs.declared.search.Escape.{Escape}
 use Rattle.spans.specs.declared.search.Offsets.{Offsets}
-use Rattle.spans.specs.declared.search.Offset.{Offset}
 
 -- ---- the match at a place
 

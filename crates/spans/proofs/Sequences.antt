@@ -1,5 +1,5 @@
 -- The ends of the functions that read a sequence at ESC.
-use mathlib.Core.Path.{_≡_, refl, sym, ap, _∙_}
+use mathlib.Core.Path.{_≡_, refl, sym}
 use Prim.Native.Nat.{ℕ, zero, suc, _+_, _-_, _≤_, _<_}
 use native.Mathlib.Nat.{sub-zero, zero-sub, suc-sub-suc}
 use native.Mathlib.Numerals.{add-one}
@@ -13,7 +13,7 @@ use Rattle.spans.specs.Sgr.{parameters, allowed, orders}
 use Rattle.spans.specs.Sequence.{Sequence, sgr, ignored, Found, found, missing, leading, past, ifKnown, erase, final, charset, csi, uriByte, idByte, closed, osc, parse}
 use Rattle.spans.specs.Contracts.{told, Skipped, uriAt, Scanned, ordersOf, ordersAt, parametersAt}
 use Rattle.spans.specs.declared.sequence.Sequence as code
-use Rattle.spans.specs.declared.sequence.Sequence.the-variants.{Missing, Ignored}
+use Rattle.spans.specs.declared.sequence.Sequence.the-variants.{Missing}
 use Rattle.spans.specs.declared.sequence.Sequence.the-variants as sequence
 use Rattle.spans.specs.declared.sgr.Scan.{Scan}
 use Rattle.spans.specs.declared.sgr.Sgr.{Sgr}

@@ -1,32 +1,28 @@
 -- The ends of the functions that go from stretch to stretch.
 use mathlib.Core.Path.{_≡_, refl, sym, ap, ap₂, _∙_}
-use Prim.Native.Nat.{ℕ, zero, suc, _+_, _-_, _*_, _≤_, _<_}
-use native.Mathlib.Nat.{add-zero}
+use Prim.Native.Nat.{ℕ, suc, _+_, _-_, _≤_, _<_}
 use native.Mathlib.Numerals.{add-one}
 use native.Mathlib.Omega.{arith}
-use mathlib.Core.Bool.{Bool, true, false, cond, _&&_, _||_, or-true}
+use mathlib.Core.Bool.{Bool, true, false, _||_, or-true}
 use mathlib.Core.List.{List, [], _∷_, _++_, map, append-assoc, append-nil}
 use mathlib.Core.Option.{Option, none, some}
-use lib.ListN.{length, take, drop, getD, drop-of-length-le, length-take, length-append, length-map}
+use lib.ListN.{length, take, drop, getD, drop-of-length-le, length-append, length-map}
 use lib.Seq.{drop-cons, take-all, length-take-le}
-use lib.Dec.{T, eqb, leb, ltb, leb→le, ltb→lt, nltb→le}
-use borrow.Author.Tests.{eq-eqb, ne-eqb, le-leb, lt-leb, leb-true, leb-false, ltb-true, ltb-false, lt-ltb}
+use lib.Dec.{T, leb, ltb, leb→le, ltb→lt, nltb→le}
+use borrow.Author.Tests.{eq-eqb, ne-eqb, le-leb, leb-true, leb-false, ltb-true, ltb-false, lt-ltb}
 use Rattle.text.specs.Tests.{cases, and-T, or-T, or-false, true-T, is-true}
 use Rattle.text.specs.Utf8.{decode, decodeFrom, runs}
 use Rattle.text.specs.Class.{Profile}
-use Rattle.text.specs.Width.{profile01}
-use Rattle.text.specs.Code.{profileOf}
 use Rattle.spans.specs.Search.{trimmed, escapes, searchedLength, inOrder, offsetFrom, readPart, readMatches, read}
 use Rattle.spans.specs.Spans.{Span, spansAt, spans, readPieces, Record, aRecord, recordOf, records}
 use Rattle.spans.specs.Spans.Laws.{map-append}
 use Rattle.spans.specs.Spans.Steps.{step-some}
-use Rattle.spans.specs.Contracts.{clipped, isMatch, spent, withoutNewline, pending, behindStretch, remaining, orderFrom, stretchesLeft, Sound, Opening, Opened, Waiting, Going, Moved, Settled, Counting, firstRecord, Nexted, HasNext, Begun, Started, OffsetsFrom, OffsetReady, OffsetAt, recordsFrom, matchIn, Fresh, Ready, Stepped}
+use Rattle.spans.specs.Contracts.{clipped, isMatch, spent, withoutNewline, pending, behindStretch, remaining, orderFrom, stretchesLeft, Sound, Opening, Opened, Waiting, Going, Moved, Settled, Counting, firstRecord, Nexted, HasNext, Begun, Started, OffsetsFrom, OffsetReady, OffsetAt, recordsFrom, matchIn, Ready, Stepped}
 use Rattle.spans.specs.declared.search.Offset.{Offset}
 use Rattle.spans.specs.declared.search.Offsets.{Offsets}
 use Rattle.spans.specs.declared.reader.Matched.{Matched}
 use Rattle.spans.specs.declared.reader.NextSpan.{NextSpan}
 use Rattle.spans.specs.declared.stretches.Cursor.{Cursor}
-use Rattle.spans.specs.declared.stretches.NextRecord.{NextRecord}
 use Rattle.spans.proofs.Sequences.{part-slice}
 use Rattle.spans.proofs.Searching.{trimmed-fits}
 

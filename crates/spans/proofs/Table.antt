@@ -3,10 +3,10 @@ use mathlib.Core.Path.{_≡_, refl, sym, ap, _∙_}
 use Prim.Native.Nat.{ℕ, zero, suc, _+_, _≤_, _<_}
 use native.Mathlib.Nat.{add-zero, zero-add, not-suc-le-zero}
 use native.Mathlib.Omega.{arith}
-use mathlib.Core.Bool.{Bool, true, false, cond, _&&_}
+use mathlib.Core.Bool.{Bool, true, false, _&&_}
 use mathlib.Core.List.{List, [], _∷_, map}
-use lib.Dec.{T, eqb, leb, ltb, ltb→lt}
-use lib.ListN.{length, getD, List·getD-map}
+use lib.Dec.{T, leb, ltb, ltb→lt}
+use lib.ListN.{getD, List·getD-map}
 use borrow.Author.Tests.{lt-leb, ne-eqb}
 use Rattle.text.specs.Tests.{and-T, cases}
 use Rattle.text.specs.Utf8.{to, within}

@@ -1,6 +1,6 @@
 -- What the contracts of the code say beyond the definitions.
 use mathlib.Core.Path.{_≡_}
-use Prim.Native.Nat.{ℕ, zero, suc, _+_, _-_, _*_, _/_, _%_, _≤_, _<_}
+use Prim.Native.Nat.{ℕ, suc, _+_, _-_, _*_, _/_, _%_, _≤_, _<_}
 use mathlib.Core.Logic.{_≢_}
 use mathlib.Core.Bool.{Bool, true, false, not, cond, _&&_, _||_}
 use mathlib.Core.Option.{Option, none, some}
@@ -16,7 +16,7 @@ use Rattle.text.specs.Width.{profile01}
 use Rattle.text.specs.Overstrike.{convert}
 use Rattle.text.specs.Calls.{decide, counted, question1, question2}
 use Rattle.text.specs.declared.Answer.{Answer}
-use Rattle.spans.specs.Sgr.{digit, parameters, allowed, coloured, ordersFrom, orders}
+use Rattle.spans.specs.Sgr.{digit, parameters, allowed, coloured, orders}
 use Rattle.spans.specs.Sequence.{Sequence, sgr, eraseToEnd, ignored, hyperlink, lineDrawing, Found, found, missing, leading, past, parameterByte, uriByte, closed}
 use Rattle.spans.specs.Search.{Stretch, stretch, escapeMatch, escapesFrom, trimmed, escapes, lengthOf, searchedLength, inOrder, offsetFrom, readPart, readMatches, read}
 use Rattle.spans.specs.Spans.{Span, spansAt, Record, aRecord, records}

@@ -7,7 +7,7 @@ use mathlib.Core.List.{List, [], _++_, _∷_, append-assoc, append-nil, reverse,
 use mathlib.Core.Logic.{_≢_}
 use mathlib.Core.Path.{_∙_, _≡_, ap, ap₂, refl, sym}
 use lib.ListN.{drop, drop-of-length-le, getD, length, length-append, length-drop, length-set, length-take, set, take, take-append-drop}
-use lib.Seq.{drop-cons, drop-drop, length-take-le, slice, take-all, take-append-add, take-append-le, take-at, take-suc-set}
+use lib.Seq.{drop-cons, drop-drop, length-take-le, slice, take-all, take-append-add, take-append-le, take-suc-set}
 use Rattle.buffer.specs.Sink.{written}
 use Rattle.text.specs.Class.{Profile}
 use Rattle.text.specs.Cluster.{clusters, clustersAfter}

@@ -6,12 +6,12 @@ use native.Mathlib.Omega.{arith}
 use mathlib.Core.List.{List, [], _∷_, reverse, reverseAux}
 use mathlib.Core.Path.{_∙_, _≡_, ap, refl, sym}
 use lib.Dec.{leb}
-use lib.ListN.{drop, length, length-append, take}
+use lib.ListN.{drop, length, take}
 use lib.Seq.{drop-drop, getD-drop, length-take-le, slice, take-nil}
 use borrow.Author.Tests.{leb-false, leb-true}
 use Rattle.text.specs.Code.{back, firstSequence, runOf, size}
 use Rattle.text.specs.Tests.{cases}
-use Rattle.text.specs.Utf8.{Scalar, bytesOf, decode, decodeFrom, sequence, value}
+use Rattle.text.specs.Utf8.{Scalar, decode, decodeFrom, sequence, value}
 use Rattle.text.specs.Utf8.Laws.{sequence-le}
 use Rattle.text.specs.declared.utf8.Sequence.{Sequence}
 use Rattle.text.proofs.Tails.{back-to, seq-lead, seq-tails}

@@ -14,7 +14,7 @@ use Rattle.text.specs.Class.{Profile}
 use Rattle.text.specs.Cluster.Walk.{size-is}
 use Rattle.text.specs.Code.{BackReady, BackspaceStep, EvenAt, FinishReady, Finished, Front, FrontEven, Part, Pushed, Sound, StepReady, Stepped, Strike, StruckStep, backspaceOn, backward, clusterOn, conversion, finishOn, orderOf, partOf, pendingOf, plain, pushedOn, stateOf, styleOf, whole}
 use Rattle.text.specs.Overstrike.{State, Style, ambiguous, backspace, bold, boldUnderline, bolded, finish, held, none, normal, onBackspace, onCluster, order, push, state, step, strike, struck, underline, underlined}
-use Rattle.text.specs.Overstrike.Length.{cost, cost-normal, order-size, size-push, waiting, weight}
+use Rattle.text.specs.Overstrike.Length.{cost, cost-normal, order-size, waiting, weight}
 use Rattle.text.specs.Tests.{cases}
 use Rattle.text.specs.Utf8.{Scalar, asciis, bytesOf, decode, decodeFrom, reads, runOf, sameBytes, within}
 use Rattle.text.specs.Utf8.Valid.{valid}

@@ -1,6 +1,6 @@
 -- Overstrike conversion: src/overstrike.rs, function for function.
 use Prim.Native.Nat.{ℕ}
-use mathlib.Core.Bool.{Bool, true, false, cond, _||_}
+use mathlib.Core.Bool.{Bool, false, cond, _||_}
 use mathlib.Core.List.{List, [], _∷_, _++_, reverse, reverseAux}
 use lib.Dec.{eqb}
 use Rattle.text.specs.Utf8.{Scalar, decode, Piece, run, damaged, runs, bytesOf, ascii, asciis, sameBytes, reads}

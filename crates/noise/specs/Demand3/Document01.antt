@@ -4,11 +4,11 @@ use Prim.Native.Nat.{ℕ, zero, suc, _<_}
 use native.Mathlib.Omega.{arith}
 use native.Mathlib.Nat.{not-suc-le-zero}
 use mathlib.Core.Logic.{_≢_}
-use mathlib.Core.Bool.{Bool, true, false, _&&_}
-use mathlib.Core.List.{List, [], _∷_}
+use mathlib.Core.Bool.{Bool, true, _&&_}
+use mathlib.Core.List.{List}
 use lib.Dec.{T, eqb, eqb→eq, eqb-refl}
 use Rattle.text.specs.Tests.{cases, and-T, true-T}
-use Rattle.text.specs.Class.{Class, cr, lf, control, extend, zwj, classL, classV, classT, classLV, classLVT, regionalIndicator, other, number, Profile}
+use Rattle.text.specs.Class.{Class, cr, lf, control, extend, zwj, classL, classV, classT, classLV, classLVT, regionalIndicator, other, number}
 use Rattle.text.specs.Width.{profile01}
 use Rattle.drawing.specs.Marks.{hexDigit}
 use Rattle.drawing.specs.Draw.Noise.{PlainDigits}

@@ -1,11 +1,10 @@
 -- Exchange: the proof.
 use mathlib.Core.Path.{_≡_, refl, sym, ap, ap₂, _∙_}
 use mathlib.Core.Logic.{_≢_}
-use Prim.Native.Nat.{ℕ, zero, suc, _+_, _-_, _<_}
+use Prim.Native.Nat.{ℕ, zero, suc, _+_, _-_}
 use native.Mathlib.Omega.{arith}
-use mathlib.Core.Bool.{Bool, true, false, _&&_, true≢false}
+use mathlib.Core.Bool.{true, false, true≢false}
 use mathlib.Core.List.{List, [], _∷_, _++_}
-use mathlib.Core.Option.{Option, none, some}
 use lib.ListN.{length, getD, replicate}
 use lib.Dec.{T, eqb, leb, eqb→eq, eqb-refl}
 use Rattle.text.specs.Tests.{cases, is-true, true-T}
@@ -16,7 +15,7 @@ use Rattle.text.specs.Class.{Profile}
 use Rattle.text.specs.Overstrike.{convert}
 use Rattle.text.specs.Overstrike.Noise.{convert-twin}
 use Rattle.text.specs.Calls.{Question, ask, decide, lent, counted, question1, question2, convertCall}
-use Rattle.spans.specs.Spans.{Span, spans, Record, records}
+use Rattle.spans.specs.Spans.{Span, spans, records}
 use Rattle.spans.specs.Spans.Noise.{TwinSpan, spans-twin, records-twin}
 use Rattle.spans.specs.Search as search
 use Rattle.spans.specs.Calls.{readCall, question3, question4, noRecord}
@@ -29,7 +28,7 @@ use Rattle.drawing.specs.Draw.Noise.{PlainDigits, TwinChange, MarkByte, render-
 use Rattle.drawing.specs.Calls.{Drawn, drawing, windowQuestions, rowQuestions, windowCall, rowCall}
 use Rattle.noise.specs.Calls.{Call, answer, noMatches, withoutMatches, changesOf}
 use Rattle.noise.specs.Calls as calls
-use Rattle.noise.specs.Demand3.{Exchanged, Alike, Exchange}
+use Rattle.noise.specs.Demand3.{Alike, Exchange}
 
 -- ---- the demand's words, and lines byte by byte
 

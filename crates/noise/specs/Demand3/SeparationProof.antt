@@ -1,18 +1,18 @@
 -- Separation: the proof.
 use mathlib.Core.Path.{_≡_, refl, sym, ap, ap₂, _∙_}
-use Prim.Native.Nat.{ℕ, zero, suc, _+_, _*_, _≤_}
+use Prim.Native.Nat.{ℕ, suc, _+_, _*_, _≤_}
 use native.Mathlib.Omega.{arith}
 use native.Mathlib.Nat.{not-suc-le-zero}
-use mathlib.Core.Bool.{Bool, true, false, _&&_}
+use mathlib.Core.Bool.{Bool, true, false}
 use mathlib.Core.List.{List, [], _∷_, _++_, map}
-use mathlib.Core.Option.{Option, none, some}
-use lib.ListN.{length, take, replicate, length-append, length-map}
+use mathlib.Core.Option.{some}
+use lib.ListN.{length, take, length-append, length-map}
 use lib.Seq.{take-append-seam}
 use lib.Dec.{T, leb, leb→le, le→leb}
 use Rattle.text.specs.Tests.{is-true, true-T}
 use Rattle.text.specs.Utf8.{allNoise}
 use Rattle.text.specs.Class.{Profile}
-use Rattle.text.specs.Calls.{Question, ask, decide, lent, counted, question1, question2}
+use Rattle.text.specs.Calls.{Question, ask, decide, lent, counted, question2}
 use Rattle.text.specs.Overstrike.{convert}
 use Rattle.spans.specs.Spans.{Span, spans, Record, aRecord, recordOf, records, kindOf, matchOf}
 use Rattle.spans.specs.Spans.Laws.{shift, map-append}
@@ -21,9 +21,9 @@ use Rattle.spans.specs.Search as search
 use Rattle.spans.specs.Calls.{readCall, question3, question4, noRecord}
 use Rattle.rows.specs.Calls.{rowsCall, heightCall}
 use Rattle.drawing.specs.Calls.{drawing, windowCall, rowCall}
-use Rattle.noise.specs.Calls.{Call, Outcome, answer, noMatches, withoutMatches, placesOf}
+use Rattle.noise.specs.Calls.{Call, answer, noMatches, withoutMatches, placesOf}
 use Rattle.noise.specs.Calls as calls
-use Rattle.noise.specs.Demand3.{listed, moved, noiseRecords, together, Separated, Separation}
+use Rattle.noise.specs.Demand3.{listed, moved, noiseRecords, together, Separation}
 
 -- ---- records
 

@@ -1,15 +1,15 @@
 -- Rows pushed before do not matter to what follows them.
-use mathlib.Core.Path.{_≡_, refl, sym, ap, _∙_}
+use mathlib.Core.Path.{_≡_, refl, ap, _∙_}
 use Prim.Native.Nat.{ℕ, _+_, _%_, _-_}
 use mathlib.Core.Bool.{Bool, true, false, cond}
-use mathlib.Core.List.{List, [], _∷_, _++_, append-assoc}
+use mathlib.Core.List.{List, [], _∷_, _++_}
 use lib.Dec.{eqb}
 use Rattle.text.specs.Utf8.{Scalar}
 use Rattle.text.specs.Class.{Profile}
 use Rattle.text.specs.Width.{widthOf}
 use Rattle.text.specs.Cluster.{clusters}
 use Rattle.rows.specs.Words.{Word, words}
-use Rattle.rows.specs.Rows.{Row, row, Wrap, wrap, fitsRow, unit, tabbed, pushed, byClusters, wordEnd, longWord, oneWord, byWords, splitText}
+use Rattle.rows.specs.Rows.{Row, Wrap, wrap, fitsRow, unit, tabbed, pushed, byClusters, wordEnd, longWord, oneWord, byWords, splitText}
 
 -- rows pushed before
 unfoldable pub over : List Row → Wrap → Wrap

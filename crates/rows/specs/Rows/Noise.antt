@@ -8,7 +8,7 @@ use Rattle.text.specs.Each.{Each, nil, cons}
 use Rattle.text.specs.Class.{Profile}
 use Rattle.spans.specs.Spans.{Span, invalid}
 use Rattle.spans.specs.Spans.Noise.{TwinSpan}
-use Rattle.rows.specs.Rows.{Row, Wrap, wrap, split, splits, lastRow, wrapped, Mode, unwrapped, graphemeBoundary, wordBoundary, rows}
+use Rattle.rows.specs.Rows.{Wrap, wrap, split, splits, lastRow, wrapped, Mode, unwrapped, graphemeBoundary, wordBoundary, rows}
 
 module _ (P : Profile) (width : ℕ) {l m : List ℕ} where
   splits-twin : (w : Bool) (t : Wrap) {ss ts : List Span} → Each (TwinSpan l m) ss ts → splits P width w t ss ≡ splits P width w t ts

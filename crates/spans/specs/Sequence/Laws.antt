@@ -1,14 +1,14 @@
 -- A sequence stays what it is, whatever follows it.
 use mathlib.Core.Path.{_≡_, refl, sym, ap, _∙_}
-use Prim.Native.Nat.{ℕ, zero, suc, _+_, _-_, _*_, _≤_, _<_, zero-le, suc-le-suc}
+use Prim.Native.Nat.{ℕ, suc, _+_, _-_, _*_, _≤_, _<_, zero-le, suc-le-suc}
 use native.Mathlib.Omega.{arith}
 use native.Mathlib.Nat.{le-of-suc-le-suc, not-suc-le-zero}
 use mathlib.Core.Logic.{_⊎_, inl, inr}
 use mathlib.Core.Bool.{Bool, true, false, not, cond, _&&_, _||_}
 use mathlib.Core.List.{List, [], _∷_, _++_}
-use lib.ListN.{length, drop, getD, length-append, length-drop, List·getD-append, List·getD-eq-default}
-use lib.Seq.{drop-append-le, getD-drop}
-use lib.Dec.{T, eqb, leb, ltb, eqb→eq, ltb→lt, nltb→le}
+use lib.ListN.{length, drop, getD, length-drop, List·getD-append, List·getD-eq-default}
+use lib.Seq.{drop-append-le}
+use lib.Dec.{T, eqb, ltb, eqb→eq, ltb→lt, nltb→le}
 use Rattle.text.specs.Tests.{cases, and-T, true-T}
 use Rattle.spans.specs.Sgr.{digit, parameters, allowed, orders}
 use Rattle.spans.specs.declared.sgr.Sgr.{Sgr}

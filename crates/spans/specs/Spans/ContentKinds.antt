@@ -1,19 +1,18 @@
 -- What a record says of the line, kind by kind, in the terms of the code above: bytes and parts of the line.
 use mathlib.Core.Path.{_≡_, refl, sym, ap, _∙_}
 use Prim.Native.Nat.{ℕ, zero, suc, _+_, _-_}
-use native.Mathlib.Nat.{add-zero, sub-zero, zero-sub, suc-sub-suc}
+use native.Mathlib.Nat.{add-zero}
 use native.Mathlib.Omega.{arith}
 use mathlib.Core.Bool.{Bool, true, false, cond, _&&_, _||_}
 use mathlib.Core.List.{List, [], _∷_}
-use mathlib.Core.Option.{Option, none, some}
-use lib.ListN.{length, take, drop, getD}
+use mathlib.Core.Option.{none, some}
+use lib.ListN.{take, drop, getD}
 use lib.Seq.{slice, drop-drop, getD-drop, drop-nil, take-nil}
-use lib.Dec.{eqb, leb}
-use Rattle.text.specs.Tests.{cases}
+use lib.Dec.{eqb}
 use Rattle.text.specs.Utf8.{Scalar, decode, runOf}
 use Rattle.spans.specs.Sgr.{parameters, allowed, orders}
-use Rattle.spans.specs.Sequence.{Sequence, sgr, eraseToEnd, ignored, hyperlink, lineDrawing, Found, found, missing, leading, parameterByte, ifKnown, erase, final, charset, csi, past, uriByte, idByte, closed, osc, parse}
-use Rattle.spans.specs.Spans.{Content, text, control, invalid, unprintable, escape, tab, crlf, lf, Record}
+use Rattle.spans.specs.Sequence.{sgr, eraseToEnd, ignored, hyperlink, lineDrawing, Found, found, missing, leading, parameterByte, ifKnown, erase, final, charset, csi, past, uriByte, idByte, closed, osc, parse}
+use Rattle.spans.specs.Spans.{text, control, invalid, unprintable, escape, tab, crlf, lf, Record}
 use Rattle.spans.specs.Spans.ContentLaw.{sequenceIn, textIn, contentIn, contentOf}
 use Rattle.spans.specs.declared.sgr.Sgr.{Sgr}
 

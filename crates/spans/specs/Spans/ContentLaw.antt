@@ -2,16 +2,16 @@
 use mathlib.Core.Path.{_≡_, refl, sym, ap, ap₂, _∙_}
 use Prim.Native.Nat.{ℕ, zero, suc, _+_, _-_}
 use native.Mathlib.Omega.{arith}
-use mathlib.Core.Bool.{Bool, true, false, cond, _&&_, _||_}
+use mathlib.Core.Bool.{Bool, true, false, cond, _||_}
 use mathlib.Core.List.{List, [], _∷_, _++_, append-assoc, append-nil}
 use mathlib.Core.Option.{Option, none, some}
 use lib.ListN.{length, take, drop, getD, length-append, take-append-drop}
-use lib.Seq.{take-append-seam, drop-append-seam, drop-drop}
+use lib.Seq.{take-append-seam}
 use lib.Dec.{T, eqb, leb, eqb→eq}
-use Rattle.text.specs.Tests.{cases, and-T, true-T}
+use Rattle.text.specs.Tests.{and-T, true-T}
 use Rattle.text.specs.Each.{All, all-nil, all-cons, all-append, all-split, all-map}
 use Rattle.text.specs.Places.{behind, behind-byte}
-use Rattle.text.specs.Utf8.{Scalar, decode, Piece, run, damaged, runs, runOf, bytesOf, sameBytes, reads}
+use Rattle.text.specs.Utf8.{Scalar, decode, Piece, runOf, bytesOf, sameBytes, reads}
 use Rattle.text.specs.Utf8.Laws.{bytesOf-append, pieceBytes, pieceBytes-runs, decodedBytes-decode}
 use Rattle.text.specs.Utf8.Valid.{Valid, ValidPiece, runs-valid, run-text}
 use Rattle.text.specs.Class.{Profile}

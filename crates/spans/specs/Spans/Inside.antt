@@ -1,24 +1,24 @@
 -- A span lies inside the line.
-use mathlib.Core.Path.{_≡_, refl, sym, ap, _∙_}
-use Prim.Native.Nat.{ℕ, zero, suc, _+_, _-_, _≤_, _<_}
+use mathlib.Core.Path.{_≡_, refl, ap, _∙_}
+use Prim.Native.Nat.{ℕ, zero, suc, _+_, _-_, _≤_}
 use native.Mathlib.Omega.{arith}
-use mathlib.Core.Bool.{Bool, true, false, cond, _&&_, _||_}
+use mathlib.Core.Bool.{Bool, true, false, cond, _||_}
 use mathlib.Core.List.{List, [], _∷_, _++_}
 use mathlib.Core.Option.{Option, none, some}
-use lib.ListN.{length, take, drop, length-append, length-take, length-drop, drop-of-length-le}
+use lib.ListN.{length, take, drop, length-append, length-drop, drop-of-length-le}
 use lib.Seq.{take-nil, length-take-le, take-all}
-use lib.Dec.{T, eqb, leb, ltb, leb→le}
+use lib.Dec.{T, eqb, leb}
 use borrow.Author.Tests.{leb-true, leb-false}
 use Rattle.text.specs.Tests.{cases, and-T, true-T}
 use Rattle.text.specs.Each.{All, all-nil, all-cons, all-append, all-map, all-split}
-use Rattle.text.specs.Utf8.{Scalar, decode, decodeFrom, Piece, run, damaged, runs, bytesOf, sameBytes, reads}
+use Rattle.text.specs.Utf8.{Scalar, decode, decodeFrom, Piece, runs, bytesOf, sameBytes, reads}
 use Rattle.text.specs.Utf8.Laws.{bytesOf-append, pieceBytes, pieceBytes-runs, decodedBytes-decode}
 use Rattle.text.specs.Utf8.Valid.{Valid, ValidPiece, runs-valid}
 use Rattle.text.specs.Class.{Profile}
 use Rattle.text.specs.Width.{widthOf}
 use Rattle.text.specs.Cluster.{clusters, joinAll}
 use Rattle.text.specs.Cluster.Laws.{clusters-all}
-use Rattle.text.specs.Cluster.Walk.{First, first}
+use Rattle.text.specs.Cluster.Walk.{first}
 use Rattle.spans.specs.Sequence.{Sequence, Found, found, missing, parse}
 use Rattle.spans.specs.Sequence.Laws.{parse-length}
 use Rattle.spans.specs.Search.{Stretch, offsetFrom, escapes, readPart, readMatches, read}

@@ -4,13 +4,13 @@ use Prim.Native.Nat.{ℕ, zero, suc, _+_, _-_}
 use native.Mathlib.Omega.{arith}
 use native.Mathlib.Nat.{add-zero, zero-add}
 use mathlib.Core.List.{List, [], _∷_, _++_, map, append-assoc}
-use mathlib.Core.Option.{Option, none, some}
+use mathlib.Core.Option.{Option}
 use lib.ListN.{length, length-append}
 use Rattle.text.specs.Utf8.{Scalar, decode, Piece, run, damaged, runs, bytesOf}
 use Rattle.text.specs.Class.{Profile}
 use Rattle.text.specs.Cluster.{clusters, joinAll}
 use Rattle.text.specs.Utf8.Laws.{pieceBytes}
-use Rattle.spans.specs.Spans.{Content, text, control, invalid, unprintable, escape, tab, crlf, lf, Span, span, Seen, plain, special, joinText, addText, addCluster, seen, readFrom, readPieces, spansAt, Record, aRecord, recordOf, records, kindOf, matchOf}
+use Rattle.spans.specs.Spans.{Content, text, control, invalid, unprintable, escape, tab, crlf, lf, Span, span, Seen, plain, special, joinText, addText, addCluster, seen, readFrom, readPieces, spansAt}
 
 pub map-append {ℓ κ} : {A : Type ℓ} {B : Type κ} (f : A → B) (s t : List A) → map f (s ++ t) ≡ map f s ++ map f t
 map-append f [] t = refl

@@ -3,15 +3,14 @@ use mathlib.Core.Path.{_≡_, refl, sym, ap, _∙_, subst}
 use Prim.Native.Nat.{ℕ, zero, suc, _+_}
 use native.Mathlib.Omega.{arith}
 use native.Mathlib.Nat.{add-zero, zero-add}
-use mathlib.Core.Bool.{Bool, true, false, _&&_}
 use mathlib.Core.List.{List, [], _∷_, _++_, map}
-use mathlib.Core.Option.{Option, none, some}
+use mathlib.Core.Option.{Option, none}
 use lib.ListN.{length, drop, getD}
 use lib.Dec.{T}
 use Rattle.text.specs.Tests.{and-T}
 use Rattle.text.specs.Each.{Each, nil, cons, each-same, each-append}
 use Rattle.text.specs.Places.{behind, byte-at, behind-byte}
-use Rattle.text.specs.Utf8.{Scalar, decode, Piece, run, damaged, runs, bytesOf, noise, allNoise}
+use Rattle.text.specs.Utf8.{decode, Piece, run, damaged, runs, bytesOf, noise, allNoise}
 use Rattle.text.specs.Class.{Profile}
 use Rattle.text.specs.Cluster.{clusters}
 use Rattle.text.specs.Utf8.Laws.{pieceBytes, pieceBytes-runs, decodedBytes-decode}

@@ -7,7 +7,7 @@ use lib.ListN.{take, drop}
 use lib.Dec.{T, eqb, eqb→eq}
 use Rattle.text.specs.Tests.{and-T, is-true, true-T, cases}
 use Rattle.text.specs.Utf8.{Scalar}
-use Rattle.text.specs.Class.{Profile, regionalIndicator, among, number}
+use Rattle.text.specs.Class.{Profile, among, number}
 use Rattle.text.specs.Cluster.{Context, start, after, joined, classOf, context, joins, joinsNext, addToCluster, clustersAfter, clusters, joinAll}
 
 module _ (P : Profile) where

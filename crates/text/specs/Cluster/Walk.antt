@@ -1,11 +1,11 @@
 -- The clusters of a line's run, one after the other.
 use mathlib.Core.Path.{_≡_, refl, sym, ap, _∙_}
-use Prim.Native.Nat.{ℕ, zero, suc, _+_, _-_, _≤_}
+use Prim.Native.Nat.{ℕ, _+_, _-_, _≤_}
 use native.Mathlib.Omega.{arith}
 use mathlib.Core.List.{List, [], _∷_, _++_}
 use lib.ListN.{length, take, drop, length-append, take-append-drop}
 use Rattle.text.specs.Utf8.{Scalar, decode, runOf, bytesOf}
-use Rattle.text.specs.Utf8.Runs.{run-valid, run-bytes, run-rest, front-bytes, front-run, rest-bytes, run-length}
+use Rattle.text.specs.Utf8.Runs.{run-valid, run-rest, front-bytes, front-run, rest-bytes, run-length}
 use Rattle.text.specs.Utf8.Valid.{Valid}
 use Rattle.text.specs.Each.{All, all-cons, all-split}
 use Rattle.text.specs.Code.{size, firstOf, firstSize}

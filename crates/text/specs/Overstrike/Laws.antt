@@ -1,7 +1,7 @@
 -- Conversion: a text without the byte 08 stays as it is, and a line is converted piece by piece.
 use mathlib.Core.Path.{_≡_, refl, sym, ap, ap₂, _∙_}
 use Prim.Native.Nat.{ℕ}
-use mathlib.Core.Bool.{Bool, true, false, cond, _||_}
+use mathlib.Core.Bool.{false, _||_}
 use mathlib.Core.List.{List, [], _∷_, _++_, append-assoc, append-nil, reverse, reverseAux, reverseAux-eq, reverse-append, reverse-reverse}
 use lib.Dec.{eqb}
 use Rattle.text.specs.Tests.{or-false, cases}
@@ -10,7 +10,7 @@ use Rattle.text.specs.Utf8.Laws.{bytesOf-append, decodedBytes-decode, pi
 use Rattle.text.specs.Class.{Profile}
 use Rattle.text.specs.Cluster.{clusters, joinAll}
 use Rattle.text.specs.Cluster.Laws.{clusters-all}
-use Rattle.text.specs.Overstrike.{Style, normal, Pending, none, held, struck, State, state, hasBackspace, step, steps, finish, onCluster, convertRun, convertPieces, convert, order}
+use Rattle.text.specs.Overstrike.{normal, Pending, none, held, struck, State, state, hasBackspace, step, steps, finish, onCluster, convertRun, convertPieces, convert, order}
 
 -- ---- a text without the byte 08
 

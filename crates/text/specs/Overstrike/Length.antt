@@ -1,15 +1,15 @@
 -- A converted line has at most 8 times the line's bytes: the room that question 2 asks for is enough.
 use mathlib.Core.Path.{_≡_, refl, ap, _∙_}
-use Prim.Native.Nat.{ℕ, zero, suc, _+_, _*_, _≤_, zero-le, suc-le-suc}
+use Prim.Native.Nat.{ℕ, suc, _+_, _*_, _≤_, zero-le}
 use native.Mathlib.Nat.{le-refl, le-trans}
 use native.Mathlib.Omega.{arith}
 use mathlib.Core.Bool.{Bool, true, false, cond}
-use mathlib.Core.List.{List, [], _∷_, _++_, reverse, reverseAux}
+use mathlib.Core.List.{List, [], _∷_, _++_, reverseAux}
 use lib.ListN.{length, length-append}
 use lib.Dec.{T, eqb}
 use Rattle.text.specs.Tests.{cases, and-T, true-T}
 use Rattle.text.specs.Each.{All, all-nil, all-cons}
-use Rattle.text.specs.Utf8.{Scalar, decode, Piece, run, damaged, runs, bytesOf, ascii, asciis, sameBytes, reads}
+use Rattle.text.specs.Utf8.{Scalar, decode, Piece, runs, bytesOf, ascii, asciis, sameBytes, reads}
 use Rattle.text.specs.Utf8.Laws.{bytesOf-append, decodedBytes-decode, pieceBytes, pieceBytes-runs}
 use Rattle.text.specs.Utf8.Valid.{Valid, ValidPiece, runs-valid}
 use Rattle.text.specs.Class.{Profile, isControl}

@@ -1,11 +1,11 @@
 -- Conversion: noise bytes separate, and lines that differ only in which noise bytes they hold have converted lines that do so too.
-use mathlib.Core.Path.{_≡_, sym, ap, _∙_}
+use mathlib.Core.Path.{_≡_, ap, _∙_}
 use Prim.Native.Nat.{ℕ}
-use mathlib.Core.List.{List, [], _∷_, _++_}
+use mathlib.Core.List.{List, _∷_, _++_}
 use lib.Dec.{T}
 use Rattle.text.specs.Each.{Each, nil, cons, each-same, each-append}
 use Rattle.text.specs.Utf8.{decode, Piece, run, damaged, runs, bytesOf, noise}
-use Rattle.text.specs.Utf8.Noise.{Byte, same, exchanged, Twin, TwinPiece, runs-noise, runs-twin}
+use Rattle.text.specs.Utf8.Noise.{same, exchanged, Twin, TwinPiece, runs-noise, runs-twin}
 use Rattle.text.specs.Class.{Profile}
 use Rattle.text.specs.Overstrike.{convertRun, convertPieces, convert}
 use Rattle.text.specs.Overstrike.Laws.{convert-pieces, convertPieces-append}

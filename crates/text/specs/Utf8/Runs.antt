@@ -1,12 +1,12 @@
 -- A line is its first run and what follows it.
-use mathlib.Core.Path.{_≡_, refl, sym, ap, ap₂, _∙_}
+use mathlib.Core.Path.{_≡_, refl, sym, ap, _∙_}
 use Prim.Native.Nat.{ℕ, _+_, _-_, _≤_}
 use native.Mathlib.Omega.{arith}
-use mathlib.Core.List.{List, [], _∷_, _++_, map, append-assoc, append-nil, append-cancel-left}
+use mathlib.Core.List.{List, [], _∷_, _++_, map, append-assoc, append-cancel-left}
 use lib.ListN.{length, take, drop, length-append}
 use lib.Seq.{take-append-seam, drop-append-seam, take-at}
 use Rattle.text.specs.Each.{All, all-nil, all-cons, all-split}
-use Rattle.text.specs.Utf8.{Scalar, decode, Decoded, wellFormed, illFormed, Piece, run, damaged, addToRun, runs, runOf, bytesOf}
+use Rattle.text.specs.Utf8.{Scalar, decode, Decoded, wellFormed, illFormed, Piece, run, addToRun, runs, runOf, bytesOf}
 use Rattle.text.specs.Utf8.Laws.{bytesOf-append, decodedBytes, decodedBytes-decode}
 use Rattle.text.specs.Utf8.Valid.{Valid, ValidPiece, runs-valid, decode-text, run-text}
 

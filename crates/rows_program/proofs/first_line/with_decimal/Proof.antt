@@ -1,5 +1,5 @@
 use Rattle.text.proofs.Branch.{branch}
-use Rattle.rows_program.proofs.Reading.{digit-low, digit-high}
+use Rattle.rows_program.proofs.Reading.{digit-low}
 use borrow.Author.Needs.{needs}
 use Rattle.rows_program.proofs.first_line.with_decimal.Statement.{statement}
 use Rattle.rows_program.proofs.first_line.with_decimal.Tie as tie

@@ -1,7 +1,6 @@
 use Prim.Native.Nat.{_-_}
 use Rattle.text.specs.Code.{profileOf}
 use Rattle.spans.proofs.ReaderLaws.{SkipLoop, skip-begin, skip-here, skip-again, skip-falls, skip-done}
-use borrow.Author.Needs.{needs}
 use Rattle.spans.proofs.reader.skip_to.Statement.{statement}
 use Rattle.spans.proofs.reader.skip_to.Tie as tie
 

@@ -1,6 +1,6 @@
 use Prim.Native.Nat.{_-_}
 use lib.ListN.{length}
-use Rattle.spans.proofs.Searching.{OrderLoop, order-begins, order-odd, order-more, order-less, order-fails, order-ends}
+use Rattle.spans.proofs.Searching.{OrderLoop, order-begins, order-odd, order-more, order-fails, order-ends}
 use borrow.Author.Needs.{needs}
 use Rattle.spans.proofs.search.in_order.Statement.{statement}
 use Rattle.spans.proofs.search.in_order.Tie as tie

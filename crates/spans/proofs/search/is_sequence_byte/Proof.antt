@@ -1,6 +1,5 @@
 use Rattle.spans.specs.Search.{sequenceByte}
 use mathlib.Core.Path.{refl}
-use borrow.Author.Needs.{needs}
 use Rattle.spans.proofs.search.is_sequence_byte.Statement.{statement}
 use Rattle.spans.proofs.search.is_sequence_byte.Tie as tie
 

@@ -1,6 +1,6 @@
 use Prim.Native.Nat.{_-_}
 use lib.ListN.{length}
-use Rattle.spans.proofs.Searching.{OffsetLoop, offset-begins, offset-fits, offset-ends, offset-here, offset-order, offset-passed, offset-again, offset-falls}
+use Rattle.spans.proofs.Searching.{OffsetLoop, offset-begins, offset-ends, offset-here, offset-order, offset-again, offset-falls}
 use borrow.Author.Needs.{needs}
 use Rattle.spans.proofs.search.offset_at.Statement.{statement}
 use Rattle.spans.proofs.search.offset_at.Tie as tie

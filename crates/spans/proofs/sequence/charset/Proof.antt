@@ -2,7 +2,6 @@ use Rattle.spans.specs.Contracts.{told}
 use Rattle.spans.specs.Sequence.{charset}
 use Rattle.spans.proofs.Sequences.{telling}
 use Rattle.spans.proofs.Branch.{branch}
-use borrow.Author.Needs.{needs}
 use Rattle.spans.proofs.sequence.charset.Statement.{statement}
 use Rattle.spans.proofs.sequence.charset.Tie as tie
 

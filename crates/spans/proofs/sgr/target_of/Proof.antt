@@ -1,6 +1,5 @@
 use Rattle.spans.specs.Contracts.{targetOf}
 use Rattle.spans.proofs.Branch.{branch}
-use borrow.Author.Needs.{needs}
 use Rattle.spans.proofs.sgr.target_of.Statement.{statement}
 use Rattle.spans.proofs.sgr.target_of.Tie as tie
 

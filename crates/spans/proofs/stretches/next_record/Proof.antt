@@ -1,6 +1,6 @@
 use lib.Seq.{length-take-le}
 use mathlib.Core.Path.{sym}
-use Rattle.spans.proofs.StretchLaws.{clip-fits, span-ready, count-room, record-step, record-none}
+use Rattle.spans.proofs.StretchLaws.{clip-fits, span-ready, record-step, record-none}
 use borrow.Author.Needs.{needs}
 use Rattle.spans.proofs.stretches.next_record.Statement.{statement}
 use Rattle.spans.proofs.stretches.next_record.Tie as tie

@@ -1,5 +1,4 @@
 use Rattle.spans.proofs.Branch.{branch}
-use borrow.Author.Needs.{needs}
 use Rattle.spans.proofs.stretches.smaller.Statement.{statement}
 use Rattle.spans.proofs.stretches.smaller.Tie as tie
 

@@ -1,4 +1,3 @@
-use native.Mathlib.Omega.{arith}
 use borrow.Author.Needs.{needs}
 use Rattle.text.proofs.Pushing.{styled-both, styled-room, styled-same}
 use Rattle.text.proofs.overstrike.push_styled.Statement.{statement}

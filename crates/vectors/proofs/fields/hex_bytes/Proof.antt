@@ -1,6 +1,6 @@
 use Rattle.vectors.specs.Fields.{counted}
 use mathlib.Core.Path.{_≡_}
-use Prim.Native.Nat.{_+_, _-_, _≤_}
+use Prim.Native.Nat.{_-_, _≤_}
 use lib.ListN.{length}
 use borrow.Author.Needs.{needs}
 use Rattle.vectors.proofs.fields.hex_bytes.Statement.{statement}
