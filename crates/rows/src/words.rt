@@ -4,7 +4,7 @@ use text::Column;
 use text::class::Profile;
 use text::class::is_whitespace;
 use text::cluster::begins_cluster;
-use text::cluster::first_end;
+use text::cluster::walked_end;
 use text::utf8::byte_at;
 use text::utf8::decode;
 use text::width::text_width;
@@ -151,7 +151,7 @@ pub fn cluster(profile: Profile, text: &[u8], at: BytePlace) -> Stretch
             };
         }
     }
-    let end = BytePlace(first_end(profile, text, at.0));
+    let end = BytePlace(walked_end(profile, text, at.0));
     Stretch {
         end: end,
         width: Column(text_width(profile, text, at.0, end.0)),

@@ -5,7 +5,7 @@ use mathlib.Core.Bool.{Bool, _&&_, _||_, and-false, cond, false, not, true}
 use mathlib.Core.List.{List, [], _∷_}
 use mathlib.Core.Logic.{_≢_}
 use mathlib.Core.Path.{_∙_, _≡_, ap, refl, sym}
-use lib.Dec.{T, eqb, leb, leb→le, ltb, ltb→lt}
+use lib.Dec.{T, eqb, eqb→eq, leb, leb→le, ltb, ltb→lt}
 use lib.ListN.{drop, getD, length, take}
 use borrow.Author.Tests.{eqb-false, eqb-true, le-leb, le-ltb, leb-false, leb-true, lt-leb, lt-ltb, ltb-true, ne-eqb, not-true}
 use Rattle.text.specs.Class.{among, classL, classLV, classLVT, controls, extends, number}
@@ -14,7 +14,7 @@ use Rattle.text.specs.Code.{beginsCluster, contextOf, endsBefore, firstS
 use Rattle.text.specs.Tests.{and-T, cases, iff, is-true, or-T, true-T}
 use Rattle.text.specs.Utf8.{decode, more, sequence, to, value, within}
 use Rattle.text.specs.declared.utf8.Sequence.{Sequence}
-use Rattle.text.proofs.Ascii.{alone, alone-numbers, ascii-first, ascii-sequence, clear, damaged-alone, indicator-class, lone, extended-jamo-class, other-alone, other-class, quiet-test, syllable-class}
+use Rattle.text.proofs.Ascii.{alone, alone-numbers, ascii-first, ascii-sequence, clear, damaged-alone, extended-jamo-class, indicator-class, lone, mark-class, other-alone, other-class, quiet-test, syllable-class}
 use Rattle.text.proofs.Branch.{in-range}
 use Rattle.text.proofs.Units.{by-chain, chain, decode-at}
 use Rattle.text.specs.declared.class.Profile as code
@@ -237,6 +237,16 @@ unit-read v u w k e f = ap (λ (n : ℕ). record { code = u .code; len = u .len;
 
 pub unit-ascii : (v : code.Profile) (s : List ℕ) (p a k : ℕ) → p < length s → a ≡ getD s p 0 → a ≤ 0x7F → k ≡ number (profileOf v .class a) → record { code = a; len = 1; class = k } ≡ unitOf (profileOf v) (firstSequence (decode (drop p s)))
 unit-ascii v s p a k here ea h f = unit-read v (sequenceOf a 1) _ k (ascii-first s p a here ea h) f
+
+pub unit-mark : (v : code.Profile) (s : List ℕ) (p a b : ℕ) (t : Bool) → p < length s → a ≡ getD s p 0 → b ≡ getD s (p + 1) 0 → t ≡ isTail b → (eqb a 0xCC && t) ≡ true
+    → record { code = a % 32 * 64 + b % 64; len = 2; class = 3 } ≡ unitOf (profileOf v) (firstSequence (decode (drop p s)))
+unit-mark v s p a b t here ea eb et f =
+    let q = and-T (eqb a 0xCC) t (true-T f) in
+    let i : a ≡ 0xCC = eqb→eq _ _ (q .0) in
+    let x : ℕ = a % 32 * 64 + b % 64 in
+    let m : isTail b ≡ true = sym et ∙ is-true t (q .1) in
+    let k : sequenceOf x 2 ≡ twoBytes a b = rw (m, le-leb 0xC2 a (omega arith)) refl in
+    unit-read v (sequenceOf x 2) _ 3 (k ∙ two-is s p a b (getD s (p + 2) 0) here ea eb refl (omega arith) (omega arith)) (mark-class v x (omega arith) (omega arith))
 
 -- ---- what holds of the scalar behind a first byte, where none stands as U+0000
 

@@ -15,6 +15,7 @@ use super::class::ZWJ;
 use super::class::class;
 use super::utf8::byte_at;
 use super::utf8::decode_long;
+use super::utf8::is_tail;
 ghost use mathlib.Core.Path.{_≡_};
 ghost use Prim.Native.Nat.{_+_, _≤_, _<_};
 ghost use mathlib.Core.List.{reverse};
@@ -155,6 +156,23 @@ fn ends_before(s: Seen, b: u32) -> bool
     false
 }
 
+// The sequence at a place with its class, U+0300 to U+033F told by their bytes.
+fn later_unit(profile: Profile, s: &[u8], at: usize) -> Unit
+    requires { ⌜ at < length (now s) ⌝ }
+    ensures { λ r. ⌜ r ≡ unitOf (profileOf profile) (firstSequence (decode (drop at (now (s .entry))))) ⌝ }
+{
+    let a = s[at] as u32;
+    let b = byte_at(s, at + 1);
+    if (a == 0xCC) & is_tail(b) {
+        return Unit {
+            code: a % 32 * 64 + b % 64,
+            len: 2,
+            class: EXTEND,
+        };
+    }
+    decoded_unit(profile, s, at)
+}
+
 // The end of the cluster that a scalar of class c begins, whose next scalar stands at `from`.
 fn more_end(profile: Profile, s: &[u8], from: usize, c: u8) -> usize
     requires { ⌜ from ≤ length (now s) ⌝ }
@@ -166,7 +184,7 @@ fn more_end(profile: Profile, s: &[u8], from: usize, c: u8) -> usize
         if ends_before(before, byte_at(s, p)) {
             return p;
         }
-        let u = decoded_unit(profile, s, p);
+        let u = later_unit(profile, s, p);
         if u.len == 0 {
             return p;
         }
@@ -181,7 +199,7 @@ fn more_end(profile: Profile, s: &[u8], from: usize, c: u8) -> usize
 }
 
 // The end of the cluster that begins at a place, scalar by scalar; the place itself where a damaged byte stands there.
-fn walked_end(profile: Profile, s: &[u8], at: usize) -> usize
+pub fn walked_end(profile: Profile, s: &[u8], at: usize) -> usize
     requires { ⌜ at < length (now s) ⌝ }
     ensures { λ r. ⌜ r ≡ at + firstSize (profileOf profile) (runOf (decode (drop at (now (s .entry))))) ⌝ }
 {

@@ -19,7 +19,7 @@ pub fn byte_at(s: &[u8], at: usize) -> u32
 }
 
 // Is it a continuation byte?
-fn is_tail(b: u32) -> bool
+pub fn is_tail(b: u32) -> bool
     ensures { λ r. ⌜ r ≡ isTail b ⌝ }
 {
     (0x80 <= b) & (b <= 0xBF)

@@ -44,8 +44,8 @@ width-requires c κs = search needs
 returns-2 : tie.Need-returns-2
 returns-2 c = search single-measured
 
-first-end-requires : tie.Need-first-end-requires
-first-end-requires c κs = search needs
+walked-end-requires : tie.Need-walked-end-requires
+walked-end-requires c κs = search needs
 
 text-width-requires : tie.Need-text-width-requires
 text-width-requires c κs = (omega arith, search cluster-room)
@@ -70,6 +70,6 @@ cluster-spec =
     begins-cluster-requires
     width-requires
     returns-2
-    first-end-requires
+    walked-end-requires
     text-width-requires
     returns-3)

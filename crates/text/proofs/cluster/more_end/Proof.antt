@@ -31,8 +31,8 @@ ends-before-requires c κs = search needs
 returns : tie.Need-returns Inv-loop μ-loop
 returns c = search stop-before
 
-decoded-unit-requires : tie.Need-decoded-unit-requires Inv-loop μ-loop
-decoded-unit-requires c κs = search needs
+later-unit-requires : tie.Need-later-unit-requires Inv-loop μ-loop
+later-unit-requires c κs = search needs
 
 returns-2 : tie.Need-returns-2 Inv-loop μ-loop
 returns-2 c = search stop-bad
@@ -44,13 +44,13 @@ with-scalar-requires-2 : tie.Need-with-scalar-requires-2 Inv-loop μ-loop
 with-scalar-requires-2 c κs = search needs
 
 add-p : tie.Need-add-p Inv-loop μ-loop
-add-p c = omega (arith, unit-room (profileOf (c .before .before .before .before .before .before .before .before .before .before .before .before .before .before .args .profile)) (c .before .before .before .before .before .before .before .before .before .before .before .before .before .before .args .s .now) (c .before .before .before .before .before .before .before .before .before .before .before .loop .p) (c .before .before .before .before .before .before .decoded-unit .result) (c .before .before .before .before .before .before .before .before .before .before .loop-test .taken) (c .before .before .before .before .before .before .decoded-unit .ensures) (c .before .before .before .before .if2 .left))
+add-p c = omega (arith, unit-room (profileOf (c .before .before .before .before .before .before .before .before .before .before .before .before .before .before .args .profile)) (c .before .before .before .before .before .before .before .before .before .before .before .before .before .before .args .s .now) (c .before .before .before .before .before .before .before .before .before .before .before .loop .p) (c .before .before .before .before .before .before .later-unit .result) (c .before .before .before .before .before .before .before .before .before .before .loop-test .taken) (c .before .before .before .before .before .before .later-unit .ensures) (c .before .before .before .before .if2 .left))
 
 loop-less : tie.Need-loop-less Inv-loop μ-loop
-loop-less c = omega (arith, unit-room (profileOf (c .before .before .before .before .before .before .before .before .before .before .before .before .before .before .args .profile)) (c .before .before .before .before .before .before .before .before .before .before .before .before .before .before .args .s .now) (c .before .before .before .before .before .before .before .before .before .before .before .loop .p) (c .before .before .before .before .before .before .decoded-unit .result) (c .before .before .before .before .before .before .before .before .before .before .loop-test .taken) (c .before .before .before .before .before .before .decoded-unit .ensures) (c .before .before .before .before .if2 .left))
+loop-less c = omega (arith, unit-room (profileOf (c .before .before .before .before .before .before .before .before .before .before .before .before .before .before .args .profile)) (c .before .before .before .before .before .before .before .before .before .before .before .before .before .before .args .s .now) (c .before .before .before .before .before .before .before .before .before .before .before .loop .p) (c .before .before .before .before .before .before .later-unit .result) (c .before .before .before .before .before .before .before .before .before .before .loop-test .taken) (c .before .before .before .before .before .before .later-unit .ensures) (c .before .before .before .before .if2 .left))
 
 loop-again : tie.Need-loop-again Inv-loop μ-loop
-loop-again c = (search unit-room, rw (c .before .with-scalar2 .ensures) (go-on _ (c .before .before .before .before .before .before .before .before .before .before .before .before .before .before .args .s .now) (c .before .before .before .before .before .before .before .before .before .before .before .loop .p) (c .before .before .before .before .before .before .decoded-unit .result) (c .before .before .before .before .before .before .before .before .before .before .loop-test .taken) (c .before .before .before .before .before .before .decoded-unit .ensures) _ _ _ (c .before .before .before .before .before .before .before .before .before .before .before .loop .inv .1) _ (c .before .before .before .before .if2 .left) (c .before .before .before .is-joined .ensures) (c .before .before .if3 .taken)))
+loop-again c = (search unit-room, rw (c .before .with-scalar2 .ensures) (go-on _ (c .before .before .before .before .before .before .before .before .before .before .before .before .before .before .args .s .now) (c .before .before .before .before .before .before .before .before .before .before .before .loop .p) (c .before .before .before .before .before .before .later-unit .result) (c .before .before .before .before .before .before .before .before .before .before .loop-test .taken) (c .before .before .before .before .before .before .later-unit .ensures) _ _ _ (c .before .before .before .before .before .before .before .before .before .before .before .loop .inv .1) _ (c .before .before .before .before .if2 .left) (c .before .before .before .is-joined .ensures) (c .before .before .if3 .taken)))
 
 returns-3 : tie.Need-returns-3 Inv-loop μ-loop
 returns-3 c = search stop-rule
@@ -69,7 +69,7 @@ more-end-spec =
     byte-at-requires
     ends-before-requires
     returns
-    decoded-unit-requires
+    later-unit-requires
     returns-2
     is-joined-requires
     with-scalar-requires-2
