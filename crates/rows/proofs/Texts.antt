@@ -16,18 +16,20 @@ use Rattle.text.specs.Utf8.Valid.{Valid}
 use Rattle.text.specs.Class.{Profile}
 use Rattle.text.specs.Width.{widthOf}
 use Rattle.text.specs.Cluster.{clusters}
-use Rattle.text.specs.Code.{size, firstOf}
+use Rattle.text.specs.Code.{size, firstOf, profileOf}
 use Rattle.text.specs.Code.Laws.{none-past, run-valid, run-front, run-behind, size-append, FirstCluster, first-cluster}
 use Rattle.text.specs.Cluster.Laws.{clusters-first, further}
 use Rattle.text.specs.declared.BytePlace.{BytePlace}
 use Rattle.rows.specs.Words.{Word, words}
 use Rattle.rows.specs.Words.Laws.{firstWord, restWords, first-word-all, first-word-some, words-first}
-use Rattle.rows.specs.Rows.{Row, Wrap, wrap, pushed, byClusters, byWords, longWord, oneWord, splitText}
+use Rattle.rows.specs.Rows.{Row, Wrap, wrap, pushed, unit, byClusters, byWords, longWord, oneWord, splitText}
 use Rattle.rows.specs.Rows.Laws.{over, Natural, byClusters-over, longWord-over, byWords-over}
 use Rattle.rows.specs.Contracts.{column, textAt, Measured, WordAt, WordRoom, Kept, kept, keep, keeps, Held, held, on, Room, Stepped, advanced, unitOf, clustersOf, longWordOf, oneWordOf, wordsOf, textOf}
 use Rattle.rows.specs.declared.words.Stretch.{Stretch}
 use Rattle.rows.specs.declared.words.Word as code
+use Rattle.text.specs.declared.class.Profile as profile
 use Rattle.rows.specs.declared.wrap.WrapState.{WrapState}
+use Rattle.rows.proofs.Breaks.{word-clusters}
 use Rattle.rows.proofs.Parts.{behind-stretch}
 use Rattle.rows.proofs.Steps.{stays}
 
@@ -166,15 +168,10 @@ module _ (P : Profile) (text : List ℕ) (at : ℕ) (v : code.Word) (w : WordAt 
   behind-word : textAt text (v .word .0) ≡ firstWord (textAt text at) .sep ++ restWords (textAt text (at))
   behind-word = rw (w .word, ← drop-drop (size (firstWord (textAt text at) .word)) (at) text) (run-behind (drop (at) text) (firstWord (textAt text at) .word) _ all-of)
 
-  word-part : textAt (take (v .word .0 - at) (drop (at) text)) 0 ≡ firstWord (textAt text at) .word
-  word-part =
-      let n : v .word .0 - at ≡ size (firstWord (textAt text at) .word) = omega (arith, w .word) in
-      rw n (run-front (drop (at) text) (firstWord (textAt text at) .word) _ all-of)
-
-  sep-part : textAt (take (v .sep .0 - v .word .0) (drop (v .word .0) text)) 0 ≡ firstWord (textAt text at) .sep
-  sep-part =
-      let n : v .sep .0 - v .word .0 ≡ size (firstWord (textAt text at) .sep) = omega (arith, w .sep) in
-      rw n (run-front (drop (v .word .0) text) (firstWord (textAt text at) .sep) _ behind-word)
+  both-part : textAt (take (v .sep .0 - at) (drop at text)) 0 ≡ firstWord (textAt text at) .word ++ firstWord (textAt text at) .sep
+  both-part =
+      let n : v .sep .0 - at ≡ size (firstWord (textAt text at) .word ++ firstWord (textAt text at) .sep) = omega (arith, w .word, w .sep, size-append (firstWord (textAt text at) .word) (firstWord (textAt text at) .sep)) in
+      rw n (run-front (drop at text) (firstWord (textAt text at) .word ++ firstWord (textAt text at) .sep) _ (first-word-all (textAt text at)))
 
   pub behind-all : textAt text (v .sep .0) ≡ restWords (textAt text (at))
   behind-all = rw (w .sep, ← drop-drop (size (firstWord (textAt text at) .sep)) (v .word .0) text) (run-behind (drop (v .word .0) text) (firstWord (textAt text at) .sep) _ behind-word)
@@ -214,28 +211,36 @@ module _ (P : Profile) (width : ℕ) (text : List ℕ) (at : BytePlace) (v : cod
         more = omega (arith, a .more, b .more);
       }
 
-  pub sep-room : (f : Wrap → Wrap) (m : ℕ) (l l₁ : List ℕ) (t₁ : WrapState) → Stepped l t f (2 * length (take (v .word .0 - at .0) (drop (at .0) text))) m l₁ t₁
-      → Room t₁ (2 * length (take (v .sep .0 - v .word .0) (drop (v .word .0) text)))
-  sep-room f m l l₁ t₁ a =
-      let x : length (take (v .word .0 - at .0) (drop (at .0) text)) ≤ v .word .0 - at .0 = rw length-take (omega arith) in
-      let y : length (take (v .sep .0 - v .word .0) (drop (v .word .0) text)) ≤ v .sep .0 - v .word .0 = rw length-take (omega arith) in
-      record { low = a .low; room = omega (arith, a .near, x, y, w .there .word, w .there .sep, w .room .room) }
+clusters-append : (P : Profile) (width : ℕ) (gs hs : List (List Scalar)) (t : Wrap) → byClusters P width t (gs ++ hs) ≡ byClusters P width (byClusters P width t gs) hs
+unfolding byClusters
+clusters-append P width [] hs t = refl
+clusters-append P width (g ∷ gs) hs t = clusters-append P width gs hs (unit width t (widthOf P g))
 
-  pub long-breaks : (l l₁ l₂ : List ℕ) (t₁ t₂ : WrapState) (c : Bool) → c ≡ leb (t .position .0 + v .width .0 - t .start .0) width → c ≡ false
-      → Stepped l t (clustersOf P width (textAt (take (v .word .0 - at .0) (drop (at .0) text)) 0)) (2 * length (take (v .word .0 - at .0) (drop (at .0) text))) (length (take (v .word .0 - at .0) (drop (at .0) text))) l₁ t₁
-      → Stepped l₁ t₁ (clustersOf P width (textAt (take (v .sep .0 - v .word .0) (drop (v .word .0) text)) 0)) (2 * length (take (v .sep .0 - v .word .0) (drop (v .word .0) text))) (length (take (v .sep .0 - v .word .0) (drop (v .word .0) text))) l₂ t₂
-      → Stepped l t (longWordOf P width theWord) (2 * (v .sep .0 - at .0)) (v .sep .0 - at .0) l₂ t₂
+-- a word is broken with its separator
+module _ (f : profile.Profile) (width : ℕ) (text : List ℕ) (at : BytePlace) (v : code.Word) (t : WrapState) (w : WordRoom (profileOf f) text (at .0) v t) where
+  abbrev P : Profile
+  P = profileOf f
+
+  abbrev broken : Word
+  broken = firstWord (textAt text (at .0))
+
+  pub long-breaks : (l l₂ : List ℕ) (t₂ : WrapState) (c : Bool) → c ≡ leb (t .position .0 + v .width .0 - t .start .0) width → c ≡ false
+      → Stepped l t (clustersOf P width (textAt (take (v .sep .0 - at .0) (drop (at .0) text)) 0)) (2 * length (take (v .sep .0 - at .0) (drop (at .0) text))) (length (take (v .sep .0 - at .0) (drop (at .0) text))) l₂ t₂
+      → Stepped l t (longWordOf P width broken) (2 * (v .sep .0 - at .0)) (v .sep .0 - at .0) l₂ t₂
   unfolding longWordOf longWord clustersOf
-  long-breaks l l₁ l₂ t₁ t₂ c q h a b =
-      let x : length (take (v .word .0 - at .0) (drop (at .0) text)) ≤ v .word .0 - at .0 = rw length-take (omega arith) in
-      let y : length (take (v .sep .0 - v .word .0) (drop (v .word .0) text)) ≤ v .sep .0 - v .word .0 = rw length-take (omega arith) in
+  long-breaks l l₂ t₂ c q h a =
+      let x : length (take (v .sep .0 - at .0) (drop (at .0) text)) ≤ v .sep .0 - at .0 = rw length-take (omega arith) in
+      let u : Wrap = wrap [] (t .start .0) (t .position .0) in
+      let z : longWordOf P width broken u ≡ byClusters P width (byClusters P width u (clusters P (broken .word))) (clusters P (broken .sep)) = rw (← word-end P width text at v t w, sym q ∙ h) in
       record {
-        same = then-same (clustersOf P width (theWord .word)) (clustersOf P width (theWord .sep)) (longWordOf P width theWord) (held l t) (held l₁ t₁) (held l₂ t₂)
-            (rw (word-part P text (at .0) v (w .there)) at (a .same)) (rw (sep-part P text (at .0) v (w .there)) at (b .same)) (clusters-natural P width (theWord .sep))
-            (rw (← word-end, sym q ∙ h));
-        low = b .low;
-        near = omega (arith, a .near, b .near, x, y, w .there .word, w .there .sep);
-        more = omega (arith, a .more, b .more, x, y, w .there .word, w .there .sep);
+        same = a .same ∙ on-at (clustersOf P width (textAt (take (v .sep .0 - at .0) (drop (at .0) text)) 0)) (longWordOf P width broken) (held l t)
+            (ap (λ (s : List Scalar). byClusters P width u (clusters P s)) (both-part P text (at .0) v (w .there))
+            ∙ ap (byClusters P width u) (word-clusters f (textAt text (at .0)))
+            ∙ clusters-append P width (clusters P (broken .word)) (clusters P (broken .sep)) u
+            ∙ sym z);
+        low = a .low;
+        near = omega (arith, a .near, x);
+        more = omega (arith, a .more, x);
       }
 
 -- ---- by words

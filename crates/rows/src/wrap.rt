@@ -208,10 +208,8 @@ fn long_word(
         return advance(state, columns);
     }
     let a = at.0;
-    let b = word.word.0;
     let e = word.sep.0;
-    let t = by_clusters(&text[a..b], rows, wrapping, state);
-    by_clusters(&text[b..e], rows, wrapping, t)
+    by_clusters(&text[a..e], rows, wrapping, state)
 }
 
 // A word that fits within the row, or wraps to the next.

@@ -77,7 +77,7 @@ unfolding among number
 other-alone = refl
 
 -- and LF joins CR alone
-apart-numbers : (p : ℕ) (k : Context) (c : ℕ) → (p ≢ 0) → among c (cr ∷ lf ∷ control ∷ other ∷ []) ≡ true → joined p k c ≡ false
+pub apart-numbers : (p : ℕ) (k : Context) (c : ℕ) → (p ≢ 0) → among c (cr ∷ lf ∷ control ∷ other ∷ []) ≡ true → joined p k c ≡ false
 unfolding joined among number
 apart-numbers p k c f g =
     cases (eqb c 1)
