@@ -79,9 +79,20 @@ module _ (a b c d : ℕ) where
   surrogate-row : a ≡ 0xED → (within (to 0x80 0x9F) b && isTail c) ≡ ((isTail b && isTail c) && isThree x₃)
   surrogate-row i = row b 0x80 0x9F (isTail c) (isThree x₃) (omega arith) (omega arith) (λ l h t. (l, below-surrogates i t h l)) (λ l h. below x₃ (omega arith) (omega arith))
 
-  three-chain : 0xDF < a → a ≤ 0xEF → chain a b c d ≡ cond ((isTail b && isTail c) && isThree x₃) 3 0
+  -- the rows that a first byte E0 to EF leaves
+  abbrev threeRows : ℕ
+  threeRows =
+      cond (within (to 0xE0 0xE0) a && (within (to 0xA0 0xBF) b && isTail c)) 3
+      (cond (within (to 0xE1 0xEC) a && (isTail b && isTail c)) 3
+      (cond (within (to 0xED 0xED) a && (within (to 0x80 0x9F) b && isTail c)) 3
+      (cond (within (to 0xEE 0xEF) a && (isTail b && isTail c)) 3 0)))
+
+  past-two : 0xDF < a → a ≤ 0xEF → chain a b c d ≡ threeRows
   unfolding chain
-  three-chain lo hi =
+  past-two lo hi = rw (lt-leb a 0x7F (omega arith), le-leb 0xC2 a (omega arith), lt-leb a 0xDF (omega arith), lt-leb 0xF0 a (omega arith), lt-leb 0xF1 a (omega arith), lt-leb 0xF4 a (omega arith)) refl
+
+  three-rows : 0xDF < a → a ≤ 0xEF → threeRows ≡ cond ((isTail b && isTail c) && isThree x₃) 3 0
+  three-rows lo hi =
       cases (leb a 0xE0)
       (λ e.
       let i : a ≡ 0xE0 = let j : a ≤ 0xE0 = leb-true a 0xE0 e in omega arith in
@@ -92,18 +103,12 @@ module _ (a b c d : ℕ) where
       let k : a ≤ 0xEC = leb-true a 0xEC f in
       rw (
         ← row b 0x80 0xBF (isTail c) (isThree x₃) (omega arith) (omega arith) (λ l h t. (l, h)) (λ l h. below x₃ (omega arith) (omega arith)),
-        lt-leb a 0x7F (omega arith),
-        le-leb 0xC2 a (omega arith),
-        lt-leb a 0xDF (omega arith),
         le-leb 0xE0 a (omega arith),
         e,
         le-leb 0xE1 a (omega arith),
         f,
         lt-leb 0xED a (omega arith),
         lt-leb 0xEE a (omega arith),
-        lt-leb 0xF0 a (omega arith),
-        lt-leb 0xF1 a (omega arith),
-        lt-leb 0xF4 a (omega arith),
       ) refl)
       (λ f. let k : 0xEC < a = leb-false a 0xEC f in
       cases (leb a 0xED)
@@ -114,9 +119,6 @@ module _ (a b c d : ℕ) where
       let m : 0xED < a = leb-false a 0xED g in
       rw (
         ← row b 0x80 0xBF (isTail c) (isThree x₃) (omega arith) (omega arith) (λ l h t. (l, h)) (λ l h. above x₃ (omega arith)),
-        lt-leb a 0x7F (omega arith),
-        le-leb 0xC2 a (omega arith),
-        lt-leb a 0xDF (omega arith),
         le-leb 0xE0 a (omega arith),
         e,
         le-leb 0xE1 a (omega arith),
@@ -124,11 +126,11 @@ module _ (a b c d : ℕ) where
         le-leb 0xED a (omega arith),
         g,
         le-leb 0xEE a (omega arith),
-        le-leb a 0xEF (omega arith),
-        lt-leb 0xF0 a (omega arith),
-        lt-leb 0xF1 a (omega arith),
-        lt-leb 0xF4 a (omega arith),
+        le-leb a 0xEF hi,
       ) refl)))
+
+  three-chain : 0xDF < a → a ≤ 0xEF → chain a b c d ≡ cond ((isTail b && isTail c) && isThree x₃) 3 0
+  three-chain lo hi = past-two lo hi ∙ three-rows lo hi
 
 -- 10000 to 10FFFF
 abbrev isFour : ℕ → Bool
@@ -144,9 +146,32 @@ module _ (a b c d : ℕ) where
   four-bounds : T (isFour x₄) → (0x10000 ≤ x₄) × (x₄ ≤ 0x10FFFF)
   four-bounds t = let p = and-T (leb 0x10000 x₄) (leb x₄ 0x10FFFF) t in (leb→le _ _ (p .0), leb→le _ _ (p .1))
 
-  four-chain : 0xEF < a → chain a b c d ≡ cond ((leb a 0xF4 && (isTail b && (isTail c && isTail d))) && isFour x₄) 4 0
+  -- the rows that a first byte from F0 on leaves
+  abbrev fourRows : ℕ
+  fourRows =
+      cond (within (to 0xF0 0xF0) a && (within (to 0x90 0xBF) b && (isTail c && isTail d))) 4
+      (cond (within (to 0xF1 0xF3) a && (isTail b && (isTail c && isTail d))) 4
+      (cond (within (to 0xF4 0xF4) a && (within (to 0x80 0x8F) b && (isTail c && isTail d))) 4 0))
+
+  past-three : 0xEF < a → chain a b c d ≡ fourRows
   unfolding chain
-  four-chain lo =
+  past-three lo =
+      rw (
+        lt-leb a 0x7F (omega arith),
+        le-leb 0xC2 a (omega arith),
+        lt-leb a 0xDF (omega arith),
+        le-leb 0xE0 a (omega arith),
+        lt-leb a 0xE0 (omega arith),
+        le-leb 0xE1 a (omega arith),
+        lt-leb a 0xEC (omega arith),
+        le-leb 0xED a (omega arith),
+        lt-leb a 0xED (omega arith),
+        le-leb 0xEE a (omega arith),
+        lt-leb a 0xEF lo,
+      ) refl
+
+  four-rows : 0xEF < a → fourRows ≡ cond ((leb a 0xF4 && (isTail b && (isTail c && isTail d))) && isFour x₄) 4 0
+  four-rows lo =
       cases (leb a 0xF0)
       (λ e.
       let i : a ≡ 0xF0 = let j : a ≤ 0xF0 = leb-true a 0xF0 e in omega arith in
@@ -158,17 +183,6 @@ module _ (a b c d : ℕ) where
       rw (
         le-leb a 0xF4 (omega arith),
         ← row b 0x80 0xBF (isTail c && isTail d) (isFour x₄) (omega arith) (omega arith) (λ l h t. (l, h)) (λ l h. inside x₄ (omega arith) (omega arith)),
-        lt-leb a 0x7F (omega arith),
-        le-leb 0xC2 a (omega arith),
-        lt-leb a 0xDF (omega arith),
-        le-leb 0xE0 a (omega arith),
-        lt-leb a 0xE0 (omega arith),
-        le-leb 0xE1 a (omega arith),
-        lt-leb a 0xEC (omega arith),
-        le-leb 0xED a (omega arith),
-        lt-leb a 0xED (omega arith),
-        le-leb 0xEE a (omega arith),
-        lt-leb a 0xEF (omega arith),
         le-leb 0xF0 a (omega arith),
         e,
         le-leb 0xF1 a (omega arith),
@@ -180,27 +194,10 @@ module _ (a b c d : ℕ) where
       (λ g.
       let i : a ≡ 0xF4 = let m : a ≤ 0xF4 = leb-true a 0xF4 g in omega arith in
       rw (g, ← row b 0x80 0x8F (isTail c && isTail d) (isFour x₄) (omega arith) (omega arith) (λ l h t. let y = four-bounds t .1 in (l, omega arith)) (λ l h. inside x₄ (omega arith) (omega arith)), i) refl)
-      (λ g.
-      let m : 0xF4 < a = leb-false a 0xF4 g in
-      rw (
-        lt-leb a 0x7F (omega arith),
-        le-leb 0xC2 a (omega arith),
-        lt-leb a 0xDF (omega arith),
-        le-leb 0xE0 a (omega arith),
-        lt-leb a 0xE0 (omega arith),
-        le-leb 0xE1 a (omega arith),
-        lt-leb a 0xEC (omega arith),
-        le-leb 0xED a (omega arith),
-        lt-leb a 0xED (omega arith),
-        le-leb 0xEE a (omega arith),
-        lt-leb a 0xEF (omega arith),
-        le-leb 0xF0 a (omega arith),
-        e,
-        le-leb 0xF1 a (omega arith),
-        f,
-        le-leb 0xF4 a (omega arith),
-        g,
-      ) refl)))
+      (λ g. rw (le-leb 0xF0 a (omega arith), e, le-leb 0xF1 a (omega arith), f, le-leb 0xF4 a (omega arith), g) refl)))
+
+  four-chain : 0xEF < a → chain a b c d ≡ cond ((leb a 0xF4 && (isTail b && (isTail c && isTail d))) && isFour x₄) 4 0
+  four-chain lo = past-three lo ∙ four-rows lo
 
 -- ---- what is read at a place
 
