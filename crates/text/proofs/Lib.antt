@@ -10,6 +10,7 @@ pub mod Texts
 pub mod Even
 pub mod Erasing
 pub mod Pushing
+pub mod Quick
 pub mod Steps
 pub mod Converting
 pub mod Calling

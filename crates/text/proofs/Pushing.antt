@@ -1,12 +1,13 @@
 -- Bytes written behind a text in a buffer.
-use Prim.Native.Nat.{_+_, _≤_, ℕ}
-use native.Mathlib.Numerals.{add-one}
+use Prim.Native.Nat.{_+_, _≤_, suc, zero, ℕ}
+use native.Mathlib.Nat.{add-suc, add-zero}
 use native.Mathlib.Omega.{arith}
 use mathlib.Core.Bool.{Bool, _&&_, _||_, cond, false, not, true}
 use mathlib.Core.List.{List, [], _++_, _∷_, append-assoc, append-nil, reverse, reverseAux-append}
+use mathlib.Core.Logic.{_≢_}
 use mathlib.Core.Path.{_∙_, _≡_, ap, refl, sym}
 use lib.ListN.{drop, getD, length, length-append, length-set, set, take}
-use lib.Seq.{length-take-le, take-at, take-suc-set}
+use lib.Seq.{length-take-le, take-all, take-at, take-suc, take-suc-set}
 use Rattle.buffer.specs.Sink.{Copied}
 use Rattle.text.specs.Code.{Front, Pushed, backward, changedStyle, orderOf, styleOf, whole}
 use Rattle.text.specs.Overstrike.{bold, order, push, underline}
@@ -26,10 +27,54 @@ push-copied l l′ xs len r h k c =
       inside = omega (arith, c .end);
     }
 
-pub push-one : (l xs : List ℕ) (len : ℕ) → length xs ≡ 1 → len + length xs ≤ length l → Pushed l (set l len (getD xs 0 0)) len xs (len + 1)
-push-one l [] len e h = absurd (omega arith)
-push-one l (x ∷ []) len e h = record { bytes = rw add-one (take-suc-set l len x (omega arith)); end = refl; inside = rw length-set h }
-push-one l (x ∷ y ∷ xs) len e h = absurd (omega arith)
+-- a few bytes, one by one
+module _ (l xs : List ℕ) (len : ℕ) where
+  unfoldable wrote : ℕ → List ℕ
+  wrote zero = l
+  wrote (suc k) = set (wrote k) (len + k) (getD xs k 0)
+
+  length-wrote : (k : ℕ) → length (wrote k) ≡ length l
+  unfolding wrote
+  length-wrote zero = refl
+  length-wrote (suc k) = rw length-set (length-wrote k)
+
+  take-wrote : (k : ℕ) → k ≤ length xs → len + length xs ≤ length l → take (len + k) (wrote k) ≡ take len l ++ take k xs
+  unfolding wrote
+  take-wrote zero h r = rw (add-zero, append-nil) refl
+  take-wrote (suc k) h r =
+      ap (λ (n : ℕ). take n (set (wrote k) (len + k) (getD xs k 0))) (add-suc len k)
+      ∙ take-suc-set (wrote k) (len + k) (getD xs k 0) (rw (length-wrote k) (omega arith))
+      ∙ ap (λ (ys : List ℕ). ys ++ (getD xs k 0 ∷ [])) (take-wrote k (omega arith) r)
+      ∙ append-assoc (take len l) (take k xs) (getD xs k 0 ∷ [])
+      ∙ ap (λ (ys : List ℕ). take len l ++ ys) (sym (take-suc xs k 0 (omega arith)))
+
+  push-wrote : (k : ℕ) → k ≡ length xs → len + length xs ≤ length l → Pushed l (wrote k) len xs (len + k)
+  push-wrote k e h = record {
+    bytes = take-wrote k (omega arith) h ∙ ap (λ (ys : List ℕ). take len l ++ ys) (take-all k xs (omega arith));
+    end = ap (λ (n : ℕ). len + n) e;
+    inside = rw (length-wrote k) (omega arith);
+  }
+
+  module _ (n : ℕ) (e : n ≡ length xs) (h : len + length xs ≤ length l) where
+    pub push-zero : n ≡ 0 → Pushed l l len xs len
+    unfolding wrote
+    push-zero i = rw add-zero at (push-wrote 0 (omega arith) h)
+
+    pub push-one : n ≡ 1 → Pushed l (set l len (getD xs 0 0)) len xs (len + 1)
+    unfolding wrote
+    push-one i = rw add-zero at (push-wrote 1 (omega arith) h)
+
+    pub push-two : n ≡ 2 → Pushed l (set (set l len (getD xs 0 0)) (len + 1) (getD xs 1 0)) len xs (len + 2)
+    unfolding wrote
+    push-two i = rw add-zero at (push-wrote 2 (omega arith) h)
+
+    pub push-three : n ≡ 3 → Pushed l (set (set (set l len (getD xs 0 0)) (len + 1) (getD xs 1 0)) (len + 2) (getD xs 2 0)) len xs (len + 3)
+    unfolding wrote
+    push-three i = rw add-zero at (push-wrote 3 (omega arith) h)
+
+    pub push-four : n ≤ 4 → (n ≢ 0) → (n ≢ 1) → (n ≢ 2) → (n ≢ 3) → Pushed l (set (set (set (set l len (getD xs 0 0)) (len + 1) (getD xs 1 0)) (len + 2) (getD xs 2 0)) (len + 3) (getD xs 3 0)) len xs (len + 4)
+    unfolding wrote
+    push-four i n₀ n₁ n₂ n₃ = rw add-zero at (push-wrote 4 (omega arith) h)
 
 pub push-none : (l : List ℕ) (len : ℕ) → len ≤ length l → Pushed l l len [] len
 push-none l len h = record { bytes = rw append-nil refl; end = omega arith; inside = h }

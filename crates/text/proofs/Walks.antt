@@ -12,7 +12,7 @@ use borrow.Author.Tests.{eqb-false, eqb-true, le-ltb, ltb-false, ltb-true, not-t
 use Rattle.text.specs.Class.{Profile, number}
 use Rattle.text.specs.Cluster.{Context, after, classOf, clusters, context, joined, joins, start}
 use Rattle.text.specs.Cluster.Laws.{clusters-first, further}
-use Rattle.text.specs.Code.{beginsCluster, contextOf, endsBefore, firstOf, firstSequence, firstSize, moreFrom, profileOf, sequenceOf, singleAt, size, unitOf}
+use Rattle.text.specs.Code.{beginsCluster, contextOf, endsBefore, firstOf, firstSequence, firstSize, loneByte, moreFrom, profileOf, sequenceOf, singleAt, size, unitOf}
 use Rattle.text.specs.Tests.{and-T, cases, is-true, or-T, true-T}
 use Rattle.text.specs.Utf8.{Scalar, decode, runOf}
 use Rattle.text.specs.Width.{widthOf}
@@ -150,6 +150,13 @@ pub stop-before : (v : code.Profile) (s : List ℕ) (p prev b : ℕ) (odd r : Bo
     → total ≡ p + moreFrom (profileOf v) prev (contextOf odd) (runOf (decode (drop p s))) → p ≡ total
 stop-before v s p prev b odd r total h e f t same =
     sym (rw (more-apart v s p prev (contextOf odd) h (ends-apart v s p h prev odd (ap (endsBefore prev odd) (sym e) ∙ sym f ∙ t)), add-zero) at same)
+
+-- and so does a byte below 80, LF apart
+pub stop-lone : (v : code.Profile) (s : List ℕ) (p prev b : ℕ) (odd r : Bool) (total : ℕ) → p < length s → b ≡ getD s p 0 → r ≡ loneByte b → r ≡ true
+    → total ≡ p + moreFrom (profileOf v) prev (contextOf odd) (runOf (decode (drop p s))) → p ≡ total
+stop-lone v s p prev b odd r total h e f t same =
+    let q = and-T (ltb b 0x80) (not (eqb b 0x0A)) (true-T (sym f ∙ t)) in
+    sym (rw (more-begins v s p prev (contextOf odd) h (rw (← e, is-true (ltb b 0x80) (q .0)) (is-true _ (q .1))), add-zero) at same)
 
 pub stop-end : (P : Profile) (s : List ℕ) (p prev : ℕ) (odd : Bool) (total : ℕ) → length s ≤ p → total ≡ p + moreFrom P prev (contextOf odd) (runOf (decode (drop p s))) → p ≡ total
 unfolding moreFrom

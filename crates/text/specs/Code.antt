@@ -87,6 +87,14 @@ jamo v = cond (leb v 0x115F) classL (cond (leb v 0x11A7) classV classT)
 abbrev pub unitOf : Profile → Sequence → Unit
 unitOf P u = record { code = u .code; len = u .len; class = number (P .class (u .code)) }
 
+-- r is the sequence of these three or four bytes, with its class
+abbrev pub longBytes : ℕ → ℕ → ℕ → ℕ → Sequence
+longBytes a b c d = cond (leb a 0xEF) (threeBytes a b c) (fourBytes a b c d)
+
+pub record LongUnit (P : Profile) (a b c d : ℕ) (r : Unit) : Type 0 where
+  pub lead : 0xDF < a
+  pub is : r ≡ unitOf P (longBytes a b c d)
+
 -- the first bytes of U+00C0 to U+02FF and of U+0380 to U+047F
 abbrev pub letterLead : ℕ → Bool
 letterLead a = within (to 0xC3 0xCB) a || within (to 0xCE 0xD1) a

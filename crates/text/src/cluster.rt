@@ -13,9 +13,13 @@ use super::class::T;
 use super::class::V;
 use super::class::ZWJ;
 use super::class::class;
+use super::class::jamo_class;
+use super::class::syllable_class;
 use super::utf8::byte_at;
 use super::utf8::decode_long;
 use super::utf8::is_tail;
+ghost use mathlib.Core.Bool.{true};
+ghost use mathlib.Core.Logic.{_≢_};
 ghost use mathlib.Core.Path.{_≡_};
 ghost use Prim.Native.Nat.{_+_, _≤_, _<_};
 ghost use mathlib.Core.List.{reverse};
@@ -24,7 +28,7 @@ ghost use lib.Seq.{slice};
 ghost use Rattle.text.specs.Utf8.{decode};
 ghost use Rattle.text.specs.Class.{number};
 ghost use Rattle.text.specs.Cluster.{start, after, joined};
-ghost use Rattle.text.specs.Code.{profileOf, firstSequence, unitOf, singleAt, loneByte, beginsCluster, endsBefore, runOf, size, contextOf, seen, moreFrom, firstSize, back, whole, withoutLast, EvenAt, OddTo, JoinsAt, regionalAt, IndicatorsTo};
+ghost use Rattle.text.specs.Code.{profileOf, firstSequence, unitOf, isTail, LongUnit, singleAt, loneByte, beginsCluster, endsBefore, runOf, size, contextOf, seen, moreFrom, firstSize, back, whole, withoutLast, EvenAt, OddTo, JoinsAt, regionalAt, IndicatorsTo};
 
 // What the rules ask of the scalars before a place: the last one's class, and whether an odd number of regional indicators ends there.
 pub struct Seen {
@@ -156,10 +160,10 @@ fn ends_before(s: Seen, b: u32) -> bool
     false
 }
 
-// The sequence at a place with its class, U+0300 to U+033F told by their bytes.
-fn later_unit(profile: Profile, s: &[u8], at: usize) -> Unit
+// U+0300 to U+033F, U+1100 to U+11FF or a regional indicator at a place, told by its bytes; the length is 0 where none stands there.
+fn quick_later(profile: Profile, s: &[u8], at: usize) -> Unit
     requires { ⌜ at < length (now s) ⌝ }
-    ensures { λ r. ⌜ r ≡ unitOf (profileOf profile) (firstSequence (decode (drop at (now (s .entry))))) ⌝ }
+    ensures { λ r. ⌜ (r .len ≢ 0 → r ≡ unitOf (profileOf profile) (firstSequence (decode (drop at (now (s .entry)))))) ⌝ }
 {
     let a = s[at] as u32;
     let b = byte_at(s, at + 1);
@@ -169,6 +173,39 @@ fn later_unit(profile: Profile, s: &[u8], at: usize) -> Unit
             len: 2,
             class: EXTEND,
         };
+    }
+    let c = byte_at(s, at + 2);
+    if (a == 0xE1) & (((0x84 <= b) & (b <= 0x87)) & is_tail(c)) {
+        let x = (a % 16 * 64 + b % 64) * 64 + c % 64;
+        return Unit {
+            code: x,
+            len: 3,
+            class: jamo_class(x),
+        };
+    }
+    let d = byte_at(s, at + 3);
+    if (a == 0xF0) & ((b == 0x9F) & ((c == 0x87) & ((0xA6 <= d) & (d <= 0xBF)))) {
+        return Unit {
+            code: ((a % 8 * 64 + b % 64) * 64 + c % 64) * 64 + d % 64,
+            len: 4,
+            class: REGIONAL_INDICATOR,
+        };
+    }
+    Unit {
+        code: 0,
+        len: 0,
+        class: 0,
+    }
+}
+
+// The sequence at a place with its class, those above told first.
+fn later_unit(profile: Profile, s: &[u8], at: usize) -> Unit
+    requires { ⌜ at < length (now s) ⌝ }
+    ensures { λ r. ⌜ r ≡ unitOf (profileOf profile) (firstSequence (decode (drop at (now (s .entry))))) ⌝ }
+{
+    let u = quick_later(profile, s, at);
+    if u.len != 0 {
+        return u;
     }
     decoded_unit(profile, s, at)
 }
@@ -217,6 +254,124 @@ pub fn first_end(profile: Profile, s: &[u8], at: usize) -> usize
 {
     if is_single(s, at) {
         return at + 1;
+    }
+    walked_end(profile, s, at)
+}
+
+// The sequence of these bytes, b and c continuation bytes, with its class where it is one of U+1100 to U+11FF, U+3000 to U+9FFF, U+AC00 to
+// U+CFFF and U+1F000 to U+1FFFF; else the length is 0.
+fn quick_long(profile: Profile, a: u32, b: u32, c: u32, d: u32) -> Unit
+    requires { ⌜ (isTail b ≡ true) × (isTail c ≡ true) ⌝ }
+    ensures { λ r. ⌜ (r .len ≢ 0 → LongUnit (profileOf profile) a b c d r) ⌝ }
+{
+    let x = (a % 16 * 64 + b % 64) * 64 + c % 64;
+    if (0xE3 <= a) & (a <= 0xE9) {
+        return Unit {
+            code: x,
+            len: 3,
+            class: OTHER,
+        };
+    }
+    if (a == 0xE1) & ((0x84 <= b) & (b <= 0x87)) {
+        return Unit {
+            code: x,
+            len: 3,
+            class: jamo_class(x),
+        };
+    }
+    if ((0xEA <= a) & (a <= 0xEC)) & (0xAC00 <= x) {
+        return Unit {
+            code: x,
+            len: 3,
+            class: syllable_class(x),
+        };
+    }
+    if ((a == 0xF0) & (b == 0x9F)) & is_tail(d) {
+        return Unit {
+            code: ((a % 8 * 64 + b % 64) * 64 + c % 64) * 64 + d % 64,
+            len: 4,
+            class: if (c == 0x87) & (0xA6 <= d) {
+                REGIONAL_INDICATOR
+            } else {
+                OTHER
+            },
+        };
+    }
+    Unit {
+        code: 0,
+        len: 0,
+        class: 0,
+    }
+}
+
+// The sequence at a place with its class where it is one of those or of U+0020 to U+007E; else the length is 0.
+fn quick_unit(profile: Profile, s: &[u8], at: usize) -> Unit
+    requires { ⌜ at < length (now s) ⌝ }
+    ensures { λ r. ⌜ (r .len ≢ 0 → r ≡ unitOf (profileOf profile) (firstSequence (decode (drop at (now (s .entry)))))) ⌝ }
+{
+    let a = s[at] as u32;
+    if (0x20 <= a) & (a <= 0x7E) {
+        return Unit {
+            code: a,
+            len: 1,
+            class: OTHER,
+        };
+    }
+    let b = byte_at(s, at + 1);
+    let c = byte_at(s, at + 2);
+    if is_tail(b) & is_tail(c) {
+        return quick_long(profile, a, b, c, byte_at(s, at + 3));
+    }
+    Unit {
+        code: 0,
+        len: 0,
+        class: 0,
+    }
+}
+
+// The end of the cluster that a scalar of class c begins, whose next scalar stands at `from`; 0 where its bytes alone do not tell it.
+fn quick_more(profile: Profile, s: &[u8], from: usize, c: u8) -> usize
+    requires { ⌜ from ≤ length (now s) ⌝ }
+    ensures { λ r. ⌜ (r ≢ 0 → r ≡ from + moreFrom (profileOf profile) c (after start c) (runOf (decode (drop from (now (s .entry)))))) ⌝ }
+{
+    let mut p = from;
+    let mut before = with_scalar(false, c);
+    while p < s.len() {
+        let b = byte_at(s, p);
+        if is_lone(b) {
+            return p;
+        }
+        let u = quick_later(profile, s, p);
+        if u.len == 0 {
+            if ends_before(before, b) {
+                return p;
+            }
+            return 0;
+        }
+        if is_joined(before, u.class) {
+            before = with_scalar(before.odd, u.class);
+            p += u.len;
+        } else {
+            return p;
+        }
+    }
+    p
+}
+
+// The same as walked_end, the common clusters told by their bytes.
+pub fn quick_end(profile: Profile, s: &[u8], at: usize) -> usize
+    requires { ⌜ at < length (now s) ⌝ }
+    ensures { λ r. ⌜ r ≡ at + firstSize (profileOf profile) (runOf (decode (drop at (now (s .entry))))) ⌝ }
+{
+    if is_single(s, at) {
+        return at + 1;
+    }
+    let u = quick_unit(profile, s, at);
+    if u.len != 0 {
+        let end = quick_more(profile, s, at + u.len, u.class);
+        if end != 0 {
+            return end;
+        }
     }
     walked_end(profile, s, at)
 }

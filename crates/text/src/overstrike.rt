@@ -2,10 +2,10 @@
 use super::class::Profile;
 use super::class::is_control;
 use super::cluster::decoded_unit;
-use super::cluster::first_end;
 use super::cluster::is_lone;
 use super::cluster::is_regional;
 use super::cluster::last_start;
+use super::cluster::quick_end;
 use super::utf8::byte_at;
 ghost use mathlib.Core.Path.{_≡_};
 ghost use mathlib.Core.Bool.{true};
@@ -138,16 +138,32 @@ fn backspace(profile: Profile, out: &mut [u8], len: usize, even: usize) -> Erasu
     }
 }
 
-// Bytes behind the result.
+// Bytes behind the result, few at once without a loop.
 fn push(out: &mut [u8], len: usize, src: &[u8]) -> usize
     requires { ⌜ len + length (now src) ≤ length (now out) ⌝ }
     ensures { λ r. ⌜ Pushed (now (out .entry)) (now (out .exit)) len (now (src .entry)) r ⌝ }
 {
-    if src.len() == 1 {
-        out[len] = src[0];
+    let n = src.len();
+    if 4 < n {
+        return buffer::copy_bytes(out, len, src);
+    }
+    if n == 0 {
+        return len;
+    }
+    out[len] = src[0];
+    if n == 1 {
         return len + 1;
     }
-    buffer::copy_bytes(out, len, src)
+    out[len + 1] = src[1];
+    if n == 2 {
+        return len + 2;
+    }
+    out[len + 2] = src[2];
+    if n == 3 {
+        return len + 3;
+    }
+    out[len + 3] = src[3];
+    len + 4
 }
 
 // Do two styles differ?
@@ -458,7 +474,7 @@ fn convert_unicode_span(profile: Profile, line: &[u8], out: &mut [u8]) -> Progre
     };
     let mut p = 0;
     while p < line.len() {
-        let e = first_end(profile, line, p);
+        let e = quick_end(profile, line, p);
         if e == p {
             let n = finish(out, line, st);
             return Progress {
