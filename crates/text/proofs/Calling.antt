@@ -4,20 +4,19 @@ use native.Mathlib.Nat.{sub-zero}
 use native.Mathlib.Numerals.{add-one}
 use native.Mathlib.Omega.{arith}
 use mathlib.Core.Bool.{Bool, _||_, false, true}
-use mathlib.Core.List.{List, _++_}
+use mathlib.Core.List.{List, [], _++_, _∷_}
 use mathlib.Core.Path.{_∙_, _≡_, ap, refl, sym}
 use lib.Dec.{eqb}
-use lib.ListN.{drop, drop-of-length-le, getD, length, replicate, take}
-use lib.Seq.{drop-cons, length-take-le, take-at}
+use lib.ListN.{drop, drop-of-length-le, getD, length, replicate, set, take}
+use lib.Seq.{drop-cons, length-take-le, take-all, take-suc, take-suc-set}
 use borrow.Author.Tests.{le-leb, lt-leb}
-use Rattle.buffer.specs.Sink.{Copied}
 use Rattle.text.specs.Calls.{Converted, convertCall, counted, decide, lent}
 use Rattle.text.specs.Class.{Profile, number}
-use Rattle.text.specs.Code.{Wrote, converted, refusal}
+use Rattle.text.specs.Code.{LineCopied, Wrote, converted, refusal}
 use Rattle.text.specs.Overstrike.{convert, convertPieces, hasBackspace}
 use Rattle.text.specs.Utf8.{decode, runs}
 
--- ---- a loop that looks for 08: a turn, and the end
+-- ---- the loop that copies a line and looks for 08: a turn, and the end
 
 pub found-turn : (line : List ℕ) (i : ℕ) (found : Bool) → i < length line → hasBackspace line ≡ (found || hasBackspace (drop i line)) → hasBackspace line ≡ ((found || eqb (getD line i 0) 0x08) || hasBackspace (drop (i + 1) line))
 unfolding hasBackspace
@@ -29,20 +28,25 @@ unfolding hasBackspace
 found-end line i true h e = sym e
 found-end line i false h e = sym (rw (drop-of-length-le line h) at e)
 
+pub copied-turn : (line l₀ l : List ℕ) (i : ℕ) → i < length line → length line ≤ length l₀ → length l ≡ length l₀ → take i l ≡ take i line → take (i + 1) (set l i (getD line i 0)) ≡ take (i + 1) line
+copied-turn line l₀ l i h k n e =
+    rw add-one
+    (take-suc-set l i (getD line i 0) (omega arith) ∙ ap (λ (ys : List ℕ). ys ++ (getD line i 0 ∷ [])) e ∙ sym (take-suc line i 0 h))
+
+pub line-copied : (line l₀ l : List ℕ) (i : ℕ) (found : Bool) → length line ≤ i → length line ≤ length l₀ → length l ≡ length l₀ → hasBackspace line ≡ (found || hasBackspace (drop i line)) → i ≤ length line → take i l ≡ take i line → LineCopied line l found
+line-copied line l₀ l i found h k m e g t =
+    let n : i ≡ length line = omega arith in
+    record { wrote = record { inside = omega arith; bytes = rw (← n) t ∙ take-all i line h }; found = found-end line i found h e }
+
 -- ---- with 08 and without it
 
-pub struck-line : (P : Profile) (line l : List ℕ) (b : Bool) (r : ℕ) → b ≡ hasBackspace line → b ≡ true → Wrote l r (convertPieces P (runs (decode line))) → Wrote l r (convert P line)
+pub struck-line : (P : Profile) (line l₀ l : List ℕ) (b : Bool) (r : ℕ) → LineCopied line l₀ b → b ≡ true → Wrote l r (convertPieces P (runs (decode line))) → Wrote l r (convert P line)
 unfolding convert
-struck-line P line l b r e t w = rw (sym e ∙ t) w
+struck-line P line l₀ l b r c t w = rw (sym (c .found) ∙ t) w
 
-pub plain-line : (P : Profile) (line l l′ : List ℕ) (b : Bool) (r : ℕ) → b ≡ hasBackspace line → b ≡ false → 8 * length line ≤ length l → length l′ ≡ length l → Copied l l′ 0 line r → Wrote l′ r (convert P line)
+pub plain-line : (P : Profile) (line l : List ℕ) (b : Bool) → LineCopied line l b → b ≡ false → Wrote l (length line) (convert P line)
 unfolding convert
-plain-line P line l l′ b r e t h k c =
-    rw (sym e ∙ t)
-    (record {
-      inside = omega (arith, c .end);
-      bytes = rw (c .bytes, c .end) (take-at line (drop (0 + length line) l) (0 + length line) (omega arith));
-    })
+plain-line P line l b c t = rw (sym (c .found) ∙ t) (c .wrote)
 
 -- ---- the answers
 

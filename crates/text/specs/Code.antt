@@ -10,7 +10,7 @@ use lib.Seq.{slice}
 use Rattle.text.specs.Calls.{Converted}
 use Rattle.text.specs.Class.{Class, Profile, classL, classLV, classLVT, classT, classV, number}
 use Rattle.text.specs.Cluster.{Context, after, classOf, clusters, context, joined, joins}
-use Rattle.text.specs.Overstrike.{Pending, State, Style, backspace, bold, boldUnderline, convertPieces, convertRun, finish, held, none, normal, onBackspace, onCluster, order, push, state, struck, underline}
+use Rattle.text.specs.Overstrike.{Pending, State, Style, backspace, bold, boldUnderline, convertPieces, convertRun, finish, hasBackspace, held, none, normal, onBackspace, onCluster, order, push, state, struck, underline}
 use Rattle.text.specs.Overstrike.Length.{weight}
 use Rattle.text.specs.Utf8.{Decoded, Scalar, ascii, asciis, bytesOf, decode, illFormed, runs, tail, to, wellFormed, within}
 use Rattle.text.specs.Width.{profile01}
@@ -336,6 +336,11 @@ pub record Strike (line : List ℕ) (st : Conversion) (a e : ℕ) : Type 0 where
 pub record Wrote (l : List ℕ) (r : ℕ) (xs : List ℕ) : Type 0 where
   pub inside : r ≤ length l
   pub bytes : take r l ≡ xs
+
+-- the line at the front of a buffer, and whether it has a byte 08
+pub record LineCopied (line l : List ℕ) (r : Bool) : Type 0 where
+  pub wrote : Wrote l (length line) line
+  pub found : r ≡ hasBackspace line
 
 -- the run that a line begins with, converted
 pub record SpanDone (P : Profile) (line l : List ℕ) (r : Progress) : Type 0 where

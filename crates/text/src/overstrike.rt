@@ -13,8 +13,8 @@ ghost use Prim.Native.Nat.{_+_, _-_, _*_, _≤_, _<_};
 ghost use mathlib.Core.List.{[], _++_, _∷_};
 ghost use lib.ListN.{length, take};
 ghost use Rattle.text.specs.Utf8.{sameBytes, decode, runs};
-ghost use Rattle.text.specs.Overstrike.{bolded, underlined, ambiguous, backspace, step, convertPieces, hasBackspace, convert};
-ghost use Rattle.text.specs.Code.{profileOf, whole, backward, EvenAt, KeptEven, FrontEven, BackReady, PairEnd, EvenBetween, EvenChoice, Pushed, styleOf, orderOf, partOf, stateOf, Stepped, BackspaceStep, StruckStep, StepReady, FinishReady, Finished, conversion, plain, Strike, Wrote, changedStyle, SpanDone, PieceReady, PieceDone};
+ghost use Rattle.text.specs.Overstrike.{bolded, underlined, ambiguous, backspace, step, convertPieces, convert};
+ghost use Rattle.text.specs.Code.{profileOf, whole, backward, EvenAt, KeptEven, FrontEven, BackReady, PairEnd, EvenBetween, EvenChoice, Pushed, styleOf, orderOf, partOf, stateOf, Stepped, BackspaceStep, StruckStep, StepReady, FinishReady, Finished, conversion, plain, Strike, Wrote, LineCopied, changedStyle, SpanDone, PieceReady, PieceDone};
 
 // An overstrike style.
 pub struct Overstrike {
@@ -529,13 +529,15 @@ fn convert_pieces(profile: Profile, line: &[u8], out: &mut [u8]) -> usize
     done.written
 }
 
-// Has the line a byte 08?
-fn has_backspace(line: &[u8]) -> bool
-    ensures { λ r. ⌜ r ≡ hasBackspace (now (line .entry)) ⌝ }
+// Copies the line to the front of the buffer. Has it a byte 08?
+fn copy_line(line: &[u8], out: &mut [u8]) -> bool
+    requires { ⌜ length (now line) ≤ length (now out) ⌝ }
+    ensures { λ r. ⌜ LineCopied (now (line .entry)) (now (out .exit)) r ⌝ }
 {
     let mut found = false;
     let mut i = 0;
     while i < line.len() {
+        out[i] = line[i];
         found = found | (line[i] == 0x08);
         i += 1;
     }
@@ -547,8 +549,8 @@ pub fn convert_overstrike(profile: Profile, line: &[u8], out: &mut [u8]) -> usiz
     requires { ⌜ 8 * length (now line) ≤ length (now out) ⌝ }
     ensures { λ r. ⌜ Wrote (now (out .exit)) r (convert (profileOf profile) (now (line .entry))) ⌝ }
 {
-    if has_backspace(line) {
+    if copy_line(line, out) {
         return convert_pieces(profile, line, out);
     }
-    buffer::copy_bytes(out, 0, line)
+    line.len()
 }

@@ -3,8 +3,8 @@ use Rattle.text.proofs.Calling.{plain-line, struck-line}
 use Rattle.text.proofs.overstrike.convert_overstrike.Statement.{statement}
 use Rattle.text.proofs.overstrike.convert_overstrike.Tie as tie
 
-has-backspace-requires : tie.Need-has-backspace-requires
-has-backspace-requires c κs = search needs
+copy-line-requires : tie.Need-copy-line-requires
+copy-line-requires c κs = search needs
 
 convert-pieces-requires : tie.Need-convert-pieces-requires
 convert-pieces-requires c κs = search needs
@@ -14,9 +14,6 @@ same-length c = search needs
 
 returns : tie.Need-returns
 returns c = search struck-line
-
-copy-bytes-requires : tie.Need-copy-bytes-requires
-copy-bytes-requires c κs = search needs
 
 same-length-2 : tie.Need-same-length-2
 same-length-2 c = search needs
@@ -28,10 +25,9 @@ pub convert-overstrike-spec : {M : Type 1} → statement M
 convert-overstrike-spec =
     tie.close
     (tie.spec
-    has-backspace-requires
+    copy-line-requires
     convert-pieces-requires
     same-length
     returns
-    copy-bytes-requires
     same-length-2
     returns-2)
