@@ -59,7 +59,19 @@ const NOISY: &[u8] =
     b"rx-03 \xFF\xFEsweep 11\xC08204: g\xF5in 41.5 dB\xE6\xBC tune\x80 94\xF8\xF810 \
     MHz \x00\x01 noise\x7F floor\xED\xA0\x80\n";
 
-pub const KINDS: [Kind; 27] = [
+/// 34 regional indicators and the 17 backspaces that erase them.
+const CYCLE: [u8; 153] = {
+    let indicator = "\u{1F1E6}".as_bytes();
+    let mut cycle = [8; 153];
+    let mut i = 0;
+    while i < 136 {
+        cycle[i] = indicator[i % 4];
+        i += 1;
+    }
+    cycle
+};
+
+pub const KINDS: [Kind; 28] = [
     common("plain log line", &[LOG]),
     common("coloured, with a link", &[COLOURED]),
     common("man page", &[MAN_PAGE]),
@@ -87,6 +99,7 @@ pub const KINDS: [Kind; 27] = [
         "indicators, nested runs",
         &["\u{1F1E6}".as_bytes(), "\u{1F1E6}x\u{8}\u{8}".as_bytes()],
     ),
+    hostile("indicators, cycles", &["\u{1F1E6}".as_bytes(), &CYCLE]),
     hostile("ESC", &[b"\x1B"]),
     hostile("ESC [ 1 ;", &[b"\x1B[1;1;1;1;1;1;1"]),
     hostile("ESC ] 8 ; ; u", &[b"\x1B]8;;u"]),
