@@ -59,12 +59,12 @@ const NOISY: &[u8] =
     b"rx-03 \xFF\xFEsweep 11\xC08204: g\xF5in 41.5 dB\xE6\xBC tune\x80 94\xF8\xF810 \
     MHz \x00\x01 noise\x7F floor\xED\xA0\x80\n";
 
-/// 34 regional indicators and the 17 backspaces that erase them.
-const CYCLE: [u8; 153] = {
+/// 16 regional indicators and the 8 backspaces that erase them.
+const CYCLE: [u8; 72] = {
     let indicator = "\u{1F1E6}".as_bytes();
-    let mut cycle = [8; 153];
+    let mut cycle = [8; 72];
     let mut i = 0;
-    while i < 136 {
+    while i < 64 {
         cycle[i] = indicator[i % 4];
         i += 1;
     }
