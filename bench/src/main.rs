@@ -5,13 +5,14 @@ mod lines;
 mod table;
 mod timing;
 
+use lines::KINDS;
 use std::env;
 use std::process::ExitCode;
 use std::time::Duration;
 use table::Table;
 use timing::Effort;
 
-const USAGE: &str = "usage: bench [--call NAME]... [--quick]";
+const USAGE: &str = "usage: bench [--call NAME]... [--quick] | bench --once NAME LINE BYTES";
 const NAMES: [&str; 6] = oracle::Call::NAMES;
 
 const HEADING: &str = "\
@@ -54,7 +55,25 @@ impl Options {
     }
 }
 
+/// Makes one call on the line with a number, of some bytes, if that is what is asked for.
+fn once(arguments: &[String]) -> bool {
+    let [first, name, line, bytes] = arguments else {
+        return false;
+    };
+    let (Ok(line), Ok(bytes)) = (line.parse::<usize>(), bytes.parse()) else {
+        return false;
+    };
+    let asked = first == "--once" && NAMES.contains(&name.as_str()) && line < KINDS.len();
+    if asked {
+        table::once(name, &KINDS[line], bytes);
+    }
+    asked
+}
+
 fn main() -> ExitCode {
+    if once(&env::args().skip(1).collect::<Vec<_>>()) {
+        return ExitCode::SUCCESS;
+    }
     let Some(options) = Options::of(env::args().skip(1)) else {
         eprintln!("{USAGE}");
         return ExitCode::from(2);

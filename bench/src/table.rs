@@ -215,6 +215,14 @@ fn times(job: Job, line: &[u8], effort: Effort) -> [f64; 3] {
     )
 }
 
+/// One call on a line of a kind, with just enough memory: what bench/count counts.
+pub fn once(name: &str, kind: &Kind, len: usize) {
+    let (job, line) = (growth_jobs(name)[0], kind.line(len));
+    let sizes = just(&line, &job.expected(&line));
+    black_box(job.library(&line, &mut Memory::new(sizes), sizes));
+    println!("{}", kind.name);
+}
+
 /// The time of copying a line into its conversion buffer and zeroing the rest.
 fn copying(line: &[u8], effort: Effort) -> f64 {
     let mut conv = Memory::new([8 * line.len(), 0, 0, 0]).conv;
