@@ -5,7 +5,7 @@ ghost use Rattle.io.specs.Counts.{Counts};
 ghost use Rattle.vectors.specs.Fields.{Past};
 
 // The first place from `at` on that holds `stop` or a newline, or the end.
-pub fn past(s: &[u8], at: usize, stop: u8) -> usize
+pub(crate) fn past(s: &[u8], at: usize, stop: u8) -> usize
     requires { ⌜ at ≤ length (now s) ⌝ }
     ensures { λ r. ⌜ Past (now (s .entry)) at r ⌝ }
 {
@@ -20,7 +20,7 @@ pub fn past(s: &[u8], at: usize, stop: u8) -> usize
 }
 
 // The place behind that one.
-pub fn behind(s: &[u8], at: usize, stop: u8) -> usize
+pub(crate) fn behind(s: &[u8], at: usize, stop: u8) -> usize
     requires { ⌜ at ≤ length (now s) ⌝ }
     ensures { λ r. ⌜ Past (now (s .entry)) at r ⌝ }
 {
@@ -39,7 +39,7 @@ fn byte_at(s: &[u8], at: usize) -> u8 {
 }
 
 // Does the word stand at `at`?
-pub fn is_word(s: &[u8], at: usize, word: &[u8]) -> bool
+pub(crate) fn is_word(s: &[u8], at: usize, word: &[u8]) -> bool
     requires { ⌜ at ≤ length (now s) ⌝ }
 {
     let mut i = 0;
@@ -73,7 +73,7 @@ fn times_ten(n: usize) -> usize {
 }
 
 // The decimal number from `at` to `end`.
-pub fn number(s: &[u8], at: usize, end: usize) -> usize {
+pub(crate) fn number(s: &[u8], at: usize, end: usize) -> usize {
     let mut n: usize = 0;
     let mut i = at;
     while i < end {
@@ -84,7 +84,7 @@ pub fn number(s: &[u8], at: usize, end: usize) -> usize {
 }
 
 // The field that stands n fields behind `at`.
-pub fn field(s: &[u8], at: usize, n: usize) -> usize
+pub(crate) fn field(s: &[u8], at: usize, n: usize) -> usize
     requires { ⌜ at ≤ length (now s) ⌝ }
     ensures { λ r. ⌜ Past (now (s .entry)) at r ⌝ }
 {
@@ -98,7 +98,7 @@ pub fn field(s: &[u8], at: usize, n: usize) -> usize
 }
 
 // The decimal number that is the field at `at`.
-pub fn number_at(s: &[u8], at: usize) -> usize
+pub(crate) fn number_at(s: &[u8], at: usize) -> usize
     requires { ⌜ at ≤ length (now s) ⌝ }
 {
     number(s, at, past(s, at, b' '))
@@ -117,7 +117,7 @@ fn number_end(s: &[u8], at: usize, end: usize) -> usize
 }
 
 // The numbers of the list at `at`, parted by commas, as many as `out` holds; how many. A single `-` is none.
-pub fn numbers(s: &[u8], at: usize, out: &mut [usize]) -> usize
+pub(crate) fn numbers(s: &[u8], at: usize, out: &mut [usize]) -> usize
     requires { ⌜ at ≤ length (now s) ⌝ }
     ensures { λ r. ⌜ Counts r (now (out .exit)) ⌝ }
 {
@@ -148,7 +148,7 @@ fn hex_byte(s: &[u8], at: usize) -> u8 {
 }
 
 // The hexadecimal bytes from `at` to `end`, as many as `out` holds; their number. A single `-` is none.
-pub fn hex_bytes(s: &[u8], at: usize, end: usize, out: &mut [u8]) -> usize
+pub(crate) fn hex_bytes(s: &[u8], at: usize, end: usize, out: &mut [u8]) -> usize
     ensures { λ r. ⌜ Counts r (now (out .exit)) ⌝ }
 {
     let mut i = at;
@@ -179,7 +179,7 @@ fn same(a: &[u8], b: &[u8]) -> bool {
 }
 
 // Are these the hexadecimal bytes from `at` to `end`, with zeros after them?
-pub fn shows(s: &[u8], at: usize, end: usize, bytes: &[u8]) -> bool {
+pub(crate) fn shows(s: &[u8], at: usize, end: usize, bytes: &[u8]) -> bool {
     let mut want = [0u8; 32776];
     hex_bytes(s, at, end, &mut want);
     same(bytes, &want)
@@ -200,7 +200,7 @@ fn same_numbers(a: &[usize], b: &[usize]) -> bool {
 }
 
 // Are these the numbers of the list at `at`, with zeros after them?
-pub fn shows_numbers(s: &[u8], at: usize, list: &[usize]) -> bool
+pub(crate) fn shows_numbers(s: &[u8], at: usize, list: &[usize]) -> bool
     requires { ⌜ at ≤ length (now s) ⌝ }
 {
     let mut want = [0usize; 8192];

@@ -94,7 +94,7 @@ fn more(buf: &mut [u8], state: Input) -> Input {
 }
 
 // All cases of the input. A proved loop has to end, so it counts its turns down, from a number that no run uses up.
-pub fn all(buf: &mut [u8]) -> Counts {
+pub(crate) fn all(buf: &mut [u8]) -> Counts {
     let none = Counts {
         convert: 0,
         read: 0,

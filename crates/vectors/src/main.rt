@@ -109,7 +109,7 @@ fn tried(counts: Counts, s: &[u8], at: usize) -> Counts
 }
 
 // The cases of some lines.
-pub fn replayed(start: Counts, s: &[u8]) -> Counts {
+pub(crate) fn replayed(start: Counts, s: &[u8]) -> Counts {
     let mut counts = start;
     let mut at = 0;
     while at < s.len() {

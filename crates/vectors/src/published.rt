@@ -29,7 +29,7 @@ fn taken(unit: Sequence) -> usize
 }
 
 // Is the line decoded as the list at `at` says?
-pub fn decodes(line: &[u8], s: &[u8], at: usize) -> bool
+pub(crate) fn decodes(line: &[u8], s: &[u8], at: usize) -> bool
     requires { ⌜ at ≤ length (now s) ⌝ }
 {
     let mut i = 0;
@@ -50,7 +50,7 @@ pub fn decodes(line: &[u8], s: &[u8], at: usize) -> bool
 }
 
 // Do the line's clusters have the lengths of the list at `at`?
-pub fn segments(line: &[u8], s: &[u8], at: usize) -> bool
+pub(crate) fn segments(line: &[u8], s: &[u8], at: usize) -> bool
     requires { ⌜ at ≤ length (now s) ⌝ }
 {
     let mut i = 0;

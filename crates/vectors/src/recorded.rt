@@ -38,7 +38,7 @@ fn converts(line: &[u8], conv: &mut [u8], size: usize, s: &[u8], at: usize) -> b
 }
 
 // `convert LINE CONV = NUMBER COUNT CONVBYTES`, from LINE on.
-pub fn convert(s: &[u8], at: usize) -> bool
+pub(crate) fn convert(s: &[u8], at: usize) -> bool
     requires { ⌜ at ≤ length (now s) ⌝ }
 {
     let mut line = [0u8; 5000];
@@ -99,7 +99,7 @@ fn reads_lent(
 }
 
 // `read LINE MATCHES CONV SPANS = NUMBER COUNT CONVBYTES RECORDS`, from LINE on.
-pub fn read(s: &[u8], at: usize) -> bool
+pub(crate) fn read(s: &[u8], at: usize) -> bool
     requires { ⌜ at ≤ length (now s) ⌝ }
 {
     let mut line = [0u8; 5000];
@@ -169,7 +169,7 @@ fn asked_at(s: &[u8], at: usize) -> Asked
 }
 
 // `rows LINE WIDTH MODE CONV SPANS ROWS = NUMBER COUNT CONVBYTES RECORDS PAIRS`, from LINE on. The records are those of `read`.
-pub fn rows(s: &[u8], at: usize) -> bool
+pub(crate) fn rows(s: &[u8], at: usize) -> bool
     requires { ⌜ at ≤ length (now s) ⌝ }
 {
     let mut line = [0u8; 5000];
@@ -203,7 +203,7 @@ fn measures_lent(line: &[u8], asked: Asked, size: usize, s: &[u8], at: usize) ->
 }
 
 // `height LINE WIDTH MODE CONV SPANS = NUMBER COUNT CONVBYTES RECORDS`, from LINE on.
-pub fn height(s: &[u8], at: usize) -> bool
+pub(crate) fn height(s: &[u8], at: usize) -> bool
     requires { ⌜ at ≤ length (now s) ⌝ }
 {
     let mut line = [0u8; 5000];
