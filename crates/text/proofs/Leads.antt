@@ -64,7 +64,7 @@ above : (x : ℕ) → 0xDFFF < x → T (isThree x)
 above x l = rw (le-leb 0x800 x (omega arith), le-ltb x 0xD800 (omega arith), lt-ltb 0xDFFF x l) tt
 
 module _ (a b c d : ℕ) where
-  abbrev x₃ : ℕ
+  abbrev pub x₃ : ℕ
   x₃ = (a % 16 * 64 + b % 64) * 64 + c % 64
 
   three-low : T (isThree x₃) → 0x800 ≤ x₃
@@ -140,7 +140,7 @@ inside : (x : ℕ) → 0x10000 ≤ x → x ≤ 0x10FFFF → T (isFour x)
 inside x l h = rw (le-leb 0x10000 x l, le-leb x 0x10FFFF h) tt
 
 module _ (a b c d : ℕ) where
-  abbrev x₄ : ℕ
+  abbrev pub x₄ : ℕ
   x₄ = ((a % 8 * 64 + b % 64) * 64 + c % 64) * 64 + d % 64
 
   four-bounds : T (isFour x₄) → (0x10000 ≤ x₄) × (x₄ ≤ 0x10FFFF)

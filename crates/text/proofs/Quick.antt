@@ -1,5 +1,5 @@
 -- Sequences and clusters told by their bytes.
-use Prim.Native.Nat.{_%_, _*_, _+_, _<_, _≤_, ℕ}
+use Prim.Native.Nat.{_+_, _<_, _≤_, ℕ}
 use native.Mathlib.Omega.{arith}
 use mathlib.Core.Bool.{Bool, _&&_, false, true}
 use mathlib.Core.List.{List}
@@ -14,17 +14,10 @@ use Rattle.text.specs.Utf8.{decode}
 use Rattle.text.specs.declared.cluster.Unit.{Unit}
 use Rattle.text.proofs.Ascii.{clear, indicator-class, jamo-class, other-class, quiet-test, syllable-class}
 use Rattle.text.proofs.Branch.{in-range}
-use Rattle.text.proofs.Leads.{four-at, three-at, unit-ascii, unit-read}
+use Rattle.text.proofs.Leads.{four-at, three-at, unit-ascii, unit-read, x₃, x₄}
 use Rattle.text.specs.declared.class.Profile as code
 
 -- ---- three and four bytes
-
-module _ (a b c d : ℕ) where
-  abbrev x₃ : ℕ
-  x₃ = (a % 16 * 64 + b % 64) * 64 + c % 64
-
-  abbrev x₄ : ℕ
-  x₄ = ((a % 8 * 64 + b % 64) * 64 + c % 64) * 64 + d % 64
 
 module _ (v : code.Profile) (a b c d : ℕ) (tb : isTail b ≡ true) (tc : isTail c ≡ true) where
   abbrev x : ℕ
