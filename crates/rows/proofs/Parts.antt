@@ -4,7 +4,7 @@ use Prim.Native.Nat.{ℕ, zero, suc, _+_, _-_, _*_, _≤_, _<_}
 use native.Mathlib.Nat.{add-zero, add-suc, add-comm, add-assoc}
 use native.Mathlib.Omega.{arith}
 use mathlib.Core.Bool.{Bool, _&&_, false, not, true}
-use mathlib.Core.List.{List, [], _∷_, _++_}
+use mathlib.Core.List.{List, [], _∷_, _++_, append-nil}
 use mathlib.Core.Logic.{_≢_}
 use lib.ListN.{length, drop, take, getD, length-drop}
 use lib.Seq.{slice, drop-drop, take-nil}
@@ -27,7 +27,7 @@ use Rattle.text.proofs.Ascii.{ascii-first, clear, clear-any}
 use Rattle.text.proofs.Walks.{first-size, more-begins}
 use Rattle.rows.specs.Words.{Word, aWord}
 use Rattle.rows.specs.Words.Laws.{belongs, leading, beyond, leading-beyond, wordFrom, firstWord}
-use Rattle.rows.specs.Contracts.{byteBelongs, column, printable, textAt, Measured, hyphenSize, HyphenAt, WordAt}
+use Rattle.rows.specs.Contracts.{byteBelongs, column, printable, textAt, Measured, hyphenSize, HyphenAt, WordAt, bothOf}
 use Rattle.rows.specs.declared.words.Stretch.{Stretch}
 
 pub sep-is : (v : ℕ) (b sep : Bool) → b ≡ whitespace v → sep ≡ true → b ≡ belongs sep v
@@ -125,12 +125,12 @@ module _ (f : code.Profile) (s : List ℕ) (at : ℕ) (r : Stretch) (m : Measure
   rest-of-word : textAt s (r .end .0) ≡ beyond false (textAt s at)
   rest-of-word = behind-stretch (profileOf f) s at (leading false (textAt s at)) (beyond false (textAt s at)) r m (leading-beyond false (textAt s at))
 
-  word-by : (v : Word) (w p : BytePlace) (x : Column) → firstWord (textAt s at) ≡ v → w .0 ≡ at + size (v .word) → p .0 ≡ w .0 + size (v .sep) → x .0 ≡ widthOf (profileOf f) (v .word) + widthOf (profileOf f) (v .sep)
-      → p .0 ≤ length s → x .0 ≤ 2 * (p .0 - at) → WordAt (profileOf f) s at (record { word = w; sep = p; width = x })
-  word-by v w p x e a b c d g = record { word = rw e a; sep = rw e b; width = rw e c; inside = d; small = g }
+  word-by : (v : Word) (p : BytePlace) (x : Column) → firstWord (textAt s at) ≡ v → p .0 ≡ at + size (bothOf v) → x .0 ≡ widthOf (profileOf f) (bothOf v) → p .0 ≤ length s → x .0 ≤ 2 * (p .0 - at)
+      → WordAt (profileOf f) s at (record { end = p; width = x })
+  word-by v p x e a b c d = record { end = rw e a; width = rw e b; inside = c; small = d }
 
   hyphen-by : (t : List Scalar) (n : ℕ) → textAt s (r .end .0) ≡ t → n ≡ hyphenSize t → (n ≢ 0) → r .end .0 + n ≤ length s
-      → WordAt (profileOf f) s at (record { word = record { 0 = r .end .0 + n }; sep = record { 0 = r .end .0 + n }; width = column (r .width .0 + 1) })
+      → WordAt (profileOf f) s at (record { end = record { 0 = r .end .0 + n }; width = column (r .width .0 + 1) })
   unfolding firstWord wordFrom hyphenSize size widthOf profileOf profile01
   hyphen-by [] n e h z k = absurd (z h)
   hyphen-by (c ∷ t) n e h z k =
@@ -138,18 +138,17 @@ module _ (f : code.Profile) (s : List ℕ) (at : ℕ) (r : Stretch) (m : Measure
       (λ y.
       let b : n ≡ length (c .bytes) = rw y at h in
       let v : width01 (c .code) ≡ 1 = rw (eqb→eq (c .code) 0x2D (true-T y)) (plain-width 0x2D (omega arith) (omega arith)) in
-      word-by (aWord (leading false (textAt s at) ++ c ∷ []) []) (record { 0 = r .end .0 + n }) (record { 0 = r .end .0 + n }) (column (r .width .0 + 1))
+      word-by (aWord (leading false (textAt s at) ++ c ∷ []) []) (record { 0 = r .end .0 + n }) (column (r .width .0 + 1))
       (ap (wordFrom (leading false (textAt s at))) (sym rest-of-word ∙ e) ∙ rw y)
-      (rw size-append (omega (arith, m .end)))
-      (omega arith)
-      (rw (width-append, v) (omega (arith, m .width)))
+      (rw (append-nil, size-append) (omega (arith, m .end)))
+      (rw (append-nil, width-append, v) (omega (arith, m .width)))
       k
       (omega (arith, m .small, m .end)))
       (λ y. absurd (z (rw y at h)))
 
   -- it ends in a `-`
   pub word-hyphen : (n : ℕ) → HyphenAt s (r .end .0) n → (n ≢ 0)
-      → WordAt (profileOf f) s at (record { word = record { 0 = r .end .0 + n }; sep = record { 0 = r .end .0 + n }; width = column (r .width .0 + 1) })
+      → WordAt (profileOf f) s at (record { end = record { 0 = r .end .0 + n }; width = column (r .width .0 + 1) })
   word-hyphen n h z = hyphen-by (textAt s (r .end .0)) n refl (h .size) z (h .inside)
 
   no-hyphen : (t : List Scalar) (n : ℕ) → All Valid t → n ≡ hyphenSize t → n ≡ 0 → wordFrom (leading false (textAt s at)) t ≡ aWord (leading false (textAt s at)) (leading true t)
@@ -160,12 +159,12 @@ module _ (f : code.Profile) (s : List ℕ) (at : ℕ) (r : Stretch) (m : Measure
 
   -- or in whitespace, or with the text
   pub word-spaces : (n : ℕ) (q : Stretch) → HyphenAt s (r .end .0) n → n ≡ 0 → Measured (profileOf f) s (r .end .0) (leading true (textAt s (r .end .0))) q
-      → WordAt (profileOf f) s at (record { word = r .end; sep = q .end; width = column (r .width .0 + q .width .0) })
+      → WordAt (profileOf f) s at (record { end = q .end; width = column (r .width .0 + q .width .0) })
   unfolding firstWord
   word-spaces n q h z k =
-      word-by (aWord (leading false (textAt s at)) (leading true (textAt s (r .end .0)))) (r .end) (q .end) (column (r .width .0 + q .width .0))
+      word-by (aWord (leading false (textAt s at)) (leading true (textAt s (r .end .0)))) (q .end) (column (r .width .0 + q .width .0))
       (ap (wordFrom (leading false (textAt s at))) (sym rest-of-word) ∙ no-hyphen (textAt s (r .end .0)) n (run-valid (drop (r .end .0) s)) (h .size) z)
-      (m .end) (k .end) (rw (m .width, k .width)) (k .inside) (omega (arith, m .small, k .small, m .end, k .end))
+      (rw size-append (omega (arith, m .end, k .end))) (rw (width-append, m .width, k .width)) (k .inside) (omega (arith, m .small, k .small, m .end, k .end))
 
 module _ (s : List ℕ) (at : ℕ) where
   pub hyphen-past : length s ≤ at → at ≤ length s → HyphenAt s at 0

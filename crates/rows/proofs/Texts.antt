@@ -4,7 +4,7 @@ use Prim.Native.Nat.{ℕ, _+_, _-_, _*_, _≤_}
 use native.Mathlib.Nat.{add-zero}
 use native.Mathlib.Omega.{arith}
 use mathlib.Core.Bool.{Bool, true, false}
-use mathlib.Core.List.{List, [], _∷_, _++_, append-assoc}
+use mathlib.Core.List.{List, [], _∷_, _++_}
 use mathlib.Core.Logic.{_≢_}
 use lib.ListN.{length, drop, take, length-take}
 use lib.Seq.{drop-drop}
@@ -17,16 +17,15 @@ use Rattle.text.specs.Class.{Profile}
 use Rattle.text.specs.Width.{widthOf}
 use Rattle.text.specs.Cluster.{clusters}
 use Rattle.text.specs.Code.{size, firstOf, profileOf}
-use Rattle.text.specs.Code.Laws.{none-past, run-valid, run-front, run-behind, size-append, FirstCluster, first-cluster}
+use Rattle.text.specs.Code.Laws.{none-past, run-valid, run-front, width-append, FirstCluster, first-cluster}
 use Rattle.text.specs.Cluster.Laws.{clusters-first, further}
 use Rattle.text.specs.declared.BytePlace.{BytePlace}
 use Rattle.rows.specs.Words.{Word, words}
 use Rattle.rows.specs.Words.Laws.{firstWord, restWords, first-word-all, first-word-some, words-first}
 use Rattle.rows.specs.Rows.{Row, Wrap, wrap, pushed, unit, byClusters, byWords, longWord, oneWord, splitText}
 use Rattle.rows.specs.Rows.Laws.{over, Natural, byClusters-over, longWord-over, byWords-over}
-use Rattle.rows.specs.Contracts.{column, textAt, Measured, WordAt, WordRoom, Kept, kept, keep, keeps, Held, held, on, Room, Stepped, advanced, unitOf, clustersOf, longWordOf, oneWordOf, wordsOf, textOf}
+use Rattle.rows.specs.Contracts.{column, textAt, Measured, WordAt, WordRoom, bothOf, Kept, kept, keep, keeps, Held, held, on, Room, Stepped, advanced, unitOf, clustersOf, longWordOf, oneWordOf, wordsOf, textOf}
 use Rattle.rows.specs.declared.words.Stretch.{Stretch}
-use Rattle.rows.specs.declared.words.Word as code
 use Rattle.text.specs.declared.class.Profile as profile
 use Rattle.rows.specs.declared.wrap.WrapState.{WrapState}
 use Rattle.rows.proofs.Breaks.{word-clusters}
@@ -160,47 +159,41 @@ module _ (P : Profile) (width : ℕ) (text l₀ : List ℕ) (t₀ : WrapState) (
 
 -- ---- a word
 
--- its parts, and the text behind it
-module _ (P : Profile) (text : List ℕ) (at : ℕ) (v : code.Word) (w : WordAt P text at v) where
-  all-of : textAt text (at) ≡ firstWord (textAt text at) .word ++ (firstWord (textAt text at) .sep ++ restWords (textAt text (at)))
-  all-of = first-word-all (textAt text (at)) ∙ append-assoc (firstWord (textAt text at) .word) (firstWord (textAt text at) .sep) (restWords (textAt text (at)))
-
-  behind-word : textAt text (v .word .0) ≡ firstWord (textAt text at) .sep ++ restWords (textAt text (at))
-  behind-word = rw (w .word, ← drop-drop (size (firstWord (textAt text at) .word)) (at) text) (run-behind (drop (at) text) (firstWord (textAt text at) .word) _ all-of)
-
-  both-part : textAt (take (v .sep .0 - at) (drop at text)) 0 ≡ firstWord (textAt text at) .word ++ firstWord (textAt text at) .sep
+-- its text, and the text behind it
+module _ (P : Profile) (text : List ℕ) (at : ℕ) (v : Stretch) (w : WordAt P text at v) where
+  both-part : textAt (take (v .end .0 - at) (drop at text)) 0 ≡ bothOf (firstWord (textAt text at))
   both-part =
-      let n : v .sep .0 - at ≡ size (firstWord (textAt text at) .word ++ firstWord (textAt text at) .sep) = omega (arith, w .word, w .sep, size-append (firstWord (textAt text at) .word) (firstWord (textAt text at) .sep)) in
-      rw n (run-front (drop at text) (firstWord (textAt text at) .word ++ firstWord (textAt text at) .sep) _ (first-word-all (textAt text at)))
+      let n : v .end .0 - at ≡ size (bothOf (firstWord (textAt text at))) = omega (arith, w .end) in
+      rw n (run-front (drop at text) (bothOf (firstWord (textAt text at))) _ (first-word-all (textAt text at)))
 
-  pub behind-all : textAt text (v .sep .0) ≡ restWords (textAt text (at))
-  behind-all = rw (w .sep, ← drop-drop (size (firstWord (textAt text at) .sep)) (v .word .0) text) (run-behind (drop (v .word .0) text) (firstWord (textAt text at) .sep) _ behind-word)
+  pub behind-all : textAt text (v .end .0) ≡ restWords (textAt text at)
+  behind-all = behind-stretch P text at (bothOf (firstWord (textAt text at))) (restWords (textAt text at)) v w (first-word-all (textAt text at))
 
-module _ (P : Profile) (width : ℕ) (text : List ℕ) (at : BytePlace) (v : code.Word) (t : WrapState) (w : WordRoom P text (at .0) v t) where
+module _ (P : Profile) (width : ℕ) (text : List ℕ) (at : BytePlace) (v : Stretch) (t : WrapState) (w : WordRoom P text (at .0) v t) where
   abbrev theWord : Word
   theWord = firstWord (textAt text (at .0))
 
   word-end : t .position .0 + v .width .0 ≡ t .position .0 + widthOf P (theWord .word) + widthOf P (theWord .sep)
-  word-end = omega (arith, w .there .width)
+  word-end = omega (arith, w .there .width, width-append P (theWord .word) (theWord .sep))
 
   word-stays : (f : Wrap → Wrap) (m : ℕ) (l : List ℕ) (t′ : WrapState) → f (wrap [] (t .start .0) (t .position .0)) ≡ wrap [] (t .start .0) (t .position .0 + v .width .0)
-      → t′ ≡ advanced t (v .width .0) → Stepped l t f (2 * (v .sep .0 - at .0)) m l t′
+      → t′ ≡ advanced t (v .width .0) → Stepped l t f (2 * (v .end .0 - at .0)) m l t′
   word-stays f m l t′ q e =
-      rw e (stays l t f (2 * (v .sep .0 - at .0)) (t .start) (column (t .position .0 + v .width .0)) (omega (arith, w .room .low)) (omega (arith, w .there .small)) m q)
+      rw e (stays l t f (2 * (v .end .0 - at .0)) (t .start) (column (t .position .0 + v .width .0)) (omega (arith, w .room .low)) (omega (arith, w .there .small)) m q)
 
   pub long-fits : (l : List ℕ) (b : Bool) (t′ : WrapState) → b ≡ leb (t .position .0 + v .width .0 - t .start .0) width → b ≡ true → t′ ≡ advanced t (v .width .0)
-      → Stepped l t (longWordOf P width theWord) (2 * (v .sep .0 - at .0)) (v .sep .0 - at .0) l t′
+      → Stepped l t (longWordOf P width theWord) (2 * (v .end .0 - at .0)) (v .end .0 - at .0) l t′
   unfolding longWordOf longWord
-  long-fits l b t′ q h e = word-stays (longWordOf P width theWord) (v .sep .0 - at .0) l t′ (rw (← word-end, sym q ∙ h)) e
+  long-fits l b t′ q h e = word-stays (longWordOf P width theWord) (v .end .0 - at .0) l t′ (rw (← word-end, sym q ∙ h)) e
 
   pub one-fits : (l : List ℕ) (b : Bool) (t′ : WrapState) → b ≡ leb (t .position .0 + v .width .0 - t .start .0) width → b ≡ true → t′ ≡ advanced t (v .width .0)
-      → Stepped l t (oneWordOf P width theWord) (2 * (v .sep .0 - at .0)) (v .sep .0 - at .0 + 1) l t′
+      → Stepped l t (oneWordOf P width theWord) (2 * (v .end .0 - at .0)) (v .end .0 - at .0 + 1) l t′
   unfolding oneWordOf oneWord
-  one-fits l b t′ q h e = word-stays (oneWordOf P width theWord) (v .sep .0 - at .0 + 1) l t′ (rw (← word-end, sym q ∙ h)) e
+  one-fits l b t′ q h e = word-stays (oneWordOf P width theWord) (v .end .0 - at .0 + 1) l t′ (rw (← word-end, sym q ∙ h)) e
 
   pub one-wraps : (l l₁ l₂ : List ℕ) (t₁ t₂ : WrapState) (c : Bool) → c ≡ leb (t .position .0 + v .width .0 - t .start .0) width → c ≡ false → Stepped l t pushed 0 1 l₁ t₁
-      → Stepped l₁ t₁ (longWordOf P width theWord) (2 * (v .sep .0 - at .0)) (v .sep .0 - at .0) l₂ t₂
-      → Stepped l t (oneWordOf P width theWord) (2 * (v .sep .0 - at .0)) (v .sep .0 - at .0 + 1) l₂ t₂
+      → Stepped l₁ t₁ (longWordOf P width theWord) (2 * (v .end .0 - at .0)) (v .end .0 - at .0) l₂ t₂
+      → Stepped l t (oneWordOf P width theWord) (2 * (v .end .0 - at .0)) (v .end .0 - at .0 + 1) l₂ t₂
   unfolding oneWordOf oneWord longWordOf
   one-wraps l l₁ l₂ t₁ t₂ c q h a b =
       record {
@@ -217,7 +210,7 @@ clusters-append P width [] hs t = refl
 clusters-append P width (g ∷ gs) hs t = clusters-append P width gs hs (unit width t (widthOf P g))
 
 -- a word is broken with its separator
-module _ (f : profile.Profile) (width : ℕ) (text : List ℕ) (at : BytePlace) (v : code.Word) (t : WrapState) (w : WordRoom (profileOf f) text (at .0) v t) where
+module _ (f : profile.Profile) (width : ℕ) (text : List ℕ) (at : BytePlace) (v : Stretch) (t : WrapState) (w : WordRoom (profileOf f) text (at .0) v t) where
   abbrev P : Profile
   P = profileOf f
 
@@ -225,15 +218,15 @@ module _ (f : profile.Profile) (width : ℕ) (text : List ℕ) (at : BytePlace) 
   broken = firstWord (textAt text (at .0))
 
   pub long-breaks : (l l₂ : List ℕ) (t₂ : WrapState) (c : Bool) → c ≡ leb (t .position .0 + v .width .0 - t .start .0) width → c ≡ false
-      → Stepped l t (clustersOf P width (textAt (take (v .sep .0 - at .0) (drop (at .0) text)) 0)) (2 * length (take (v .sep .0 - at .0) (drop (at .0) text))) (length (take (v .sep .0 - at .0) (drop (at .0) text))) l₂ t₂
-      → Stepped l t (longWordOf P width broken) (2 * (v .sep .0 - at .0)) (v .sep .0 - at .0) l₂ t₂
+      → Stepped l t (clustersOf P width (textAt (take (v .end .0 - at .0) (drop (at .0) text)) 0)) (2 * length (take (v .end .0 - at .0) (drop (at .0) text))) (length (take (v .end .0 - at .0) (drop (at .0) text))) l₂ t₂
+      → Stepped l t (longWordOf P width broken) (2 * (v .end .0 - at .0)) (v .end .0 - at .0) l₂ t₂
   unfolding longWordOf longWord clustersOf
   long-breaks l l₂ t₂ c q h a =
-      let x : length (take (v .sep .0 - at .0) (drop (at .0) text)) ≤ v .sep .0 - at .0 = rw length-take (omega arith) in
+      let x : length (take (v .end .0 - at .0) (drop (at .0) text)) ≤ v .end .0 - at .0 = rw length-take (omega arith) in
       let u : Wrap = wrap [] (t .start .0) (t .position .0) in
       let z : longWordOf P width broken u ≡ byClusters P width (byClusters P width u (clusters P (broken .word))) (clusters P (broken .sep)) = rw (← word-end P width text at v t w, sym q ∙ h) in
       record {
-        same = a .same ∙ on-at (clustersOf P width (textAt (take (v .sep .0 - at .0) (drop (at .0) text)) 0)) (longWordOf P width broken) (held l t)
+        same = a .same ∙ on-at (clustersOf P width (textAt (take (v .end .0 - at .0) (drop (at .0) text)) 0)) (longWordOf P width broken) (held l t)
             (ap (λ (s : List Scalar). byClusters P width u (clusters P s)) (both-part P text (at .0) v (w .there))
             ∙ ap (byClusters P width u) (word-clusters f (textAt text (at .0)))
             ∙ clusters-append P width (clusters P (broken .word)) (clusters P (broken .sep)) u
@@ -278,25 +271,25 @@ module _ (P : Profile) (width : ℕ) (text l₀ : List ℕ) (t₀ : WrapState) (
   pub words-end : length text ≤ p .0 → Stepped l₀ t₀ (wordsOf P width (textAt text 0)) (2 * length text) (2 * length text) l t
   words-end h = word-done (none-past text (p .0) h)
 
-  module _ (v : code.Word) (w : WordAt P text (p .0) v) where
-    no-word : (s : List Scalar) → All Valid s → v .sep .0 ≡ p .0 + size (firstWord s .word ++ firstWord s .sep) → v .sep .0 ≡ p .0 → s ≡ []
+  module _ (v : Stretch) (w : WordAt P text (p .0) v) where
+    no-word : (s : List Scalar) → All Valid s → v .end .0 ≡ p .0 + size (bothOf (firstWord s)) → v .end .0 ≡ p .0 → s ≡ []
     unfolding size
     no-word [] a e h = refl
     no-word (c ∷ s) (all-cons x a) e h = let k = first-word-some c s in absurd (omega (arith, x .some, rw (k .1) at e))
 
-    pub words-stop : v .sep .0 ≡ p .0 → Stepped l₀ t₀ (wordsOf P width (textAt text 0)) (2 * length text) (2 * length text) l t
-    words-stop h = word-done (no-word (textAt text (p .0)) (run-valid (drop (p .0) text)) (rw size-append (omega (arith, w .word, w .sep))) h)
+    pub words-stop : v .end .0 ≡ p .0 → Stepped l₀ t₀ (wordsOf P width (textAt text 0)) (2 * length text) (2 * length text) l t
+    words-stop h = word-done (no-word (textAt text (p .0)) (run-valid (drop (p .0) text)) (w .end) h)
 
-    some-word : (s : List Scalar) → (v .sep .0 ≢ p .0) → v .word .0 ≡ p .0 + size (firstWord s .word) → v .sep .0 ≡ v .word .0 + size (firstWord s .sep) → (c : Scalar) × (r : List Scalar) × (s ≡ c ∷ r)
+    some-word : (s : List Scalar) → (v .end .0 ≢ p .0) → v .end .0 ≡ p .0 + size (bothOf (firstWord s)) → (c : Scalar) × (r : List Scalar) × (s ≡ c ∷ r)
     unfolding size firstWord
-    some-word [] z e h = absurd (z (omega arith))
-    some-word (c ∷ s) z e h = (c, s, refl)
+    some-word [] z e = absurd (z (omega arith))
+    some-word (c ∷ s) z e = (c, s, refl)
 
-    pub words-turn : (l′ : List ℕ) (t′ : WrapState) → (v .sep .0 ≢ p .0)
-        → Stepped l t (oneWordOf P width (firstWord (textAt text (p .0)))) (2 * (v .sep .0 - p .0)) (v .sep .0 - p .0 + 1) l′ t′ → length l′ ≡ length l
-        → Wording P width text l₀ t₀ (v .sep) l′ t′
+    pub words-turn : (l′ : List ℕ) (t′ : WrapState) → (v .end .0 ≢ p .0)
+        → Stepped l t (oneWordOf P width (firstWord (textAt text (p .0)))) (2 * (v .end .0 - p .0)) (v .end .0 - p .0 + 1) l′ t′ → length l′ ≡ length l
+        → Wording P width text l₀ t₀ (v .end) l′ t′
     words-turn l′ t′ z s k =
-        let f = some-word (textAt text (p .0)) z (w .word) (w .sep) in
+        let f = some-word (textAt text (p .0)) z (w .end) in
         record {
           so = record {
             inside = w .inside;
@@ -304,9 +297,9 @@ module _ (P : Profile) (width : ℕ) (text l₀ : List ℕ) (t₀ : WrapState) (
             work = ap (λ (x : List Scalar). on (wordsOf P width x) (held l′ t′)) (behind-all P text (p .0) v w)
                 ∙ turn (wordsOf P width (textAt text (p .0))) (held l t) (b .so .work) (oneWordOf P width (firstWord (textAt text (p .0)))) (wordsOf P width (restWords (textAt text (p .0)))) (held l′ t′) (words-more P width (textAt text (p .0)) (f .0) (f .1) (f .2)) (words-natural P width (restWords (textAt text (p .0)))) (s .same);
             low = s .low;
-            near = omega (arith, s .near, b .so .near, w .word, w .sep);
+            near = omega (arith, s .near, b .so .near, w .end);
           };
-          more = omega (arith, s .more, b .more, w .word, w .sep, z);
+          more = omega (arith, s .more, b .more, w .end, z);
         }
 
 -- ---- by the mode

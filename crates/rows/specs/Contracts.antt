@@ -19,7 +19,6 @@ use Rattle.spans.specs.Contracts.{readAs}
 use Rattle.rows.specs.Words.{Word, words}
 use Rattle.rows.specs.Words.Laws.{firstWord}
 use Rattle.rows.specs.declared.words.Stretch.{Stretch}
-use Rattle.rows.specs.declared.words.Word as code
 use Rattle.rows.specs.Rows.{Row, row, Wrap, wrap, unit, byClusters, longWord, oneWord, byWords, splitText, tabbed}
 use Rattle.rows.specs.Calls.{modeAndWidth, Wrapped, rowsCall, heightCall}
 use Rattle.rows.specs.declared.Request.{Request}
@@ -59,13 +58,13 @@ pub record HyphenAt (s : List ℕ) (at r : ℕ) : Type 0 where
   pub size : r ≡ hyphenSize (textAt s at)
   pub inside : at + r ≤ length s
 
--- the first word from a place on, with its separator
-pub record WordAt (P : Profile) (s : List ℕ) (at : ℕ) (r : code.Word) : Type 0 where
-  pub word : r .word .0 ≡ at + size (firstWord (textAt s at) .word)
-  pub sep : r .sep .0 ≡ r .word .0 + size (firstWord (textAt s at) .sep)
-  pub width : r .width .0 ≡ widthOf P (firstWord (textAt s at) .word) + widthOf P (firstWord (textAt s at) .sep)
-  pub inside : r .sep .0 ≤ length s
-  pub small : r .width .0 ≤ 2 * (r .sep .0 - at)
+-- a word with its separator
+abbrev pub bothOf : Word → List Scalar
+bothOf v = v .word ++ v .sep
+
+-- the first word from a place on
+abbrev pub WordAt : Profile → List ℕ → ℕ → Stretch → Type 0
+WordAt P s at r = Measured P s at (bothOf (firstWord (textAt s at))) r
 
 -- ---- the rows pushed
 
@@ -161,9 +160,9 @@ pub record Room (t : WrapState) (n : ℕ) : Type 0 where
   pub room : t .position .0 + n < 2 ^ 64
 
 -- a word of a text, with room for it
-pub record WordRoom (P : Profile) (s : List ℕ) (at : ℕ) (v : code.Word) (t : WrapState) : Type 0 where
+pub record WordRoom (P : Profile) (s : List ℕ) (at : ℕ) (v : Stretch) (t : WrapState) : Type 0 where
   pub there : WordAt P s at v
-  pub room : Room t (2 * (v .sep .0 - at))
+  pub room : Room t (2 * (v .end .0 - at))
 
 -- n columns further within the present row
 abbrev pub advanced : WrapState → ℕ → WrapState

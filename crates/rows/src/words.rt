@@ -23,13 +23,6 @@ pub struct Stretch {
     pub width: Column,
 }
 
-// A word and the separator behind it: where each ends, and the width of both.
-pub struct Word {
-    pub word: BytePlace,
-    pub sep: BytePlace,
-    pub width: Column,
-}
-
 // Is x a scalar of a separator, or else of a word before a `-`?
 fn belongs(sep: bool, x: u32) -> bool
     ensures { λ r. ⌜ r ≡ belongs sep x ⌝ }
@@ -94,8 +87,8 @@ fn hyphen_len(text: &[u8], at: BytePlace) -> usize
     0
 }
 
-// The word at a place.
-pub fn next_word(profile: Profile, text: &[u8], at: BytePlace) -> Word
+// The word at a place with its separator.
+pub fn next_word(profile: Profile, text: &[u8], at: BytePlace) -> Stretch
     requires { ⌜ at .0 < length (now text) ⌝ }
     ensures { λ r. ⌜ WordAt (profileOf profile) (now (text .entry)) (at .0) r ⌝ }
 {
@@ -104,19 +97,16 @@ pub fn next_word(profile: Profile, text: &[u8], at: BytePlace) -> Word
     let columns = w.width;
     let n = hyphen_len(text, word);
     if n != 0 {
-        let end = BytePlace(word.0 + n);
-        return Word {
-            word: end,
-            sep: end,
+        return Stretch {
+            end: BytePlace(word.0 + n),
             width: Column(columns.0 + 1),
         };
     }
     let s = leading(profile, text, word, true);
     let sep = s.end;
     let more = s.width;
-    Word {
-        word: word,
-        sep: sep,
+    Stretch {
+        end: sep,
         width: Column(columns.0 + more.0),
     }
 }

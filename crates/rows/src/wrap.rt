@@ -1,5 +1,5 @@
 // Wrapping: src/line.rs, Span::split and make_wrap.
-use super::words::Word;
+use super::words::Stretch;
 use super::words::cluster;
 use super::words::next_word;
 use spans::Span;
@@ -197,10 +197,10 @@ fn long_word(
     wrapping: Wrapping,
     state: WrapState,
     at: BytePlace,
-    word: Word,
+    word: Stretch,
 ) -> WrapState
     requires { ⌜ WordRoom (profileOf (wrapping .profile)) (now text) (at .0) word state ⌝ }
-    ensures { λ r. ⌜ Stepped (now (rows .entry)) state (longWordOf (profileOf (wrapping .profile)) (wrapping .width .0) (firstWord (textAt (now (text .entry)) (at .0)))) (2 * (word .sep .0 - at .0)) (word .sep .0 - at .0) (now (rows .exit)) r ⌝ }
+    ensures { λ r. ⌜ Stepped (now (rows .entry)) state (longWordOf (profileOf (wrapping .profile)) (wrapping .width .0) (firstWord (textAt (now (text .entry)) (at .0)))) (2 * (word .end .0 - at .0)) (word .end .0 - at .0) (now (rows .exit)) r ⌝ }
 {
     let width = wrapping.width;
     let columns = word.width;
@@ -208,7 +208,7 @@ fn long_word(
         return advance(state, columns);
     }
     let a = at.0;
-    let e = word.sep.0;
+    let e = word.end.0;
     by_clusters(&text[a..e], rows, wrapping, state)
 }
 
@@ -219,10 +219,10 @@ fn one_word(
     wrapping: Wrapping,
     state: WrapState,
     at: BytePlace,
-    word: Word,
+    word: Stretch,
 ) -> WrapState
     requires { ⌜ WordRoom (profileOf (wrapping .profile)) (now text) (at .0) word state ⌝ }
-    ensures { λ r. ⌜ Stepped (now (rows .entry)) state (oneWordOf (profileOf (wrapping .profile)) (wrapping .width .0) (firstWord (textAt (now (text .entry)) (at .0)))) (2 * (word .sep .0 - at .0)) (word .sep .0 - at .0 + 1) (now (rows .exit)) r ⌝ }
+    ensures { λ r. ⌜ Stepped (now (rows .entry)) state (oneWordOf (profileOf (wrapping .profile)) (wrapping .width .0) (firstWord (textAt (now (text .entry)) (at .0)))) (2 * (word .end .0 - at .0)) (word .end .0 - at .0 + 1) (now (rows .exit)) r ⌝ }
 {
     let width = wrapping.width;
     let columns = word.width;
@@ -243,7 +243,7 @@ fn by_words(text: &[u8], rows: &mut [usize], wrapping: Wrapping, state: WrapStat
     let mut p = BytePlace(0);
     while p.0 < text.len() {
         let v = next_word(profile, text, p);
-        let end = v.sep;
+        let end = v.end;
         if end.0 == p.0 {
             return t;
         }
