@@ -17,7 +17,7 @@ use Rattle.text.specs.Utf8.{Scalar, decode, ascii}
 use Rattle.text.specs.Class.{Profile, inAny, spaces, whitespace}
 use Rattle.text.specs.Width.{widthOf, width01, profile01}
 use Rattle.text.specs.Cluster.{Context, clusters}
-use Rattle.text.specs.Code.{runOf, size, firstOf, firstSize, firstSequence, profileOf, moreFrom, beginsCluster, sequenceOf}
+use Rattle.text.specs.Code.{runOf, size, firstOf, firstSize, firstSequence, profileOf, moreFrom, beginsCluster, printable, sequenceOf}
 use Rattle.text.specs.Code.Laws.{scalar-at, none-at, none-code, none-past, run-front, run-behind, run-fits, run-valid, size-append, width-append, width-le, width-size, first-cluster, plain-cluster, plain-width}
 use Rattle.text.specs.declared.BytePlace.{BytePlace}
 use Rattle.text.specs.declared.Column.{Column}
@@ -27,7 +27,7 @@ use Rattle.text.proofs.Ascii.{ascii-first, clear, clear-any}
 use Rattle.text.proofs.Walks.{first-size, more-begins}
 use Rattle.rows.specs.Words.{Word, aWord}
 use Rattle.rows.specs.Words.Laws.{belongs, leading, beyond, leading-beyond, wordFrom, firstWord}
-use Rattle.rows.specs.Contracts.{byteBelongs, column, printable, textAt, Measured, hyphenSize, HyphenAt, WordAt, bothOf}
+use Rattle.rows.specs.Contracts.{byteBelongs, column, textAt, Measured, hyphenSize, HyphenAt, WordAt, bothOf}
 use Rattle.rows.specs.declared.words.Stretch.{Stretch}
 
 pub sep-is : (v : ℕ) (b sep : Bool) → b ≡ whitespace v → sep ≡ true → b ≡ belongs sep v

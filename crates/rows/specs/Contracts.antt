@@ -30,10 +30,6 @@ pub mod Laws
 
 -- ---- parts of a text
 
--- an ASCII scalar that is no control
-abbrev pub printable : ℕ → Bool
-printable v = leb 0x20 v && leb v 0x7E
-
 -- a byte that belongs to a separator, or else to a word before a `-`, of those of one column
 abbrev pub byteBelongs : Bool → ℕ → Bool
 byteBelongs sep b = cond sep (eqb b 0x20) ((leb 0x21 b && leb b 0x7E) && not (eqb b 0x2D))

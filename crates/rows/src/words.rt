@@ -2,6 +2,7 @@
 use text::BytePlace;
 use text::Column;
 use text::class::Profile;
+use text::class::is_printable;
 use text::class::is_whitespace;
 use text::cluster::begins_cluster;
 use text::cluster::walked_end;
@@ -15,7 +16,7 @@ ghost use lib.ListN.{length};
 ghost use Rattle.text.specs.Cluster.{clusters};
 ghost use Rattle.text.specs.Code.{profileOf, firstOf};
 ghost use Rattle.rows.specs.Words.Laws.{belongs, leading};
-ghost use Rattle.rows.specs.Contracts.{printable, byteBelongs, textAt, Measured, HyphenAt, WordAt};
+ghost use Rattle.rows.specs.Contracts.{byteBelongs, textAt, Measured, HyphenAt, WordAt};
 
 // A part of a text from some place on: where it ends, and its width.
 pub struct Stretch {
@@ -109,13 +110,6 @@ pub fn next_word(profile: Profile, text: &[u8], at: BytePlace) -> Stretch
         end: sep,
         width: Column(columns.0 + more.0),
     }
-}
-
-// 20 to 7E
-fn is_printable(x: u32) -> bool
-    ensures { λ r. ⌜ r ≡ printable x ⌝ }
-{
-    (0x20 <= x) & (x <= 0x7E)
 }
 
 // The cluster at a place; nothing where a damaged byte stands there.

@@ -18,12 +18,12 @@ use Rattle.text.specs.Class.{Profile, cr, lf, control, extend, zwj, classV, cla
 use Rattle.text.specs.Width.{profile01, width01, wides, widthOf}
 use Rattle.text.specs.Cluster.{Context, joined, joins, joinsNext, context, clusters}
 use Rattle.text.specs.Cluster.Laws.{further, clusters-first}
-use Rattle.text.specs.Code.{profileOf, firstSequence}
+use Rattle.text.specs.Code.{profileOf, firstSequence, printable}
 use Rattle.text.specs.Code.Laws.{scalar-at, none-at, none-code, none-past}
 use Rattle.text.specs.declared.class.Profile as code
 use Rattle.text.specs.declared.utf8.Sequence.{Sequence}
 use Rattle.spans.specs.Spans.Steps.{plainCluster, plainSize}
-use Rattle.spans.specs.Contracts.{printable, alone, base, plainBytes, clustersAt, PlainTo}
+use Rattle.spans.specs.Contracts.{alone, base, plainBytes, clustersAt, PlainTo}
 use Rattle.spans.proofs.Table.{upFrom, upFrom-at}
 use Rattle.spans.proofs.Clusters.{plain-bytes}
 

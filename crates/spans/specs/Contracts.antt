@@ -161,9 +161,6 @@ pub record Within (s : List ℕ) (at end : ℕ) : Type 0 where
 
 -- ---- clusters
 
-abbrev pub printable : ℕ → Bool
-printable b = leb 0x20 b && leb b 0x7E
-
 -- a control below 20, CR apart
 abbrev pub alone : ℕ → Bool
 alone b = leb b 0x1F && not (eqb b 0x0D)

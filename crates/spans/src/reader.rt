@@ -9,6 +9,7 @@ use text::class::LVT;
 use text::class::OTHER;
 use text::class::Profile;
 use text::class::class;
+use text::class::is_printable;
 use text::cluster::first_end;
 use text::utf8::decode;
 use text::utf8::run_end;
@@ -23,7 +24,7 @@ ghost use Rattle.text.specs.Code.{profileOf};
 ghost use Rattle.spans.specs.Sequence.{missing};
 ghost use Rattle.spans.specs.Spans.{aRecord};
 ghost use Rattle.spans.specs.Spans.Steps.{plainSize};
-ghost use Rattle.spans.specs.Contracts.{printable, alone, base, plainBytes, clustersAt, plainFirst, PlainTo, escapeLook, lookBytes, Part, Ahead, Skip, runAt, textRecord, invalidAt, Escaping, Mark, ControlReady, SpecialStep, Ready, Stepped};
+ghost use Rattle.spans.specs.Contracts.{alone, base, plainBytes, clustersAt, plainFirst, PlainTo, escapeLook, lookBytes, Part, Ahead, Skip, runAt, textRecord, invalidAt, Escaping, Mark, ControlReady, SpecialStep, Ready, Stepped};
 
 // What a cluster that is no part of a text is: a kind of span, and its length.
 pub struct Look {
@@ -48,12 +49,6 @@ pub struct Matched {
 pub struct NextSpan {
     pub span: Span,
     pub place: Place,
-}
-
-fn is_printable(b: u8) -> bool
-    ensures { λ r. ⌜ r ≡ printable b ⌝ }
-{
-    (0x20 <= b) & (b <= 0x7E)
 }
 
 // Is the byte a control, CR apart? No rule joins what stands behind it.
@@ -85,10 +80,10 @@ fn printable_end(profile: Profile, t: &[u8], at: usize) -> usize
     requires { ⌜ at < length (now t) ⌝ }
     ensures { λ r. ⌜ PlainTo (profileOf profile) (now (t .entry)) at r ⌝ }
 {
-    if is_printable(t[at]) {
+    if is_printable(t[at] as u32) {
         let mut i = at;
         while i + 1 < t.len() {
-            let b = t[i + 1];
+            let b = t[i + 1] as u32;
             if is_printable(b) {
                 i += 1;
             } else {

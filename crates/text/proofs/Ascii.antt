@@ -11,7 +11,7 @@ use lib.Seq.{drop-cons}
 use borrow.Author.Tests.{eqb-false, eqb-true, le-leb, lt-leb, ne-eqb, not-true}
 use Rattle.text.specs.Class.{Profile, among, class01, control, controls, cr, extends, inAny, isControl, lf, number, other}
 use Rattle.text.specs.Cluster.{Context, joined}
-use Rattle.text.specs.Code.{back, firstSequence, isTail, jamo, loneByte, profileOf, regionalAt, sequenceOf, syllable}
+use Rattle.text.specs.Code.{back, firstSequence, isTail, jamo, loneByte, printable, profileOf, regionalAt, sequenceOf, syllable}
 use Rattle.text.specs.Tests.{and-T, cases, is-false, is-true, or-T, true-T}
 use Rattle.text.specs.Utf8.{Range, decode, fits, lengthIn, sequence, table, to, value, within}
 use Rattle.text.specs.Width.{wides, width01}
@@ -380,9 +380,9 @@ module _ (p : code.Profile) (x : ℕ) where
       (λ t. let w = in-range 0xA0 0x2FF x (is-true _ t) in narrow-width 0xA0 0x2FF tt tt (w .0) (w .1))
       (λ t. let w = in-range 0x370 0x482 x (is-true _ t) in narrow-width 0x370 0x482 tt tt (w .0) (w .1))
 
-  pub printable-width : (leb 0x20 x && leb x 0x7E) ≡ true → 1 ≡ profileOf p .width x
+  pub printable-width : (t : Bool) → t ≡ printable x → t ≡ true → 1 ≡ profileOf p .width x
   unfolding quiet-test clear controls extends wides
-  printable-width e = let w = in-range 0x20 0x7E x e in narrow-width 0x20 0x7E tt tt (w .0) (w .1)
+  printable-width t f e = let w = in-range 0x20 0x7E x (sym f ∙ e) in narrow-width 0x20 0x7E tt tt (w .0) (w .1)
 
   pub wide-width : 0x3041 ≤ x → x ≤ 0xA4CF → 2 ≡ profileOf p .width x
   unfolding profileOf width01 clear wides inAny quiet-test controls extends among number

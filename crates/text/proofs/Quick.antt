@@ -8,7 +8,7 @@ use lib.Dec.{eqb, eqb→eq, leb, leb→le}
 use lib.ListN.{drop, getD, length}
 use borrow.Author.Tests.{eq-eqb, le-leb, leb-false, leb-true, lt-leb, lt-ltb}
 use Rattle.text.specs.Class.{controls, extends, number}
-use Rattle.text.specs.Code.{LongUnit, firstSequence, fourBytes, isTail, jamo, longBytes, profileOf, sequenceOf, syllable, threeBytes, unitOf}
+use Rattle.text.specs.Code.{LongUnit, firstSequence, fourBytes, isTail, jamo, longBytes, printable, profileOf, sequenceOf, syllable, threeBytes, unitOf}
 use Rattle.text.specs.Tests.{and-T, cases, is-true, true-T}
 use Rattle.text.specs.Utf8.{decode}
 use Rattle.text.specs.declared.cluster.Unit.{Unit}
@@ -149,10 +149,10 @@ unit-jamo v s p a b c k t here ea eb ec et e f =
     let d : ℕ = getD s (p + 3) 0 in
     unit-long v s p a b c d here ea eb ec refl _ (jamo-is v a b c d (rw (le-leb 0x80 b (omega arith), le-leb b 0xBF (omega arith)) refl) (sym et ∙ is-true t (r .1)) k f (eqb→eq _ _ (q .0)) (is-true _ (r .0)))
 
-pub unit-printable : (v : code.Profile) (s : List ℕ) (p a : ℕ) → p < length s → a ≡ getD s p 0 → (leb 0x20 a && leb a 0x7E) ≡ true → record { code = a; len = 1; class = 11 } ≡ unitOf (profileOf v) (firstSequence (decode (drop p s)))
+pub unit-printable : (v : code.Profile) (s : List ℕ) (p a : ℕ) (t : Bool) → p < length s → a ≡ getD s p 0 → t ≡ printable a → t ≡ true → record { code = a; len = 1; class = 11 } ≡ unitOf (profileOf v) (firstSequence (decode (drop p s)))
 unfolding quiet-test clear controls extends
-unit-printable v s p a here ea e =
-    let w = in-range 0x20 0x7E a e in
+unit-printable v s p a t here ea et e =
+    let w = in-range 0x20 0x7E a (sym et ∙ e) in
     let lo = w .0 in
     let hi = w .1 in
     unit-ascii v s p a 11 here ea (omega arith) (other-class v 0x20 0x7E a tt lo hi)

@@ -81,6 +81,10 @@ syllable v = cond (eqb ((v - 0xAC00) % 28) 0) classLV classLVT
 abbrev pub jamo : ℕ → Class
 jamo v = cond (leb v 0x115F) classL (cond (leb v 0x11A7) classV classT)
 
+-- 20 to 7E
+abbrev pub printable : ℕ → Bool
+printable v = leb 0x20 v && leb v 0x7E
+
 -- ---- the walk through a cluster
 
 -- a sequence with its class

@@ -2,7 +2,7 @@
 ghost use mathlib.Core.Path.{_≡_};
 ghost use Prim.Native.Nat.{_≤_, _<_};
 ghost use Rattle.text.specs.Class.{number, inAny, controls, extends, whitespace, isControl};
-ghost use Rattle.text.specs.Code.{profileOf, jamo, syllable};
+ghost use Rattle.text.specs.Code.{profileOf, jamo, syllable, printable};
 
 // The version of the text profile that classes and widths are taken from: 0 is document 01's.
 pub struct Profile {
@@ -178,6 +178,13 @@ pub fn is_whitespace(x: u32) -> bool
                                 | (((0x202F <= x) & (x <= 0x202F))
                                     | (((0x205F <= x) & (x <= 0x205F))
                                         | ((0x3000 <= x) & (x <= 0x3000))))))))))
+}
+
+// U+0020 to U+007E: class Other, one column.
+pub fn is_printable(x: u32) -> bool
+    ensures { λ r. ⌜ r ≡ printable x ⌝ }
+{
+    (0x20 <= x) & (x <= 0x7E)
 }
 
 // char::is_control

@@ -13,6 +13,7 @@ use super::class::T;
 use super::class::V;
 use super::class::ZWJ;
 use super::class::class;
+use super::class::is_printable;
 use super::class::jamo_class;
 use super::class::syllable_class;
 use super::utf8::byte_at;
@@ -310,7 +311,7 @@ fn quick_unit(profile: Profile, s: &[u8], at: usize) -> Unit
     ensures { λ r. ⌜ (r .len ≢ 0 → r ≡ unitOf (profileOf profile) (firstSequence (decode (drop at (now (s .entry)))))) ⌝ }
 {
     let a = s[at] as u32;
-    if (0x20 <= a) & (a <= 0x7E) {
+    if is_printable(a) {
         return Unit {
             code: a,
             len: 1,

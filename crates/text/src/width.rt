@@ -8,6 +8,7 @@ use super::class::T;
 use super::class::V;
 use super::class::ZWJ;
 use super::class::class;
+use super::class::is_printable;
 use super::utf8::decode;
 ghost use mathlib.Core.Path.{_≡_};
 ghost use Prim.Native.Nat.{_+_, _≤_};
@@ -50,7 +51,7 @@ fn has_no_width(profile: Profile, x: u32) -> bool
 pub fn width(profile: Profile, x: u32) -> usize
     ensures { λ r. ⌜ r ≡ profileOf profile .width x ⌝ }
 {
-    if (0x20 <= x) & (x <= 0x7E) {
+    if is_printable(x) {
         return 1;
     }
     if (0x3041 <= x) & (x <= 0xA4CF) {

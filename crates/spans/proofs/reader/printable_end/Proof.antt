@@ -1,4 +1,5 @@
 use Prim.Native.Nat.{_+_, _-_}
+use native.Mathlib.Omega.{arith}
 use lib.ListN.{length}
 use Rattle.spans.proofs.Single.{printable-at, plain-here, BasesLoop, bases-begin, bases-more, bases-last, bases-past, bases-byte}
 use borrow.Author.Needs.{needs}
@@ -14,6 +15,9 @@ abbrev μ-loop : tie.MeasureT-loop
 shared-slice-read-is-printable : tie.Need-shared-slice-read-is-printable Inv-loop μ-loop
 shared-slice-read-is-printable c = search needs
 
+cast-is-printable : tie.Need-cast-is-printable Inv-loop μ-loop
+cast-is-printable c = omega (arith, c .shared-slice-known2 .given (c .before .before .args .at))
+
 is-printable-requires : tie.Need-is-printable-requires Inv-loop μ-loop
 is-printable-requires c κs = search needs
 
@@ -28,6 +32,9 @@ add-b c = search needs
 
 shared-slice-read-b : tie.Need-shared-slice-read-b Inv-loop μ-loop
 shared-slice-read-b c = search needs
+
+cast-b : tie.Need-cast-b Inv-loop μ-loop
+cast-b c = omega (arith, c .shared-slice-known3 .given (c .before .before .loop .i + 1))
 
 is-printable-requires-2 : tie.Need-is-printable-requires-2 Inv-loop μ-loop
 is-printable-requires-2 c κs = search needs
@@ -66,11 +73,13 @@ printable-end-spec =
     Inv-loop
     μ-loop
     shared-slice-read-is-printable
+    cast-is-printable
     is-printable-requires
     loop-holds
     add-loop
     add-b
     shared-slice-read-b
+    cast-b
     is-printable-requires-2
     add-i
     loop-less

@@ -11,6 +11,9 @@ shared-slice-read-a c = search needs
 cast-a : tie.Need-cast-a
 cast-a c = omega (arith, c .shared-slice-known2 .given (c .before .before .args .at))
 
+is-printable-requires : tie.Need-is-printable-requires
+is-printable-requires c κs = search needs
+
 returns : tie.Need-returns
 returns c = λ z. search unit-printable
 
@@ -53,6 +56,7 @@ quick-unit-spec =
     (tie.spec
     shared-slice-read-a
     cast-a
+    is-printable-requires
     returns
     add-byte-at
     byte-at-requires

@@ -7,8 +7,11 @@ use Rattle.text.proofs.Branch.{branch, in-range}
 use Rattle.text.proofs.width.width.Statement.{statement}
 use Rattle.text.proofs.width.width.Tie as tie
 
+is-printable-requires : tie.Need-is-printable-requires
+is-printable-requires c κs = search needs
+
 returns : tie.Need-returns
-returns c = printable-width _ _ (c .if1 .taken)
+returns c = search printable-width
 
 returns-2 : tie.Need-returns-2
 returns-2 c = let w = in-range _ _ _ (c .if2 .taken) in wide-width _ _ (w .0) (w .1)
@@ -41,6 +44,7 @@ pub width-spec : {M : Type 1} → statement M
 width-spec =
     tie.close
     (tie.spec
+    is-printable-requires
     returns
     returns-2
     returns-3
