@@ -9,16 +9,15 @@ use lib.Dec.{T, eqb, eqb→eq, leb, leb→le, ltb, ltb→lt}
 use lib.ListN.{drop, getD, length}
 use lib.Seq.{drop-cons}
 use borrow.Author.Tests.{eqb-false, eqb-true, le-leb, lt-leb, ne-eqb, not-true}
-use Rattle.text.specs.Class.{Profile, among, class01, control, controls, cr, extends, inAny, isControl, lf, number, other}
+use Rattle.text.specs.Class.{Profile, among, class01, control, controls, cr, extends, inAny, lf, number, other}
 use Rattle.text.specs.Cluster.{Context, joined}
 use Rattle.text.specs.Code.{back, firstSequence, isTail, jamo, loneByte, printable, profileOf, regionalAt, sequenceOf, syllable}
 use Rattle.text.specs.Tests.{and-T, cases, is-false, is-true, or-T, true-T}
 use Rattle.text.specs.Utf8.{Range, decode, fits, lengthIn, sequence, table, to, value, within}
 use Rattle.text.specs.Width.{wides, width01}
-use Rattle.text.specs.declared.utf8.Sequence.{Sequence}
 use Rattle.text.proofs.Branch.{in-range}
 use Rattle.text.proofs.Tails.{back-here, back-tail}
-use Rattle.text.proofs.Units.{decode-at, first-by, zero-leb}
+use Rattle.text.proofs.Units.{first-by, zero-leb}
 use Rattle.text.specs.declared.class.Profile as code
 
 -- ---- a test of every number of a range, computed once
@@ -176,14 +175,14 @@ low-tail b h = rw (lt-leb 0x80 b h) refl
 
 -- ---- regional indicators
 
-record RegionalBytes (t : List ℕ) (j : ℕ) : Type 0 where
-  a : getD t j 0 ≡ 0xF0
-  b : getD t (j + 1) 0 ≡ 0x9F
-  c : getD t (j + 2) 0 ≡ 0x87
-  low : 0xA6 ≤ getD t (j + 3) 0
-  high : getD t (j + 3) 0 ≤ 0xBF
+pub record RegionalBytes (t : List ℕ) (j : ℕ) : Type 0 where
+  pub a : getD t j 0 ≡ 0xF0
+  pub b : getD t (j + 1) 0 ≡ 0x9F
+  pub c : getD t (j + 2) 0 ≡ 0x87
+  pub low : 0xA6 ≤ getD t (j + 3) 0
+  pub high : getD t (j + 3) 0 ≤ 0xBF
 
-regional-bytes : (t : List ℕ) (j : ℕ) → regionalAt t j ≡ true → RegionalBytes t j
+pub regional-bytes : (t : List ℕ) (j : ℕ) → regionalAt t j ≡ true → RegionalBytes t j
 regional-bytes t j e =
     let p = and-T (eqb (getD t j 0) 0xF0) _ (true-T e) in
     let q = and-T (eqb (getD t (j + 1) 0) 0x9F) _ (p .1) in
@@ -199,45 +198,6 @@ regional-back t i j h e f =
     ∙ back-tail t (j + 3) (j + 2) (getD t (j + 2) 0) (omega arith) (omega arith) refl (rw (w .c) refl)
     ∙ back-tail t (j + 2) (j + 1) (getD t (j + 1) 0) (omega arith) (omega arith) refl (rw (w .b) refl)
     ∙ sym (back-here t (j + 1) j (getD t j 0) (omega arith) (omega arith) refl (rw (w .a) refl))
-
-regional-test : ℕ → Bool
-regional-test d = eqb (sequence (0xF0 ∷ 0x9F ∷ 0x87 ∷ d ∷ [])) 4 && eqb (number (class01 (value (0xF0 ∷ 0x9F ∷ 0x87 ∷ d ∷ [])))) 10
-
-regional-each : T (eachFrom 0xA6 26 regional-test)
-unfolding eachFrom regional-test sequence value number class01
-regional-each = tt
-
--- what is read at a regional indicator's bytes
-regional-read : (t : List ℕ) (j : ℕ) → j + 4 ≤ length t → regionalAt t j ≡ true → sequenceOf (value (0xF0 ∷ 0x9F ∷ 0x87 ∷ getD t (j + 3) 0 ∷ [])) 4 ≡ firstSequence (decode (drop j t))
-unfolding regional-test
-regional-read t j h f =
-    let w = regional-bytes t j f in
-    let d : ℕ = getD t (j + 3) 0 in
-    let k = and-T (eqb (sequence (0xF0 ∷ 0x9F ∷ 0x87 ∷ d ∷ [])) 4) _ (true-T (each-at 26 0xA6 d regional-test regional-each (w .low) (omega (arith, w .high)))) in
-    let n : sequence (0xF0 ∷ 0x9F ∷ 0x87 ∷ d ∷ []) ≡ 4 = eqb→eq _ _ (k .0) in
-    decode-at t j 0xF0 0x9F 0x87 d 4 (value (0xF0 ∷ 0x9F ∷ 0x87 ∷ d ∷ [])) (omega arith) (sym (w .a)) (sym (w .b)) (sym (w .c)) refl (sym n) refl
-
-pub regional-class : (p : code.Profile) (t : List ℕ) (j : ℕ) → j + 4 ≤ length t → regionalAt t j ≡ true → number (profileOf p .class (firstSequence (decode (drop j t)) .code)) ≡ 10
-unfolding profileOf regional-test
-regional-class p t j h f =
-    let w = regional-bytes t j f in
-    let d : ℕ = getD t (j + 3) 0 in
-    let k = and-T (eqb (sequence (0xF0 ∷ 0x9F ∷ 0x87 ∷ d ∷ [])) 4) _ (true-T (each-at 26 0xA6 d regional-test regional-each (w .low) (omega (arith, w .high)))) in
-    ap (λ (u : Sequence). number (class01 (u .code))) (sym (regional-read t j h f)) ∙ eqb→eq _ _ (k .1)
-
-control-test : ℕ → Bool
-control-test d = not (isControl (value (0xF0 ∷ 0x9F ∷ 0x87 ∷ d ∷ [])))
-
-control-each : T (eachFrom 0xA6 26 control-test)
-unfolding eachFrom control-test value isControl
-control-each = tt
-
-pub regional-control : (t : List ℕ) (j : ℕ) → j + 4 ≤ length t → regionalAt t j ≡ true → false ≡ isControl (firstSequence (decode (drop j t)) .code)
-unfolding control-test
-regional-control t j h f =
-    let w = regional-bytes t j f in
-    let n : not (isControl (value (0xF0 ∷ 0x9F ∷ 0x87 ∷ getD t (j + 3) 0 ∷ []))) ≡ true = each-at 26 0xA6 (getD t (j + 3) 0) control-test control-each (w .low) (omega (arith, w .high)) in
-    sym (not-true _ n) ∙ ap (λ (u : Sequence). isControl (u .code)) (regional-read t j h f)
 
 -- ---- quiet ranges
 

@@ -18,7 +18,8 @@ use Rattle.text.specs.Utf8.{Scalar, ascii, bytesOf, decode, decodeFrom, 
 use Rattle.text.specs.Utf8.Valid.{valid}
 use Rattle.text.specs.declared.overstrike.Erasure.{Erasure}
 use Rattle.text.specs.declared.utf8.Sequence.{Sequence}
-use Rattle.text.proofs.Ascii.{ascii-sequence, lone-low, regional-back, regional-class, regional-control}
+use Rattle.text.proofs.Ascii.{ascii-sequence, lone-low, regional-back}
+use Rattle.text.proofs.Quick.{regional-class, regional-control}
 use Rattle.text.proofs.Backward.{class-of, last-lone}
 use Rattle.text.proofs.Even.{even-front, even-more, even-zero, pair-by, pair-front, pair-odd, push-reversed}
 use Rattle.text.proofs.Runs.{back-scalar, run-drop, run-head, run-inside, size-reverse}

@@ -13,7 +13,8 @@ use Rattle.text.specs.Code.{EvenAt, Left, back, flip, profileOf, regiona
 use Rattle.text.specs.Overstrike.{push}
 use Rattle.text.specs.Tests.{cases}
 use Rattle.text.specs.Utf8.{Scalar, bytesOf, decode, runOf}
-use Rattle.text.proofs.Ascii.{regional-back, regional-class}
+use Rattle.text.proofs.Ascii.{regional-back}
+use Rattle.text.proofs.Quick.{regional-class}
 use Rattle.text.proofs.Backward.{class-of, flip-false, odd-ri}
 use Rattle.text.proofs.Runs.{back-scalar, size-reverse}
 use Rattle.text.proofs.Texts.{run-append, run-prefix}

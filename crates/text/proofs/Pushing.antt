@@ -77,7 +77,7 @@ module _ (l xs : List ℕ) (len : ℕ) where
     push-four i n₀ n₁ n₂ n₃ = rw add-zero at (push-wrote 4 (omega arith) h)
 
 pub push-none : (l : List ℕ) (len : ℕ) → len ≤ length l → Pushed l l len [] len
-push-none l len h = record { bytes = rw append-nil refl; end = omega arith; inside = h }
+push-none l len h = push-zero l [] len 0 refl (omega arith) refl
 
 -- a valid text behind a valid text
 pub front-push : (l l′ : List ℕ) (len r : ℕ) (xs : List ℕ) (out : List Scalar) → Front l len out → whole xs → Pushed l l′ len xs r → Front l′ r (push (runOf (decode xs)) out)

@@ -2,17 +2,17 @@
 use Prim.Native.Nat.{_+_, _<_, _≤_, ℕ}
 use native.Mathlib.Omega.{arith}
 use mathlib.Core.Bool.{Bool, _&&_, false, true}
-use mathlib.Core.List.{List}
+use mathlib.Core.List.{List, [], _∷_}
 use mathlib.Core.Path.{_∙_, _≡_, ap, refl, sym}
 use lib.Dec.{eqb, eqb→eq, leb, leb→le}
 use lib.ListN.{drop, getD, length}
 use borrow.Author.Tests.{eq-eqb, le-leb, leb-false, leb-true, lt-leb, lt-ltb}
-use Rattle.text.specs.Class.{controls, extends, number}
-use Rattle.text.specs.Code.{LongUnit, firstSequence, fourBytes, isTail, jamo, longBytes, printable, profileOf, sequenceOf, syllable, threeBytes, unitOf}
+use Rattle.text.specs.Class.{controls, extends, isControl, number}
+use Rattle.text.specs.Code.{LongUnit, firstSequence, fourBytes, isTail, jamo, longBytes, printable, profileOf, regionalAt, sequenceOf, syllable, threeBytes, unitOf}
 use Rattle.text.specs.Tests.{and-T, cases, is-true, true-T}
-use Rattle.text.specs.Utf8.{decode}
+use Rattle.text.specs.Utf8.{decode, to}
 use Rattle.text.specs.declared.cluster.Unit.{Unit}
-use Rattle.text.proofs.Ascii.{clear, indicator-class, jamo-class, other-class, quiet-test, syllable-class}
+use Rattle.text.proofs.Ascii.{clear, clear-any, indicator-class, jamo-class, other-class, quiet-test, regional-bytes, syllable-class}
 use Rattle.text.proofs.Branch.{in-range}
 use Rattle.text.proofs.Leads.{four-at, three-at, unit-ascii, unit-read, x₃, x₄}
 use Rattle.text.specs.declared.class.Profile as code
@@ -128,15 +128,29 @@ module _ (v : code.Profile) (s : List ℕ) (p a b c d : ℕ) (here : p < length 
 
   pub unit-regional : (eqb a 0xF0 && (eqb b 0x9F && (eqb c 0x87 && (leb 0xA6 d && leb d 0xBF)))) ≡ true → record { code = x₄ a b c d; len = 4; class = 10 } ≡ unitOf (profileOf v) (firstSequence (decode (drop p s)))
   unit-regional e =
-      let q = and-T (eqb a 0xF0) (eqb b 0x9F && (eqb c 0x87 && (leb 0xA6 d && leb d 0xBF))) (true-T e) in
-      let r = and-T (eqb b 0x9F) (eqb c 0x87 && (leb 0xA6 d && leb d 0xBF)) (q .1) in
-      let t = and-T (eqb c 0x87) (leb 0xA6 d && leb d 0xBF) (r .1) in
-      let w = in-range 0xA6 0xBF d (is-true _ (t .1)) in
-      let lo = w .0 in
-      let ib : b ≡ 0x9F = eqb→eq _ _ (r .0) in
-      let ic : c ≡ 0x87 = eqb→eq _ _ (t .0) in
-      let td : isTail d ≡ true = rw (le-leb 0x80 d (omega arith), le-leb d 0xBF (w .1)) refl in
-      unit-long _ (indicator-is v a b c d (rw ib refl) (rw ic refl) td (eqb→eq _ _ (q .0)) ib ic lo)
+      let w = regional-bytes s p (rw (← ea, ← eb, ← ec, ← ed) e) in
+      let lo : 0xA6 ≤ d = rw ed (w .low) in
+      let hi : d ≤ 0xBF = rw ed (w .high) in
+      let ib : b ≡ 0x9F = eb ∙ w .b in
+      let ic : c ≡ 0x87 = ec ∙ w .c in
+      let td : isTail d ≡ true = rw (le-leb 0x80 d (omega arith), le-leb d 0xBF hi) refl in
+      unit-long _ (indicator-is v a b c d (rw ib refl) (rw ic refl) td (ea ∙ w .a) ib ic lo)
+
+-- what is read at a regional indicator's bytes
+regional-unit : (v : code.Profile) (t : List ℕ) (j : ℕ) → j + 4 ≤ length t → regionalAt t j ≡ true
+    → record { code = x₄ (getD t j 0) (getD t (j + 1) 0) (getD t (j + 2) 0) (getD t (j + 3) 0); len = 4; class = 10 } ≡ unitOf (profileOf v) (firstSequence (decode (drop j t)))
+regional-unit v t j h f = unit-regional v t j (getD t j 0) (getD t (j + 1) 0) (getD t (j + 2) 0) (getD t (j + 3) 0) (omega arith) refl refl refl refl f
+
+pub regional-class : (v : code.Profile) (t : List ℕ) (j : ℕ) → j + 4 ≤ length t → regionalAt t j ≡ true → number (profileOf v .class (firstSequence (decode (drop j t)) .code)) ≡ 10
+regional-class v t j h f = ap (λ (u : Unit). u .class) (sym (regional-unit v t j h f))
+
+pub regional-control : (t : List ℕ) (j : ℕ) → j + 4 ≤ length t → regionalAt t j ≡ true → false ≡ isControl (firstSequence (decode (drop j t)) .code)
+unfolding isControl clear
+regional-control t j h f =
+    let w = regional-bytes t j f in
+    let x : ℕ = x₄ (getD t j 0) (getD t (j + 1) 0) (getD t (j + 2) 0) (getD t (j + 3) 0) in
+    sym (clear-any (to 0x00 0x1F ∷ to 0x7F 0x9F ∷ []) 0x1F1E6 0x1F1FF x tt (omega (arith, w .a, w .b, w .c, w .low, w .high)) (omega (arith, w .a, w .b, w .c, w .low, w .high)))
+    ∙ ap (λ (u : Unit). isControl (u .code)) (regional-unit (record { version = 0 }) t j h f)
 
 pub unit-jamo : (v : code.Profile) (s : List ℕ) (p a b c k : ℕ) (t : Bool) → p < length s → a ≡ getD s p 0 → b ≡ getD s (p + 1) 0 → c ≡ getD s (p + 2) 0 → t ≡ isTail c → (eqb a 0xE1 && ((leb 0x84 b && leb b 0x87) && t)) ≡ true → k ≡ number (jamo (x₃ a b c 0))
     → record { code = x₃ a b c 0; len = 3; class = k } ≡ unitOf (profileOf v) (firstSequence (decode (drop p s)))

@@ -59,7 +59,7 @@ fn in_extends(x: u32) -> bool
 }
 
 // The number of a Hangul syllable's class: LV, or LVT where it ends in a consonant.
-pub fn syllable_class(x: u32) -> u8
+pub(crate) fn syllable_class(x: u32) -> u8
     requires { ⌜ 0xAC00 ≤ x ⌝ }
     ensures { λ r. ⌜ r ≡ number (syllable x) ⌝ }
 {
@@ -70,7 +70,7 @@ pub fn syllable_class(x: u32) -> u8
 }
 
 // The number of the class of one of U+1100 to U+11FF.
-pub fn jamo_class(x: u32) -> u8
+pub(crate) fn jamo_class(x: u32) -> u8
     ensures { λ r. ⌜ r ≡ number (jamo x) ⌝ }
 {
     if x <= 0x115F {

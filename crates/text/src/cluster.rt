@@ -360,7 +360,7 @@ fn quick_more(profile: Profile, s: &[u8], from: usize, c: u8) -> usize
 }
 
 // The same as walked_end, the common clusters told by their bytes.
-pub fn quick_end(profile: Profile, s: &[u8], at: usize) -> usize
+pub(crate) fn quick_end(profile: Profile, s: &[u8], at: usize) -> usize
     requires { ⌜ at < length (now s) ⌝ }
     ensures { λ r. ⌜ r ≡ at + firstSize (profileOf profile) (runOf (decode (drop at (now (s .entry))))) ⌝ }
 {

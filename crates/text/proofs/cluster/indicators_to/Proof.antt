@@ -9,7 +9,7 @@ use borrow.Author.Needs.{needs}
 use Rattle.text.specs.Cluster.{context}
 use Rattle.text.specs.Code.{Left, profileOf, regionalAt, size}
 use Rattle.text.specs.Utf8.{Scalar, decode, runOf}
-use Rattle.text.proofs.Ascii.{regional-class}
+use Rattle.text.proofs.Quick.{regional-class}
 use Rattle.text.proofs.Backward.{odd-begin, odd-bytes}
 use Rattle.text.proofs.cluster.indicators_to.Statement.{statement}
 use Rattle.text.proofs.cluster.indicators_to.Tie as tie
