@@ -91,10 +91,11 @@ printable v = leb 0x20 v && leb v 0x7E
 abbrev pub unitOf : Profile → Sequence → Unit
 unitOf P u = record { code = u .code; len = u .len; class = number (P .class (u .code)) }
 
--- r is the sequence of these three or four bytes, with its class
+-- the sequence of three or four bytes
 abbrev pub longBytes : ℕ → ℕ → ℕ → ℕ → Sequence
 longBytes a b c d = cond (leb a 0xEF) (threeBytes a b c) (fourBytes a b c d)
 
+-- r is it, with its class
 pub record LongUnit (P : Profile) (a b c d : ℕ) (r : Unit) : Type 0 where
   pub lead : 0xDF < a
   pub is : r ≡ unitOf P (longBytes a b c d)
