@@ -15,7 +15,7 @@ use Rattle.text.specs.Cluster.{clusters}
 use Rattle.spans.specs.Spans.{Record}
 use Rattle.spans.specs.Spans.ContentLaw.{textIn}
 use Rattle.spans.specs.Calls.{Read}
-use Rattle.spans.specs.Contracts.{readAs}
+use Rattle.spans.specs.Contracts.{readAs, ReadNumbers}
 use Rattle.rows.specs.Words.{Word, words}
 use Rattle.rows.specs.Words.Laws.{firstWord}
 use Rattle.rows.specs.declared.words.Stretch.{Stretch}
@@ -277,13 +277,11 @@ pub record Called (q : Request) (size places numbers : ℕ) (line : List ℕ) (a
 
 -- ---- the calls with a span list of their own
 
-pub record RowsAlone (c : Wrapped) (a : Answer) (conv rows : List ℕ) : Type 0 where
-  pub number : a .number ≡ c .number
-  pub count : a .count ≡ c .count
-  pub bytes : conv ≡ c .conv
-  pub pairs : rows ≡ c .rows
+-- what `rows` leaves besides the rows
+abbrev pub readOf : Wrapped → Read
+readOf c = record { number = c .number; count = c .count; conv = c .conv; spans = c .spans }
 
-pub record HeightAlone (c : Read) (a : Answer) (conv : List ℕ) : Type 0 where
-  pub number : a .number ≡ c .number
-  pub count : a .count ≡ c .count
-  pub bytes : conv ≡ c .conv
+-- the answer is that of a call, n numbers hold its records, and the row list its rows
+pub record RowsNumbers (c : Wrapped) (n : ℕ) (a : Answer) (conv numbers rows : List ℕ) : Type 0 where
+  pub read : ReadNumbers (readOf c) n a conv numbers
+  pub pairs : rows ≡ c .rows

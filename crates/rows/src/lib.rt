@@ -20,7 +20,7 @@ ghost use Rattle.spans.specs.Contracts.{readAs};
 ghost use Rattle.rows.specs.Calls.{modeAndWidth, rowsCall, heightCall};
 ghost use Rattle.rows.specs.Contracts.{wrappingOf, decided, outcomeOf, answerOf, cleared, wrappedAs, Called};
 
-pub mod local;
+pub mod numbers;
 pub mod words;
 pub mod wrap;
 

@@ -35,16 +35,17 @@ fn print_answer(a: Answer, rows: &[usize]) {
 fn main() {
     let mut line = [0u8; 4097];
     let mut conv = [0u8; 32768];
+    let mut numbers = [0usize; 8192];
     let mut rows = [0usize; 8192];
     let got = input::all(&mut line);
     let first = got.first;
     let n = got.count;
-    let a = rows::local::rows(
+    let a = rows::numbers::rows_numbers(
         &line[..n],
         first_line::width_of(first),
         first.mode,
-        2048,
         &mut conv,
+        &mut numbers,
         &mut rows,
     );
     print_answer(a, &rows);

@@ -9,4 +9,4 @@ pub mod Searching
 pub mod StretchLaws
 pub mod CallLaws
 pub mod NumberLaws
-pub mod Local
+pub mod Listed

@@ -1,25 +1,39 @@
--- The ends of the functions that write the span list as plain numbers.
+-- The span list as plain numbers: what is left to push, what the numbers hold at the end, and how many places are lent.
 use mathlib.Core.Path.{_≡_, refl, sym, ap, ap₂, _∙_}
-use Prim.Native.Nat.{ℕ, _+_, _-_, _*_, _≤_}
+use Prim.Native.Nat.{ℕ, _+_, _-_, _*_, _/_, _≤_, _<_}
+use native.Mathlib.Numerals.{add-one}
 use native.Mathlib.Omega.{arith}
 use mathlib.Core.Bool.{true}
 use mathlib.Core.List.{List, [], _∷_, _++_}
-use lib.ListN.{length, take, drop, replicate}
-use lib.Seq.{take-append-seam}
+use lib.ListN.{length, take, drop, getD, replicate, drop-of-length-le}
+use lib.Seq.{drop-cons, take-append-seam}
 use lib.Dec.{leb}
-use borrow.Author.Tests.{le-leb}
+use borrow.Author.Tests.{le-leb, leb-true, leb-false}
+use borrow.Table.Elements.{length-take-le}
 use Rattle.buffer.specs.Sink.{Sink, sink, put, emit, landed, written}
-use Rattle.buffer.specs.Sink.Laws.{emit-room}
+use Rattle.buffer.specs.Sink.Laws.{emit-none, emit-append, emit-room}
+use Rattle.text.specs.Tests.{cases}
 use Rattle.text.specs.declared.Answer.{Answer}
 use Rattle.spans.specs.Spans.{Record}
-use Rattle.spans.specs.Calls.{Read}
-use Rattle.spans.specs.Contracts.{readAs, numbersOfAll, ReadNumbers}
+use Rattle.spans.specs.Calls.{Read, noRecord}
+use Rattle.spans.specs.Contracts.{clipped, readAs, numbersOf, numbersOfAll, placesIn, ReadNumbers}
 
 pub push-four : (s s₁ s₂ s₃ s₄ : Sink) (a b c d : ℕ) → s₁ ≡ put s a → s₂ ≡ put s₁ b → s₃ ≡ put s₂ c → s₄ ≡ put s₃ d → s₄ ≡ emit s (a ∷ b ∷ c ∷ d ∷ [])
 unfolding emit
 push-four s s₁ s₂ s₃ s₄ a b c d e f g h = h ∙ ap (λ (k : Sink). put k d) (g ∙ ap (λ (k : Sink). put k c) (f ∙ ap (λ (k : Sink). put k b) e))
 
--- ---- `read_to`
+-- ---- `write_numbers`: a turn, and the end
+
+pub push-turn : (rs : List Record) (i : ℕ) (l l′ : List ℕ) (at r : ℕ) {e : Sink} → i < length rs → emit (sink l at) (numbersOfAll (drop i rs)) ≡ e → sink l′ r ≡ emit (sink l at) (numbersOf (getD rs i noRecord)) → emit (sink l′ r) (numbersOfAll (drop (i + 1) rs)) ≡ e
+unfolding numbersOfAll
+push-turn rs i l l′ at r h w s =
+    let y : Record = getD rs i noRecord in
+    let d : drop i rs ≡ y ∷ drop (i + 1) rs = drop-cons rs i noRecord h ∙ ap (λ (k : ℕ). y ∷ drop k rs) (sym (add-one i)) in
+    ap (λ (k : Sink). emit k (numbersOfAll (drop (i + 1) rs))) s ∙ sym (emit-append (sink l at) (numbersOf y) (numbersOfAll (drop (i + 1) rs))) ∙ ap (λ (ys : List Record). emit (sink l at) (numbersOfAll ys)) (sym d) ∙ w
+
+push-end : (rs : List Record) (i : ℕ) (s : Sink) {e : Sink} → length rs ≤ i → emit s (numbersOfAll (drop i rs)) ≡ e → s ≡ e
+unfolding numbersOfAll
+push-end rs i s h w = sym (emit-none s) ∙ ap (λ (ys : List Record). emit s (numbersOfAll ys)) (sym (drop-of-length-le rs h)) ∙ w
 
 numbers-length : (rs : List Record) → length (numbersOfAll rs) ≡ 4 * length rs
 unfolding numbersOfAll
@@ -32,21 +46,41 @@ listOf (sink l n) = l
 abbrev countOf : Sink → ℕ
 countOf (sink l n) = n
 
-pub numbers-done : (c : Read) (a : Answer) (conv : List ℕ) (rs : List Record) (before pushed after : List ℕ) (n : ℕ) → readAs a conv rs ≡ c → 4 * length rs ≤ length before → length pushed ≡ length before
-    → sink pushed n ≡ emit (sink before 0) (numbersOfAll rs) → after ≡ take n pushed ++ replicate (length pushed - n) 0 → ReadNumbers c (length before) a conv after
+pub numbers-end : (before pushed : List ℕ) (rs : List Record) (i n : ℕ) {after : List ℕ} → 4 * length rs ≤ length before → length pushed ≡ length before → length rs ≤ i → emit (sink pushed n) (numbersOfAll (drop i rs)) ≡ emit (sink before 0) (numbersOfAll rs)
+    → after ≡ take n pushed ++ replicate (length pushed - n) 0 → after ≡ landed (length before) (numbersOfAll rs)
 unfolding landed
-numbers-done c a conv rs before pushed after n e h k p f =
+numbers-end before pushed rs i n h k past p f =
     let xs : List ℕ = numbersOfAll rs in
-    let w : sink pushed n ≡ sink (written before 0 xs) (0 + length xs) = p ∙ emit-room before xs 0 (omega (arith, numbers-length rs)) in
+    let w : sink pushed n ≡ sink (written before 0 xs) (0 + length xs) = push-end rs i (sink pushed n) past p ∙ emit-room before xs 0 (omega (arith, numbers-length rs)) in
     let m : n ≡ length xs = ap countOf w ∙ omega arith in
-    let d : List ℕ = drop (0 + length xs) before in
-    let t : take n pushed ≡ xs = ap₂ take m (ap listOf w) ∙ take-append-seam xs d in
+    let t : take n pushed ≡ xs = ap₂ take m (ap listOf w) ∙ take-append-seam xs (drop (0 + length xs) before) in
     let q : length pushed - n ≡ length before - length xs = omega arith in
     let b : leb (length xs) (length before) ≡ true = le-leb (length xs) (length before) (omega (arith, numbers-length rs)) in
-    let s : c .spans ≡ rs = sym (ap (λ (x : Read). x .spans) e) in
+    f ∙ ap₂ (λ (l : List ℕ) (j : ℕ). l ++ replicate j 0) t q ∙ rw b refl
+
+-- ---- the places that are lent
+
+clipped-first : (a b : ℕ) → clipped a b ≤ a
+clipped-first a b = cases (leb a b) (λ e. rw e (omega arith)) (λ e. rw e (omega (arith, leb-false a b e)))
+
+pub places-few : (m : ℕ) → placesIn m ≤ 2048
+places-few m = cases (leb (m / 4) 2048) (λ e. rw e (leb-true (m / 4) 2048 e)) (λ e. rw e (omega arith))
+
+pub places-many : (m : ℕ) (rs : List Record) → length rs ≡ 2048 → length (take (placesIn m) rs) ≡ placesIn m
+places-many m rs len = length-take-le (placesIn m) rs (omega (arith, len, places-few m))
+
+pub places-wide : (m : ℕ) (rs : List Record) → length rs ≡ 2048 → 4 * length (take (placesIn m) rs) ≤ m
+places-wide m rs len = omega (arith, places-many m rs len, clipped-first (m / 4) 2048)
+
+-- ---- a call that was lent those places
+
+pub read-told : (call : ℕ → Read) (m : ℕ) (rs : List Record) → length rs ≡ 2048 → {a : Answer} {conv numbers : List ℕ} {ys : List Record} → readAs a conv ys ≡ call (length (take (placesIn m) rs)) → numbers ≡ landed m (numbersOfAll ys)
+    → ReadNumbers (call (placesIn m)) m a conv numbers
+read-told call m rs len e f =
+    let p = e ∙ ap call (places-many m rs len) in
     record {
-      number = ap (λ (x : Read). x .number) e;
-      count = ap (λ (x : Read). x .count) e;
-      bytes = ap (λ (x : Read). x .conv) e;
-      records = f ∙ ap₂ (λ (l : List ℕ) (j : ℕ). l ++ replicate j 0) t q ∙ rw (s, b) refl;
+      number = ap (λ (x : Read). x .number) p;
+      count = ap (λ (x : Read). x .count) p;
+      bytes = ap (λ (x : Read). x .conv) p;
+      records = f ∙ ap (λ (x : Read). landed m (numbersOfAll (x .spans))) p;
     }

@@ -558,6 +558,10 @@ unfoldable pub numbersOfAll : List Record → List ℕ
 numbersOfAll [] = []
 numbersOfAll (r ∷ rs) = numbersOf r ++ numbersOfAll rs
 
+-- the places of a list of 2,048 that n numbers have room for
+abbrev pub placesIn : ℕ → ℕ
+placesIn n = clipped (n / 4) 2048
+
 -- the answer is that of a call, and n numbers hold its records
 pub record ReadNumbers (c : Read) (n : ℕ) (a : Answer) (conv numbers : List ℕ) : Type 0 where
   pub number : a .number ≡ c .number

@@ -19,8 +19,3 @@ counted n xs ys h e = let k : n ≤ length xs = omega arith in (k, sym (length-t
 -- the length of a beginning
 pub prefix : (n : ℕ) (xs : List ℕ) → n ≤ length xs → n ≡ length (take n xs)
 prefix n xs h = sym (length-take-le n xs h)
-
--- a place within the text, and no more than so many places lent
-pub record Lending (s : List ℕ) (at n most : ℕ) : Type 0 where
-  pub inside : at ≤ length s
-  pub few : n ≤ most

@@ -7,6 +7,15 @@ mod recorded;
 ghost use Prim.Native.Nat.{_≤_};
 ghost use lib.ListN.{length};
 use libc::STDOUT_FILENO;
+use recorded::CONVERT;
+use recorded::HEIGHT;
+use recorded::READ;
+use recorded::ROWS;
+
+// The kinds of published vectors, behind the calls.
+const SCALARS: usize = 5;
+
+const CLUSTERS: usize = 6;
 
 // How many cases of each kind were replayed, and how many were not answered as recorded.
 pub struct Counts {
@@ -32,27 +41,27 @@ fn is_vector_met(s: &[u8], at: usize, clusters: bool) -> bool
     published::decodes(&line[..n], s, list)
 }
 
-// The kind of the case at `at`: 1 convert, 2 read, 3 rows, 4 height, 5 scalars, 6 clusters, 0 none of these.
+// The kind of the case at `at`: a call, scalars or clusters, 0 for none of these.
 fn kind_of(s: &[u8], at: usize) -> usize
     requires { ⌜ at ≤ length (now s) ⌝ }
 {
     if fields::is_word(s, at, b"convert ") {
-        return 1;
+        return CONVERT;
     }
     if fields::is_word(s, at, b"read ") {
-        return 2;
+        return READ;
     }
     if fields::is_word(s, at, b"rows ") {
-        return 3;
+        return ROWS;
     }
     if fields::is_word(s, at, b"height ") {
-        return 4;
+        return HEIGHT;
     }
     if fields::is_word(s, at, b"scalars ") {
-        return 5;
+        return SCALARS;
     }
     if fields::is_word(s, at, b"clusters ") {
-        return 6;
+        return CLUSTERS;
     }
     0
 }
@@ -61,19 +70,10 @@ fn kind_of(s: &[u8], at: usize) -> usize
 fn is_met(s: &[u8], at: usize, kind: usize) -> bool
     requires { ⌜ at ≤ length (now s) ⌝ }
 {
-    if kind == 1 {
-        return recorded::convert(s, at);
+    if kind < SCALARS {
+        return recorded::is_met(kind, s, at);
     }
-    if kind == 2 {
-        return recorded::read(s, at);
-    }
-    if kind == 3 {
-        return recorded::rows(s, at);
-    }
-    if kind == 4 {
-        return recorded::height(s, at);
-    }
-    is_vector_met(s, at, kind == 6)
+    is_vector_met(s, at, kind == CLUSTERS)
 }
 
 // One more where it holds.
@@ -87,12 +87,12 @@ fn with_one(n: u64, holds: bool) -> u64 {
 // One more case of a kind, answered as recorded or not.
 fn with_case(counts: Counts, kind: usize, met: bool) -> Counts {
     Counts {
-        convert: with_one(counts.convert, kind == 1),
-        read: with_one(counts.read, kind == 2),
-        rows: with_one(counts.rows, kind == 3),
-        height: with_one(counts.height, kind == 4),
-        scalars: with_one(counts.scalars, kind == 5),
-        clusters: with_one(counts.clusters, kind == 6),
+        convert: with_one(counts.convert, kind == CONVERT),
+        read: with_one(counts.read, kind == READ),
+        rows: with_one(counts.rows, kind == ROWS),
+        height: with_one(counts.height, kind == HEIGHT),
+        scalars: with_one(counts.scalars, kind == SCALARS),
+        clusters: with_one(counts.clusters, kind == CLUSTERS),
         different: with_one(counts.different, !met),
     }
 }

@@ -1,214 +1,196 @@
 // Recorded answers of the Rust source: oracle/README.md has the form of a line.
 ghost use Prim.Native.Nat.{_≤_};
 ghost use lib.ListN.{length};
-ghost use Rattle.vectors.specs.Fields.{Lending};
 use super::fields;
 use text::Answer;
 
-// What `rows` and `height` ask, and the number of places of the span list.
-pub struct Asked {
-    pub width: usize,
-    pub mode: usize,
+// The calls.
+pub const CONVERT: usize = 1;
+
+pub const READ: usize = 2;
+
+pub const ROWS: usize = 3;
+
+pub const HEIGHT: usize = 4;
+
+// What a case lends: bytes for the converted line, places of the span list, numbers for the rows.
+pub struct Lent {
+    pub conv: usize,
     pub places: usize,
+    pub rows: usize,
 }
 
-// Do number, count and the converted line stand at `at`?
-fn answers(a: Answer, conv: &[u8], s: &[u8], at: usize) -> bool
+// The number that stands n fields behind `at`.
+fn nth(s: &[u8], at: usize, n: usize) -> usize
+    requires { ⌜ at ≤ length (now s) ⌝ }
+{
+    fields::number_at(s, fields::field(s, at, n))
+}
+
+// The field of a call's first size, counted from the line.
+fn first_size(call: usize) -> usize {
+    if call == CONVERT {
+        return 1;
+    }
+    if call == READ {
+        return 2;
+    }
+    3
+}
+
+// The field of its answer.
+fn answer_field(call: usize) -> usize {
+    if call == CONVERT {
+        return 3;
+    }
+    if call == READ {
+        return 5;
+    }
+    if call == ROWS {
+        return 7;
+    }
+    6
+}
+
+// What the case at `at` lends; nothing where its call asks for none.
+fn lent_by(call: usize, s: &[u8], at: usize) -> Lent
+    requires { ⌜ at ≤ length (now s) ⌝ }
+{
+    let first = fields::field(s, at, first_size(call));
+    let conv = fields::number_at(s, first);
+    if call == CONVERT {
+        return Lent {
+            conv: conv,
+            places: 0,
+            rows: 0,
+        };
+    }
+    let places = nth(s, first, 1);
+    if call == ROWS {
+        return Lent {
+            conv: conv,
+            places: places,
+            rows: nth(s, first, 2),
+        };
+    }
+    Lent {
+        conv: conv,
+        places: places,
+        rows: 0,
+    }
+}
+
+// The call of the case at `at`.
+fn called(
+    call: usize,
+    s: &[u8],
+    at: usize,
+    line: &[u8],
+    matches: &[usize],
+    conv: &mut [u8],
+    numbers: &mut [usize],
+    rows: &mut [usize],
+) -> Answer
+    requires { ⌜ at ≤ length (now s) ⌝ }
+{
+    if call == CONVERT {
+        return text::convert(line, conv);
+    }
+    if call == READ {
+        return spans::numbers::read_numbers(line, matches, conv, numbers);
+    }
+    let width = nth(s, at, 1);
+    let mode = nth(s, at, 2);
+    if call == ROWS {
+        return rows::numbers::rows_numbers(line, width, mode, conv, numbers, rows);
+    }
+    rows::numbers::height_numbers(line, width, mode, conv, numbers)
+}
+
+// Do number, count and every lent buffer stand at `at`, each with zeros behind what is recorded?
+fn is_recorded(
+    a: Answer,
+    conv: &[u8],
+    numbers: &[usize],
+    rows: &[usize],
+    s: &[u8],
+    at: usize,
+) -> bool
     requires { ⌜ at ≤ length (now s) ⌝ }
 {
     if a.number != fields::number_at(s, at) {
         return false;
     }
-    if a.count != fields::number_at(s, fields::field(s, at, 1)) {
+    if a.count != nth(s, at, 1) {
         return false;
     }
     let bytes = fields::field(s, at, 2);
-    fields::shows(s, bytes, fields::past(s, bytes, b' '), conv)
-}
-
-// `convert`, lent the first `size` bytes of conv, answers as the fields from `at` on say.
-fn converts(line: &[u8], conv: &mut [u8], size: usize, s: &[u8], at: usize) -> bool
-    requires { ⌜ at ≤ length (now s) ⌝ }
-{
-    if conv.len() < size {
+    if !fields::shows(s, bytes, fields::past(s, bytes, b' '), conv) {
         return false;
     }
-    let a = text::convert(line, &mut conv[..size]);
-    answers(a, &conv[..size], s, at)
+    if !fields::shows_numbers(s, fields::field(s, at, 3), numbers) {
+        return false;
+    }
+    fields::shows_numbers(s, fields::field(s, at, 4), rows)
 }
 
-// `convert LINE CONV = NUMBER COUNT CONVBYTES`, from LINE on.
-pub(crate) fn convert(s: &[u8], at: usize) -> bool
-    requires { ⌜ at ≤ length (now s) ⌝ }
-{
-    let mut line = [0u8; 5000];
-    let mut conv = [170u8; 32776];
-    let n = fields::hex_bytes(s, at, fields::past(s, at, b' '), &mut line);
-    let size = fields::number_at(s, fields::field(s, at, 1));
-    converts(&line[..n], &mut conv, size, s, fields::field(s, at, 3))
-}
-
-// `read`, lent all of conv and as many places as the numbers have room for.
-fn reads(
+// Is the case at `at` met, of a line and its matches, lent all of these?
+fn is_answered(
+    call: usize,
+    s: &[u8],
+    at: usize,
     line: &[u8],
     matches: &[usize],
     conv: &mut [u8],
     numbers: &mut [usize],
-    s: &[u8],
-    at: usize,
+    rows: &mut [usize],
 ) -> bool
     requires { ⌜ at ≤ length (now s) ⌝ }
 {
-    if 8192 < numbers.len() {
-        return false;
-    }
-    let a = spans::numbers::read_numbers(line, matches, conv, numbers);
-    if answers(a, conv, s, at) {
-        return fields::shows_numbers(s, fields::field(s, at, 3), numbers);
-    }
-    false
+    let a = called(call, s, at, line, matches, conv, numbers, rows);
+    let recorded = fields::field(s, at, answer_field(call));
+    is_recorded(a, conv, numbers, rows, s, recorded)
 }
 
-// The same, lent `size` bytes and `places` places.
-fn reads_lent(
-    line: &[u8],
-    matches: &[usize],
-    size: usize,
-    places: usize,
-    s: &[u8],
-    at: usize,
-) -> bool
+// The same, lent what it names.
+fn is_replayed(call: usize, s: &[u8], at: usize, line: &[u8], matches: &[usize]) -> bool
     requires { ⌜ at ≤ length (now s) ⌝ }
 {
     let mut conv = [170u8; 32776];
     let mut numbers = [170usize; 8192];
-    if 32776 < size {
+    let mut rows = [170usize; 8192];
+    let lent = lent_by(call, s, at);
+    let c = lent.conv;
+    let p = lent.places;
+    let r = lent.rows;
+    if 32776 < c {
         return false;
     }
-    if 2048 < places {
+    if 2048 < p {
         return false;
     }
-    reads(
-        line,
-        matches,
-        &mut conv[..size],
-        &mut numbers[..4 * places],
+    if 8192 < r {
+        return false;
+    }
+    is_answered(
+        call,
         s,
         at,
+        line,
+        matches,
+        &mut conv[..c],
+        &mut numbers[..4 * p],
+        &mut rows[..r],
     )
 }
 
-// `read LINE MATCHES CONV SPANS = NUMBER COUNT CONVBYTES RECORDS`, from LINE on.
-pub(crate) fn read(s: &[u8], at: usize) -> bool
+// Is the case met whose line stands at `at`?
+pub(crate) fn is_met(call: usize, s: &[u8], at: usize) -> bool
     requires { ⌜ at ≤ length (now s) ⌝ }
 {
     let mut line = [0u8; 5000];
     let mut matches = [0usize; 64];
     let n = fields::hex_bytes(s, at, fields::past(s, at, b' '), &mut line);
     let m = fields::numbers(s, fields::field(s, at, 1), &mut matches);
-    let size = fields::number_at(s, fields::field(s, at, 2));
-    let places = fields::number_at(s, fields::field(s, at, 3));
-    reads_lent(
-        &line[..n],
-        &matches[..m],
-        size,
-        places,
-        s,
-        fields::field(s, at, 5),
-    )
-}
-
-// `rows`, lent all of conv and rows.
-fn wraps(
-    line: &[u8],
-    asked: Asked,
-    conv: &mut [u8],
-    rows: &mut [usize],
-    s: &[u8],
-    at: usize,
-) -> bool
-    requires { ⌜ Lending (now s) at (asked .places) 2048 ⌝ }
-{
-    let a = rows::local::rows(line, asked.width, asked.mode, asked.places, conv, rows);
-    if answers(a, conv, s, at) {
-        return fields::shows_numbers(s, fields::field(s, at, 4), rows);
-    }
-    false
-}
-
-// The same, lent `size` bytes and `count` numbers.
-fn wraps_lent(line: &[u8], asked: Asked, size: usize, count: usize, s: &[u8], at: usize) -> bool
-    requires { ⌜ at ≤ length (now s) ⌝ }
-{
-    let mut conv = [170u8; 32776];
-    let mut rows = [170usize; 8192];
-    if 32776 < size {
-        return false;
-    }
-    if 8192 < count {
-        return false;
-    }
-    if 2048 < asked.places {
-        return false;
-    }
-    wraps(line, asked, &mut conv[..size], &mut rows[..count], s, at)
-}
-
-// The width, the mode and the places of the case at `at`.
-fn asked_at(s: &[u8], at: usize) -> Asked
-    requires { ⌜ at ≤ length (now s) ⌝ }
-{
-    let width = fields::number_at(s, fields::field(s, at, 1));
-    let mode = fields::number_at(s, fields::field(s, at, 2));
-    let places = fields::number_at(s, fields::field(s, at, 4));
-    Asked {
-        width: width,
-        mode: mode,
-        places: places,
-    }
-}
-
-// `rows LINE WIDTH MODE CONV SPANS ROWS = NUMBER COUNT CONVBYTES RECORDS PAIRS`, from LINE on. The records are those of `read`.
-pub(crate) fn rows(s: &[u8], at: usize) -> bool
-    requires { ⌜ at ≤ length (now s) ⌝ }
-{
-    let mut line = [0u8; 5000];
-    let n = fields::hex_bytes(s, at, fields::past(s, at, b' '), &mut line);
-    let asked = asked_at(s, at);
-    let size = fields::number_at(s, fields::field(s, at, 3));
-    let count = fields::number_at(s, fields::field(s, at, 5));
-    wraps_lent(&line[..n], asked, size, count, s, fields::field(s, at, 7))
-}
-
-// `height`, lent all of conv.
-fn measures(line: &[u8], asked: Asked, conv: &mut [u8], s: &[u8], at: usize) -> bool
-    requires { ⌜ Lending (now s) at (asked .places) 2048 ⌝ }
-{
-    let a = rows::local::height(line, asked.width, asked.mode, asked.places, conv);
-    answers(a, conv, s, at)
-}
-
-// The same, lent `size` bytes.
-fn measures_lent(line: &[u8], asked: Asked, size: usize, s: &[u8], at: usize) -> bool
-    requires { ⌜ at ≤ length (now s) ⌝ }
-{
-    let mut conv = [170u8; 32776];
-    if 32776 < size {
-        return false;
-    }
-    if 2048 < asked.places {
-        return false;
-    }
-    measures(line, asked, &mut conv[..size], s, at)
-}
-
-// `height LINE WIDTH MODE CONV SPANS = NUMBER COUNT CONVBYTES RECORDS`, from LINE on.
-pub(crate) fn height(s: &[u8], at: usize) -> bool
-    requires { ⌜ at ≤ length (now s) ⌝ }
-{
-    let mut line = [0u8; 5000];
-    let n = fields::hex_bytes(s, at, fields::past(s, at, b' '), &mut line);
-    let asked = asked_at(s, at);
-    let size = fields::number_at(s, fields::field(s, at, 3));
-    measures_lent(&line[..n], asked, size, s, fields::field(s, at, 6))
+    is_replayed(call, s, at, &line[..n], &matches[..m])
 }

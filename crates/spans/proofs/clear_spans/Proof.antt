@@ -53,12 +53,20 @@ use Rattle.spans.specs.declared.Span.{Span}
 use Rattle.spans.specs.Calls.{noRecord}
 use Rattle.spans.proofs.Span as T
 use Rattle.spans.proofs.Span.Laws as T′
-use Rattle.spans.proofs.Local.{tvals, tmach, none-is}
 use Rattle.spans.proofs.clear_spans.Key.{name as #spans·clear-spans}
 use Rattle.spans.proofs.clear_spans as f
 use Rattle.spans.proofs.clear_spans.Statement as stated
 use Rattle.spans.proofs.clear_spans.Code as code
 use Rattle.spans.proofs.clear_spans.Code.Mir as mir
+
+abbrev tvals : Span → List Val
+tvals = LL.vals T.the-type T′.the-laws
+
+abbrev tmach : Span → Val
+tmach x = LL.tuple-val T.the-type T′.the-laws (T.the-type .to x)
+
+none-is : Is T.the-row noRecord (tvals noRecord)
+none-is = LL.owes T.the-type T′.the-laws noRecord ((refl, lit< tt), (LL.owes B.the-type B′.the-laws (noRecord .place) ((refl, lit< tt), tt), ((refl, lit< tt), ((refl, lit< tt), tt))))
 
 -- ---- lists: the first i records of ws, and zeros for the others
 unfoldable cont : List Span → ℕ → List Span
