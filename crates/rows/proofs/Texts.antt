@@ -9,26 +9,26 @@ use mathlib.Core.Logic.{_≢_}
 use lib.ListN.{length, drop, take, length-take}
 use lib.Dec.{eqb, leb}
 use borrow.Author.Tests.{eq-eqb, ne-eqb}
-use Rattle.text.specs.Each.{All, all-nil, all-cons}
+use Rattle.text.specs.Each.{All, all-cons}
 use Rattle.text.specs.Utf8.{Scalar}
 use Rattle.text.specs.Utf8.Valid.{Valid}
 use Rattle.text.specs.Class.{Profile}
 use Rattle.text.specs.Width.{widthOf}
 use Rattle.text.specs.Cluster.{clusters}
 use Rattle.text.specs.Code.{size, firstOf, profileOf}
-use Rattle.text.specs.Code.Laws.{none-past, run-valid, run-front, width-append, FirstCluster, first-cluster}
-use Rattle.text.specs.Cluster.Laws.{clusters-first, further}
+use Rattle.text.specs.Code.Laws.{none-past, run-valid, run-front, width-append}
 use Rattle.text.specs.declared.BytePlace.{BytePlace}
+use Rattle.text.specs.declared.TextPart.{TextPart}
+use Rattle.text.specs.TextParts.{column, textAt, Measured}
+use Rattle.text.specs.TextParts.Laws.{first-there, first-none, behind-part}
 use Rattle.rows.specs.Words.{Word, words}
 use Rattle.rows.specs.Words.Laws.{firstWord, restWords, first-word-all, first-word-some, words-first}
 use Rattle.rows.specs.Rows.{Row, Wrap, wrap, pushed, unit, byClusters, byWords, longWord, oneWord, splitText}
 use Rattle.rows.specs.Rows.Laws.{over, Natural, byClusters-over, longWord-over, byWords-over}
-use Rattle.rows.specs.Contracts.{column, textAt, Measured, WordAt, WordRoom, bothOf, Kept, kept, keep, keeps, Held, held, on, Room, Stepped, advanced, unitOf, clustersOf, longWordOf, oneWordOf, wordsOf, textOf}
-use Rattle.rows.specs.declared.words.Stretch.{Stretch}
+use Rattle.rows.specs.Contracts.{WordAt, WordRoom, bothOf, Kept, kept, keep, keeps, Held, held, on, Room, Stepped, advanced, unitOf, clustersOf, longWordOf, oneWordOf, wordsOf, textOf}
 use Rattle.text.specs.declared.class.Profile as profile
 use Rattle.rows.specs.declared.wrap.WrapState.{WrapState}
 use Rattle.rows.proofs.Breaks.{word-clusters}
-use Rattle.rows.proofs.Parts.{behind-stretch}
 use Rattle.rows.proofs.Steps.{stays}
 
 -- ---- one after the other
@@ -99,19 +99,6 @@ module _ (P : Profile) (width : ℕ) where
   unfolding clustersOf byClusters unitOf
   clusters-more s rest n e v t = rw v (ap (byClusters P width t) e)
 
--- a first cluster of no bytes is none
-first-there : (P : Profile) (s : List Scalar) → (size (firstOf (clusters P s)) ≢ 0) → FirstCluster P s
-unfolding size firstOf clusters
-first-there P [] z = absurd (z refl)
-first-there P (c ∷ s) z = first-cluster P c s
-
-first-none : (P : Profile) {s : List Scalar} → All Valid s → size (firstOf (clusters P s)) ≡ 0 → s ≡ []
-unfolding size firstOf
-first-none P all-nil z = refl
-first-none P (all-cons {a = c} {s = s} v a) z =
-    let e : size (c ∷ take (further P (c ∷ []) s) s) ≡ 0 = ap (λ (gs : List (List Scalar)). size (firstOf gs)) (sym (clusters-first P c s)) ∙ z in
-    absurd (omega (arith, v .some))
-
 pub record Breaking (P : Profile) (width : ℕ) (text l₀ : List ℕ) (t₀ : WrapState) (p : BytePlace) (l : List ℕ) (t : WrapState) : Type 0 where
   pub so : Stepping (clustersOf P width) text l₀ t₀ p l t
   pub more : t .tally .count ≤ t₀ .tally .count + p .0
@@ -135,7 +122,7 @@ module _ (P : Profile) (width : ℕ) (text l₀ : List ℕ) (t₀ : WrapState) (
   pub break-end : length text ≤ p .0 → Stepped l₀ t₀ (clustersOf P width (textAt text 0)) (2 * length text) (length text) l t
   break-end h = break-done (none-past text (p .0) h)
 
-  module _ (g : Stretch) (m : Measured P text (p .0) (firstOf (clusters P now-text)) g) where
+  module _ (g : TextPart) (m : Measured P text (p .0) (firstOf (clusters P now-text)) g) where
     pub break-stop : g .end .0 ≡ p .0 → Stepped l₀ t₀ (clustersOf P width (textAt text 0)) (2 * length text) (length text) l t
     break-stop h = break-done (first-none P (run-valid (drop (p .0) text)) (omega (arith, m .end)))
 
@@ -143,7 +130,7 @@ module _ (P : Profile) (width : ℕ) (text l₀ : List ℕ) (t₀ : WrapState) (
         → Breaking P width text l₀ t₀ (g .end) l′ t′
     break-turn l′ t′ z s k =
         let f = first-there P now-text (λ o. z (m .end ∙ rw o (add-zero (p .0)))) in
-        let r : textAt text (g .end .0) ≡ f .rest = behind-stretch P text (p .0) (firstOf (clusters P now-text)) (f .rest) g m (f .text) in
+        let r : textAt text (g .end .0) ≡ f .rest = behind-part P text (p .0) (firstOf (clusters P now-text)) (f .rest) g m (f .text) in
         record {
           so = record {
             inside = m .inside;
@@ -159,16 +146,16 @@ module _ (P : Profile) (width : ℕ) (text l₀ : List ℕ) (t₀ : WrapState) (
 -- ---- a word
 
 -- its text, and the text behind it
-module _ (P : Profile) (text : List ℕ) (at : ℕ) (v : Stretch) (w : WordAt P text at v) where
+module _ (P : Profile) (text : List ℕ) (at : ℕ) (v : TextPart) (w : WordAt P text at v) where
   both-part : textAt (take (v .end .0 - at) (drop at text)) 0 ≡ bothOf (firstWord (textAt text at))
   both-part =
       let n : v .end .0 - at ≡ size (bothOf (firstWord (textAt text at))) = omega (arith, w .end) in
       rw n (run-front (drop at text) (bothOf (firstWord (textAt text at))) _ (first-word-all (textAt text at)))
 
   pub behind-all : textAt text (v .end .0) ≡ restWords (textAt text at)
-  behind-all = behind-stretch P text at (bothOf (firstWord (textAt text at))) (restWords (textAt text at)) v w (first-word-all (textAt text at))
+  behind-all = behind-part P text at (bothOf (firstWord (textAt text at))) (restWords (textAt text at)) v w (first-word-all (textAt text at))
 
-module _ (P : Profile) (width : ℕ) (text : List ℕ) (at : BytePlace) (v : Stretch) (t : WrapState) (w : WordRoom P text (at .0) v t) where
+module _ (P : Profile) (width : ℕ) (text : List ℕ) (at : BytePlace) (v : TextPart) (t : WrapState) (w : WordRoom P text (at .0) v t) where
   abbrev theWord : Word
   theWord = firstWord (textAt text (at .0))
 
@@ -209,7 +196,7 @@ clusters-append P width [] hs t = refl
 clusters-append P width (g ∷ gs) hs t = clusters-append P width gs hs (unit width t (widthOf P g))
 
 -- a word is broken with its separator
-module _ (f : profile.Profile) (width : ℕ) (text : List ℕ) (at : BytePlace) (v : Stretch) (t : WrapState) (w : WordRoom (profileOf f) text (at .0) v t) where
+module _ (f : profile.Profile) (width : ℕ) (text : List ℕ) (at : BytePlace) (v : TextPart) (t : WrapState) (w : WordRoom (profileOf f) text (at .0) v t) where
   abbrev P : Profile
   P = profileOf f
 
@@ -270,7 +257,7 @@ module _ (P : Profile) (width : ℕ) (text l₀ : List ℕ) (t₀ : WrapState) (
   pub words-end : length text ≤ p .0 → Stepped l₀ t₀ (wordsOf P width (textAt text 0)) (2 * length text) (2 * length text) l t
   words-end h = word-done (none-past text (p .0) h)
 
-  module _ (v : Stretch) (w : WordAt P text (p .0) v) where
+  module _ (v : TextPart) (w : WordAt P text (p .0) v) where
     no-word : (s : List Scalar) → All Valid s → v .end .0 ≡ p .0 + size (bothOf (firstWord s)) → v .end .0 ≡ p .0 → s ≡ []
     unfolding size
     no-word [] a e h = refl

@@ -5,6 +5,7 @@ pub mod Runs
 pub mod Ascii
 pub mod Leads
 pub mod Walks
+pub mod ClusterParts
 pub mod Backward
 pub mod Texts
 pub mod Even

@@ -1,8 +1,8 @@
 use borrow.Author.Needs.{needs}
-use Rattle.rows.proofs.words.cluster.Statement.{statement}
-use Rattle.rows.proofs.words.cluster.Tie as tie
-use Rattle.rows.proofs.Parts.{plain-measured, single-measured, cluster-measured, cluster-room}
+use Rattle.text.proofs.segmentation.cluster.Statement.{statement}
+use Rattle.text.proofs.segmentation.cluster.Tie as tie
+use Rattle.text.proofs.ClusterParts.{plain-measured, single-measured, cluster-measured, cluster-room}
 use Rattle.text.specs.Code.Laws.{scalar-at}
 use native.Mathlib.Omega.{arith}
 
 byte-at-requires : tie.Need-byte-at-requires
