@@ -5,7 +5,8 @@ use text::BytePlace;
 use text::Column;
 use text::TextPart;
 use text::class::Profile;
-use text::segmentation::cluster;
+use text::segmentation::next_cluster;
+use text::segmentation::scalar_at;
 ghost use mathlib.Core.Path.{_≡_};
 ghost use Prim.Native.Nat.{_+_, _-_, _*_, _<_};
 ghost use lib.Dec.{eqb, leb};
@@ -177,16 +178,17 @@ fn by_clusters(text: &[u8], rows: &mut [usize], wrapping: Wrapping, state: WrapS
     let profile = wrapping.profile;
     let width = wrapping.width;
     let mut t = state;
+    if text.len() == 0 {
+        return t;
+    }
     let mut p = BytePlace(0);
-    while p.0 < text.len() {
-        let g = cluster(profile, text, p);
-        let end = g.end;
-        let columns = g.width;
-        if end.0 == p.0 {
-            return t;
-        }
-        t = unit(rows, width, t, columns);
-        p = end;
+    let mut scalar = scalar_at(profile, text, 0);
+    while scalar != 0 {
+        let step = next_cluster(profile, text, p, scalar);
+        let part = step.part;
+        t = unit(rows, width, t, part.width);
+        p = part.end;
+        scalar = step.next;
     }
     t
 }

@@ -9,3 +9,4 @@ pub mod Overstrike
 pub mod Calls
 pub mod Code
 pub mod TextParts
+pub mod Segmentation
