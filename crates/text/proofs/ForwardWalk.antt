@@ -6,7 +6,7 @@ use mathlib.Core.Bool.{Bool, _&&_, _||_, and-false, cond, false, not, true}
 use mathlib.Core.List.{List, [], _∷_}
 use mathlib.Core.Logic.{_⊎_, inl, inr, ⊎-elim}
 use mathlib.Core.Path.{_∙_, _≡_, ap, refl, sym}
-use lib.Dec.{T, eqb, leb, leb→le, ltb}
+use lib.Dec.{T, eqb, eqb→eq, leb, leb→le, ltb}
 use lib.ListN.{List·getD-eq-default, drop, getD, length, length-drop, take}
 use borrow.Author.Tests.{eq-eqb, eqb-false, eqb-true, ltb-false, ltb-true, ne-eqb}
 use Rattle.text.specs.Class.{Class, Profile, among, classL, classLV, classLVT, classT, classV, control, cr, extend, lf, number, other, regionalIndicator, zwj}
@@ -17,7 +17,7 @@ use Rattle.text.specs.Code.Laws.{none-at, none-past, plain-cluster, plai
 use Rattle.text.specs.Each.{All, all-split}
 use Rattle.text.specs.Segmentation.{NextCluster, NextClusterReady, moreOf, packedAt, stateAfter, stateContext}
 use Rattle.text.specs.Segmentation.Laws.{packed-past}
-use Rattle.text.specs.Tests.{and-T, cases, true-T}
+use Rattle.text.specs.Tests.{and-T, cases, is-true, true-T}
 use Rattle.text.specs.TextParts.{Measured, column, place, textAt}
 use Rattle.text.specs.TextParts.Laws.{first-all}
 use Rattle.text.specs.Utf8.{Range, Scalar, ascii, decode, decodeFrom, fits, lengthIn, sequence, table}
@@ -317,13 +317,16 @@ module _ (f : code.Profile) where
         }
 
   -- a printable byte before another
-  pub plain-next : (s : List ℕ) (at u b : ℕ) (q : Bool) → NextClusterReady P s at u → u ≡ 217 → b ≡ getD s (at + 1) 0 → q ≡ printable b → q ≡ true
+  pub plain-next : (s : List ℕ) (at u b : ℕ) (q : Bool) → NextClusterReady P s at u → b ≡ getD s (at + 1) 0 → q ≡ printable b → (eqb u 217 && q) ≡ true
       → NextCluster P s at (record { part = record { end = place (at + 1); width = column 1 }; next = u })
-  plain-next s at u b q h e eb hq tq =
-      let w = in-range 0x20 0x7E b (sym hq ∙ tq) in
+  plain-next s at u b q h eb hq t =
+      let k = and-T (eqb u 217) q (true-T t) in
+      let e : u ≡ 217 = eqb→eq u 217 (k .0) in
+      let tb : printable b ≡ true = sym hq ∙ is-true q (k .1) in
+      let w = in-range 0x20 0x7E b tb in
       let l : at + 1 < length s = cases (ltb (at + 1) (length s)) (λ t. ltb-true (at + 1) (length s) t) (λ t. absurd (omega (arith, w .0, eb ∙ List·getD-eq-default s 0 (ltb-false (at + 1) (length s) t)))) in
-      let v : 217 ≡ packedAt P s (at + 1) = first-packed P s (at + 1) b 217 l eb (omega (arith, w .1)) (printable-one f b (sym hq ∙ tq)) in
-      let k : Walking P s at (at + 1) 1 11 = rw e at (walk-begin s at u h) in
-      walk-boundary s at (at + 1) 1 11 u l (rw e v) k false (rw e (sym (alone-numbers 11 (stateContext 11) 11 other-alone))) refl
+      let v : 217 ≡ packedAt P s (at + 1) = first-packed P s (at + 1) b 217 l eb (omega (arith, w .1)) (printable-one f b tb) in
+      let g : Walking P s at (at + 1) 1 11 = rw e at (walk-begin s at u h) in
+      walk-boundary s at (at + 1) 1 11 u l (rw e v) g false (rw e (sym (alone-numbers 11 (stateContext 11) 11 other-alone))) refl
 
 pub ruleset rules = (rule-is, on-false, on-true, met, eq-eqb, ne-eqb)

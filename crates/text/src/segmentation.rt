@@ -281,16 +281,14 @@ pub fn next_cluster(profile: Profile, s: &[u8], at: BytePlace, u: usize) -> Clus
     requires { ⌜ NextClusterReady (profileOf profile) (now s) (at .0) u ⌝ }
     ensures { λ r. ⌜ NextCluster (profileOf profile) (now (s .entry)) (at .0) r ⌝ }
 {
-    if u == 1 + NARROW {
-        if is_printable(byte_at(s, at.0 + 1)) {
-            return ClusterStep {
-                part: TextPart {
-                    end: BytePlace(at.0 + 1),
-                    width: Column(1),
-                },
-                next: u,
-            };
-        }
+    if (u == 1 + NARROW) & is_printable(byte_at(s, at.0 + 1)) {
+        return ClusterStep {
+            part: TextPart {
+                end: BytePlace(at.0 + 1),
+                width: Column(1),
+            },
+            next: u,
+        };
     }
     walk_cluster(profile, s, at.0, u)
 }

@@ -15,8 +15,8 @@ byte-at-requires c κs = search needs
 is-printable-requires : tie.Need-is-printable-requires
 is-printable-requires c κs = search needs
 
-add-t10 : tie.Need-add-t10
-add-t10 c = search needs
+add-t11 : tie.Need-add-t11
+add-t11 c = search needs
 
 returns : tie.Need-returns
 returns c = search plain-next
@@ -35,7 +35,7 @@ next-cluster-spec =
     add-byte-at
     byte-at-requires
     is-printable-requires
-    add-t10
+    add-t11
     returns
     walk-cluster-requires
     returns-2)
