@@ -5,6 +5,7 @@ use mathlib.Core.Bool.{Bool, true, false, cond, _&&_, _||_, not}
 use mathlib.Core.List.{List, [], _∷_, _++_}
 use lib.ListN.{length, set, take, drop, replicate}
 use lib.Dec.{eqb, leb, ltb}
+use Rattle.buffer.specs.Numbers.{smallerOf}
 use Rattle.text.specs.declared.TextPart.{TextPart}
 use Rattle.text.specs.declared.Answer.{Answer}
 use Rattle.text.specs.Utf8.{Scalar}
@@ -227,7 +228,7 @@ largest = 0xFFFF_FFFF_FFFF_FFFF
 
 -- the converted line of a call that is not refused 1 or 2 stands in so many bytes of a buffer
 abbrev pub lineRoom : ℕ → ℕ
-lineRoom conv = cond (leb conv 32768) conv 32768
+lineRoom conv = smallerOf conv 32768
 
 abbrev pub wrappingOf : Request → ℕ → Wrapping
 wrappingOf q conv = record { profile = record { version = 0 }; width = column (q .width); mode = q .mode; len = lineRoom conv }
@@ -242,7 +243,7 @@ decided q read rows numbers =
 unfoldable pub outcomeOf : (number rows numbers : ℕ) → Outcome
 outcomeOf number rows numbers =
     cond (eqb number 0)
-    (record { number = 0; count = rows; kept = largest; numbers = 2 * cond (leb rows (numbers / 2)) rows (numbers / 2) })
+    (record { number = 0; count = rows; kept = largest; numbers = 2 * smallerOf rows (numbers / 2) })
     (record { number = number; count = 0; kept = 0; numbers = 0 })
 
 abbrev pub answerOf : Outcome → Answer
