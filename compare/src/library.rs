@@ -4,7 +4,7 @@ use crate::faults::Fault;
 use crate::lent::Lent;
 use console_lines::Span;
 use oracle::format::answer_text;
-use oracle::{Answer, Call, Case, Record};
+use oracle::{Answer, Case, Record};
 use std::fmt;
 
 const BYTE: u8 = 0xA7;
@@ -115,37 +115,16 @@ impl Library {
     }
 
     pub fn call(&mut self, case: &Case) -> console_lines::Answer {
-        let [conv, spans, rows, list] = case.call.lent();
+        let [conv, spans, rows, list] = case.sizes();
         let line = self.line.lend_copy(&case.line);
         let matches = self.matches.lend_copy(case.call.matches());
-        let (conv, spans) = (self.conv.lend(conv), self.spans.lend(spans));
-        let (rows, list) = (self.rows.lend(rows), self.list.lend(list));
-        match case.call {
-            Call::Convert { .. } => console_lines::convert(line, conv),
-            Call::Read { .. } => console_lines::read(line, matches, conv, spans),
-            Call::Rows { width, mode, .. } => {
-                console_lines::rows(line, width, mode, conv, spans, rows)
-            }
-            Call::Height { width, mode, .. } => {
-                console_lines::height(line, width, mode, conv, spans)
-            }
-            Call::DrawWindow {
-                current,
-                start,
-                end,
-                ..
-            } => console_lines::draw_window(line, matches, current, start, end, conv, spans, list),
-            Call::DrawRow {
-                current,
-                first,
-                count,
-                width,
-                mode,
-                ..
-            } => console_lines::draw_row(
-                line, matches, current, first, count, width, mode, conv, spans, list,
-            ),
-        }
+        let lent = console_lines::Lent {
+            conv: self.conv.lend(conv),
+            spans: self.spans.lend(spans),
+            rows: self.rows.lend(rows),
+            list: self.list.lend(list),
+        };
+        console_lines::make(&case.call, line, matches, lent)
     }
 
     fn buffers_hold(&self, expected: &Answer) -> bool {

@@ -1,6 +1,8 @@
 //! The six calls of the static library as declared in include/console_lines.h,
 //! as safe functions on slices.
 
+use oracle::Call;
+
 #[repr(C)]
 #[derive(Clone, Copy, Debug, PartialEq, Eq)]
 pub struct Answer {
@@ -34,7 +36,7 @@ pub fn exported() -> Vec<&'static str> {
 /// A call with the slices that it reads, its numbers, and the slices that it writes;
 /// the C function takes each slice as a pointer and a length. Where the library does
 /// not export it, the call panics.
-macro_rules! call {
+macro_rules! declare {
     ($has:ident, $name:ident, $symbol:ident(
         $($read:ident: $read_item:ty),*;
         $($number:ident),*;
@@ -71,13 +73,53 @@ macro_rules! call {
     };
 }
 
-call!(has_convert, convert, console_convert(line: u8; ; conv: u8));
-call!(has_read, read, console_read(line: u8, matches: usize; ; conv: u8, spans: Span));
-call!(has_rows, rows, console_rows(line: u8; width, mode; conv: u8, spans: Span, rows: usize));
-call!(has_height, height, console_height(line: u8; width, mode; conv: u8, spans: Span));
-call!(has_draw_window, draw_window, console_draw_window(
+declare!(has_convert, convert, console_convert(line: u8; ; conv: u8));
+declare!(has_read, read, console_read(line: u8, matches: usize; ; conv: u8, spans: Span));
+declare!(has_rows, rows, console_rows(line: u8; width, mode; conv: u8, spans: Span, rows: usize));
+declare!(has_height, height, console_height(line: u8; width, mode; conv: u8, spans: Span));
+declare!(has_draw_window, draw_window, console_draw_window(
     line: u8, matches: usize; current, start, end; conv: u8, spans: Span, list: u8
 ));
-call!(has_draw_row, draw_row, console_draw_row(
+declare!(has_draw_row, draw_row, console_draw_row(
     line: u8, matches: usize; current, first, count, width, mode; conv: u8, spans: Span, list: u8
 ));
+
+/// Memory lent to a call; what it is not lent is not looked at.
+pub struct Lent<'m> {
+    pub conv: &'m mut [u8],
+    pub spans: &'m mut [Span],
+    pub rows: &'m mut [usize],
+    pub list: &'m mut [u8],
+}
+
+/// Makes any of the six calls, with a copy of its matches.
+pub fn make(call: &Call, line: &[u8], matches: &[usize], lent: Lent) -> Answer {
+    let Lent {
+        conv,
+        spans,
+        rows: row_list,
+        list,
+    } = lent;
+    match *call {
+        Call::Convert => convert(line, conv),
+        Call::Read { .. } => read(line, matches, conv, spans),
+        Call::Rows { width, mode } => rows(line, width, mode, conv, spans, row_list),
+        Call::Height { width, mode } => height(line, width, mode, conv, spans),
+        Call::DrawWindow {
+            current,
+            start,
+            end,
+            ..
+        } => draw_window(line, matches, current, start, end, conv, spans, list),
+        Call::DrawRow {
+            current,
+            first,
+            count,
+            width,
+            mode,
+            ..
+        } => draw_row(
+            line, matches, current, first, count, width, mode, conv, spans, list,
+        ),
+    }
+}
