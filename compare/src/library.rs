@@ -94,19 +94,15 @@ impl Library {
         let same = answer.number == expected.number
             && answer.count == expected.count
             && self.buffers_hold(expected);
-        let mut faults = self.memory_faults(case);
+        let mut faults = Vec::new();
         if !same {
             let answer = answer_text(&case.call, &self.whole_answer(answer));
-            faults.insert(0, format!("= {answer}"));
+            faults.push(format!("= {answer}"));
         }
-        self.take_back();
-        if self.calls.is_multiple_of(CALLS_BETWEEN_WHOLE_CHECKS) && !self.untouched() {
-            faults.push("memory far outside was written by this call or one before".to_string());
-        }
+        faults.extend(self.take_back(case));
         if faults.is_empty() {
             return None;
         }
-        self.restore();
         let expected = answer_text(&case.call, expected);
         Some(format!(
             "{case} = {expected}\n  library: {}",
@@ -181,7 +177,7 @@ impl Library {
     }
 
     /// What the library returned and left, zeros included.
-    fn whole_answer(&self, answer: console_lines::Answer) -> Answer {
+    pub fn whole_answer(&self, answer: console_lines::Answer) -> Answer {
         Answer {
             number: answer.number,
             count: answer.count,
@@ -192,8 +188,10 @@ impl Library {
         }
     }
 
-    /// Fills what was lent with the pattern again.
-    pub fn take_back(&mut self) {
+    /// Fills what was lent with the pattern again. What the call did to memory that is
+    /// not lent for writing is returned, as text.
+    pub fn take_back(&mut self, case: &Case) -> Vec<String> {
+        let mut faults = self.memory_faults(case);
         self.line.take_back();
         self.matches.take_back();
         self.conv.take_back();
@@ -201,6 +199,13 @@ impl Library {
         self.rows.take_back();
         self.list.take_back();
         self.calls += 1;
+        if self.calls.is_multiple_of(CALLS_BETWEEN_WHOLE_CHECKS) && !self.untouched() {
+            faults.push("memory far outside was written by this call or one before".to_string());
+        }
+        if !faults.is_empty() {
+            self.restore();
+        }
+        faults
     }
 
     /// Whether all of the memory holds the pattern.

@@ -7,8 +7,8 @@ mod separation;
 pub use exchange::Exchange;
 pub use separation::Separation;
 
-use crate::answer::Answer;
-use crate::call::Case;
+use crate::answer::{Answer, NONE};
+use crate::call::{Call, Case};
 use crate::generate::NOISE;
 use crate::random::Random;
 
@@ -28,6 +28,9 @@ pub trait Half: Sized {
 
     /// Every case of short lines.
     fn short() -> impl Iterator<Item = Self>;
+
+    /// The names of the calls that it makes.
+    fn calls(&self) -> Vec<&'static str>;
 
     /// What the program's answers say of it, or what is wrong with them.
     fn check(&self, program: &mut Program) -> Result<Said, String>;
@@ -57,24 +60,60 @@ impl Counts {
         self.accepted += usize::from(said.accepted);
         self.further += usize::from(said.further);
     }
+
+    pub fn add(&mut self, other: Counts) {
+        self.cases += other.cases;
+        self.accepted += other.accepted;
+        self.further += other.further;
+    }
 }
 
 fn is_noise(byte: &u8) -> bool {
     NOISE.contains(byte)
 }
 
-/// All lines of at most `most` of these bytes, shorter ones first.
-fn short_lines(bytes: &[u8], most: usize) -> Vec<Vec<u8>> {
+/// What short lines are made of.
+type Symbols = &'static [&'static [u8]];
+
+/// All lines of at most `most` symbols, shorter ones first.
+fn short_lines(symbols: Symbols, most: usize) -> Vec<Vec<u8>> {
     let mut lines = vec![Vec::new()];
     let mut begin = 0;
     for _ in 0..most {
         let end = lines.len();
         for index in begin..end {
-            for &byte in bytes {
-                lines.push([&lines[index][..], &[byte]].concat());
+            for symbol in symbols {
+                lines.push([&lines[index][..], symbol].concat());
             }
         }
         begin = end;
     }
     lines
+}
+
+/// A drawing without matches.
+fn window(start: usize, end: usize) -> Call {
+    Call::DrawWindow {
+        matches: Vec::new(),
+        current: NONE,
+        start,
+        end,
+    }
+}
+
+fn row(first: usize, count: usize, width: usize, mode: usize) -> Call {
+    Call::DrawRow {
+        matches: Vec::new(),
+        current: NONE,
+        first,
+        count,
+        width,
+        mode,
+    }
+}
+
+fn reading() -> Call {
+    Call::Read {
+        matches: Vec::new(),
+    }
 }

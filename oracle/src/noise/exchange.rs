@@ -1,8 +1,9 @@
 //! Noise bytes exchanged for others: the answers differ in the bytes exchanged and in
 //! the digits of their marks alone.
 
-use super::{is_noise, short_lines, Half, Program, Said, INVALID};
-use crate::answer::{Answer, NONE};
+use super::{is_noise, reading, row, short_lines, window};
+use super::{Half, Program, Said, Symbols, INVALID};
+use crate::answer::Answer;
 use crate::call::{Call, Case};
 use crate::changes;
 use crate::drawn::{self, Window};
@@ -31,7 +32,7 @@ impl Half for Exchange {
     }
 
     fn short() -> impl Iterator<Item = Exchange> {
-        let mut lines = short_lines(b"a-\t\x08\xE6\xBC\xA2\xFF", 4);
+        let mut lines = short_lines(BYTES, 4);
         lines.retain(|line| line.contains(&0xFF));
         let pairs = lines.into_iter().map(|line| {
             let other = |&byte: &u8| if byte == 0xFF { 0xC0 } else { byte };
@@ -50,9 +51,16 @@ impl Half for Exchange {
         })
     }
 
+    fn calls(&self) -> Vec<&'static str> {
+        match self.one.call {
+            Call::DrawRow { .. } => vec!["draw_row", "rows"],
+            _ => vec![self.one.call.name()],
+        }
+    }
+
     fn check(&self, program: &mut Program) -> Result<Said, String> {
         let (a, b) = (program(&self.one), program(&self.two));
-        let fault = |what: &str| Err(format!("{what}: {}; {}", self.one, self.two));
+        let fault = |what: &str| Err(format!("# exchange: {what}\n{}\n{}", self.one, self.two));
         if (a.number, a.count) != (b.number, b.count) {
             return fault("another number or count");
         }
@@ -82,15 +90,15 @@ impl Exchange {
     /// Whether the converted lines differ at most in the noise bytes exchanged: each
     /// has the noise bytes of its line in their order.
     fn is_converted_alike(&self, a: &Answer, b: &Answer) -> bool {
+        if a.number != 0 {
+            return a.conv == b.conv;
+        }
         let noise = |bytes: &[u8]| -> Vec<u8> { bytes.iter().copied().filter(is_noise).collect() };
-        let own = |answer: &Answer, case: &Case| {
-            answer.number != 0 || noise(&answer.conv) == noise(&case.line)
-        };
         let mut places = a.conv.iter().zip(&b.conv);
         a.conv.len() == b.conv.len()
             && places.all(|(a, b)| a == b || is_noise(a) && is_noise(b))
-            && own(a, &self.one)
-            && own(b, &self.two)
+            && noise(&a.conv) == noise(&self.one.line)
+            && noise(&b.conv) == noise(&self.two.line)
     }
 
     /// Whether the change lists are equal in every byte but the digits of the marks of
@@ -207,38 +215,19 @@ fn exchanged(random: &mut Random, line: &[u8]) -> Vec<u8> {
     other
 }
 
+const BYTES: Symbols = &[
+    b"a", b"-", b"\t", b"\x08", b"\xE6", b"\xBC", b"\xA2", b"\xFF",
+];
+
 /// Calls of every kind, with windows and rows that cut a mark at any of its bytes.
 fn few_calls() -> Vec<Call> {
-    let (matches, current) = (Vec::new(), NONE);
-    let mut calls = vec![
-        Call::Convert,
-        Call::Read {
-            matches: matches.clone(),
-        },
-    ];
+    let mut calls = vec![Call::Convert, reading()];
     for (width, mode) in [(0, 1), (3, 1), (5, 1), (0, 2), (3, 2), (5, 2)] {
-        calls.push(Call::Rows { width, mode });
-        calls.push(Call::Height { width, mode });
-        for (first, count) in [(0, 1), (1, 1), (1, 2)] {
-            calls.push(Call::DrawRow {
-                matches: matches.clone(),
-                current,
-                first,
-                count,
-                width,
-                mode,
-            });
-        }
+        calls.extend([Call::Rows { width, mode }, Call::Height { width, mode }]);
+        calls.extend([(0, 1), (1, 1), (1, 2)].map(|(first, count)| row(first, count, width, mode)));
     }
     for start in 0..9 {
-        for end in start + 1..=10 {
-            calls.push(Call::DrawWindow {
-                matches: matches.clone(),
-                current,
-                start,
-                end,
-            });
-        }
+        calls.extend((start + 1..=10).map(|end| window(start, end)));
     }
     calls
 }

@@ -1,6 +1,7 @@
 //! Noise between two parts: the spans of the line are those of the parts.
 
-use super::{short_lines, Half, Program, Said, INVALID};
+use super::{reading, row, short_lines, window};
+use super::{Half, Program, Said, Symbols, INVALID};
 use crate::answer::Answer;
 use crate::call::{Call, Case};
 use crate::generate::{self, any_line, NOISE};
@@ -43,71 +44,99 @@ impl Half for Separation {
     }
 
     fn short() -> impl Iterator<Item = Separation> {
-        let parts = short_lines(b"a_\x08\x1B\xC3\xA9\r\n", 3);
-        let pairs = (0..parts.len() * parts.len()).map(move |number| {
-            let (first, second) = (number / parts.len(), number % parts.len());
-            (parts[first].clone(), parts[second].clone())
-        });
-        pairs.map(|(first, second)| {
-            let noise = vec![0xFF];
+        let parts = short_lines(BYTES, 3);
+        let clusters = short_lines(CLUSTERS, 2);
+        let pairs = each_two(parts).chain(each_two(clusters)).enumerate();
+        pairs.map(|(number, (first, second))| {
+            let noise = vec![NOISE[number % NOISE.len()]];
             let line = [&first[..], &noise, &second].concat();
-            let sizes = [64, 8, 0, 0];
-            let matches = Vec::new();
             let (width, mode) = (2, 2);
+            let other = match number % 5 {
+                0 => Call::Convert,
+                1 => Call::Rows { width, mode },
+                2 => Call::Height { width, mode },
+                3 => window(0, 9),
+                _ => row(0, 2, width, mode),
+            };
+            let sizes = [
+                8 * line.len(),
+                line.len(),
+                4 * line.len(),
+                40 * line.len() + 80,
+            ];
             Separation {
                 first,
                 noise,
                 second,
-                reading: Case::new(&line, Call::Read { matches }, sizes),
-                other: Case::new(&line, Call::Height { width, mode }, sizes),
+                reading: Case::new(&line, reading(), sizes),
+                other: Case::new(&line, other, sizes),
             }
         })
     }
 
+    fn calls(&self) -> Vec<&'static str> {
+        vec!["convert", "read", self.other.call.name()]
+    }
+
     fn check(&self, program: &mut Program) -> Result<Said, String> {
-        let whole = program(&self.reading);
-        if whole.number != 0 {
+        let read = program(&self.reading);
+        if read.number != 0 {
             return Ok(Said::default());
         }
-        let fault = |what: &str, case: &Case| Err(format!("{what}: {case}; {self}"));
+        let fault = |what: &str, case: &Case| {
+            let (first, noise) = (self.first.len(), self.noise.len());
+            Err(format!(
+                "# separation: {what}; {noise} noise bytes behind {first} bytes\n{case}"
+            ))
+        };
+        let whole = Part::of(read, program, &self.reading);
         let [first, second] = [&self.first, &self.second].map(|part| {
             let reading = self.reading.on(part);
-            let converting = Case::new(part, Call::Convert, reading.sizes());
-            Part {
-                read: program(&reading),
-                converted: program(&converting),
-            }
+            let read = program(&reading);
+            Part::of(read, program, &reading)
         });
-        if first.is_refused() || second.is_refused() {
-            return fault("a part is refused", &self.reading);
-        }
-        let (Some(records), Some(conv)) = (
-            self.records(&first, &second),
-            self.converted(&first, &second),
-        ) else {
-            return fault("a part has more than was lent", &self.reading);
+        let (Some(whole), Some(first), Some(second)) = (whole, first, second) else {
+            return fault("a part is refused, or not as its conversion", &self.reading);
         };
-        if whole.count != records.len() {
-            return fault("not the parts' count of spans", &self.reading);
+        if whole != self.joined(&first, &second) {
+            return fault("not the parts' spans", &self.reading);
         }
         let other = program(&self.other);
         let further = other.number == 0;
-        for (case, answer) in [(&self.reading, whole), (&self.other, other)] {
-            if answer.number != 0 {
-                continue;
-            }
-            if !holds(&answer.conv, &conv) {
-                return fault("not the parts' converted lines", case);
-            }
-            if case.call != Call::Convert && !holds(&answer.records, &records) {
-                return fault("not the parts' records", case);
-            }
+        let same = holds(&other.conv, &whole.conv)
+            && (self.other.call == Call::Convert || holds(&other.records, &whole.records));
+        if further && !same {
+            return fault("another call leaves other spans", &self.other);
         }
         Ok(Said {
             accepted: true,
             further,
         })
     }
+}
+
+const BYTES: Symbols = &[b"a", b"_", b"\x08", b"\x1B", b"\xC3", b"\xA9", b"\r", b"\n"];
+
+/// What joins what stands before it, what is joined, and what is read together.
+const CLUSTERS: Symbols = &[
+    b"e",
+    b"\xCC\x81",
+    b"\xE2\x80\x8D",
+    b"\xF0\x9F\x87\xA6",
+    b"\xE1\x84\x80",
+    b"\xE1\x85\xA1",
+    b"\x08",
+    b"\x1B[1",
+    b"m",
+    b"\x1B]8;;",
+    b"\x07",
+];
+
+fn each_two(parts: Vec<Vec<u8>>) -> impl Iterator<Item = (Vec<u8>, Vec<u8>)> {
+    (0..parts.len() * parts.len()).map(move |number| {
+        let (first, second) = (number / parts.len(), number % parts.len());
+        (parts[first].clone(), parts[second].clone())
+    })
 }
 
 /// A line cut in two at any place.
@@ -117,30 +146,34 @@ fn cut_line(random: &mut Random) -> (Vec<u8>, Vec<u8>) {
     (first, second)
 }
 
-/// What a part is answered.
+/// The records and the converted line of a part, or of the whole line.
+#[derive(PartialEq)]
 struct Part {
-    read: Answer,
-    converted: Answer,
+    records: Vec<Record>,
+    conv: Vec<u8>,
 }
 
 impl Part {
-    fn is_refused(&self) -> bool {
-        self.read.number != 0 || self.converted.number != 0
-    }
-
-    fn records(&self) -> Option<&[Record]> {
-        self.read.records.get(..self.read.count)
-    }
-
-    fn converted(&self) -> Option<&[u8]> {
-        self.converted.conv.get(..self.converted.count)
+    /// What reading the part gave and converting it gives; none where one is refused or
+    /// they leave different converted lines.
+    fn of(read: Answer, program: &mut Program, reading: &Case) -> Option<Part> {
+        let converting = Case::new(&reading.line, Call::Convert, reading.sizes());
+        let converted = program(&converting);
+        let records = read.records.get(..read.count)?.to_vec();
+        let conv = converted.conv.get(..converted.count)?.to_vec();
+        let accepted = read.number == 0 && converted.number == 0;
+        let whole = holds(&read.records, &records)
+            && holds(&read.conv, &conv)
+            && holds(&converted.conv, &conv);
+        (accepted && whole).then_some(Part { records, conv })
     }
 }
 
 impl Separation {
-    /// The first part's records, one for each noise byte, the second part's moved on.
-    fn records(&self, first: &Part, second: &Part) -> Option<Vec<Record>> {
-        let (c, n) = (first.converted.count, self.noise.len());
+    /// The first part's records, one for each noise byte, the second part's moved on;
+    /// and the converted line, each run converted by itself, other bytes copied.
+    fn joined(&self, first: &Part, second: &Part) -> Part {
+        let (c, n) = (first.conv.len(), self.noise.len());
         let noise_record = |k| Record {
             kind: INVALID,
             place: c + k,
@@ -151,25 +184,11 @@ impl Separation {
             place: record.place + c + n,
             ..*record
         };
-        let mut records = first.records()?.to_vec();
+        let mut records = first.records.clone();
         records.extend((0..n).map(noise_record));
-        records.extend(second.records()?.iter().map(moved));
-        Some(records)
-    }
-
-    /// The converted line: each run is converted by itself, other bytes are copied.
-    fn converted(&self, first: &Part, second: &Part) -> Option<Vec<u8>> {
-        Some([first.converted()?, &self.noise, second.converted()?].concat())
-    }
-}
-
-impl std::fmt::Display for Separation {
-    fn fmt(&self, f: &mut std::fmt::Formatter<'_>) -> std::fmt::Result {
-        let (first, noise) = (self.first.len(), self.noise.len());
-        write!(
-            f,
-            "the first part has {first} bytes, {noise} of noise follow"
-        )
+        records.extend(second.records.iter().map(moved));
+        let conv = [&first.conv[..], &self.noise, &second.conv].concat();
+        Part { records, conv }
     }
 }
 

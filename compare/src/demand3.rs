@@ -1,0 +1,126 @@
+//! Demand 3 on the library itself: noise separation and noise exchange.
+
+mod faults;
+
+pub use faults::try_faults;
+
+use crate::library::Library;
+use crate::options::Options;
+use crate::tally::{grouped, Differences};
+use crate::threads;
+use oracle::noise::{Counts, Exchange, Half, Said, Separation};
+use oracle::random::Random;
+use oracle::Answer;
+use std::time::Instant;
+
+/// How many random cases each half has.
+const RANDOM: usize = 1_500_000;
+
+/// Runs both halves; whether they hold.
+pub fn run(options: &Options) -> bool {
+    let broken = run_half::<Separation>(options) + run_half::<Exchange>(options);
+    match broken {
+        0 => println!("demand 3 holds"),
+        _ => println!("demand 3 DOES NOT HOLD: {} cases", grouped(broken)),
+    }
+    broken == 0
+}
+
+/// Runs a half, and returns how many cases break it.
+fn run_half<H: Half>(options: &Options) -> usize {
+    let step = options.step(RANDOM);
+    let random = |job| {
+        let numbers = (job * step..RANDOM).step_by(options.jobs * step);
+        random_cases::<H>(options.seed, numbers)
+    };
+    let short = |job| H::short().skip(job * step).step_by(options.jobs * step);
+    run_cases("random", options, random) + run_cases("short", options, short)
+}
+
+fn random_cases<H: Half>(
+    seed: u64,
+    numbers: impl Iterator<Item = usize>,
+) -> impl Iterator<Item = H> {
+    numbers.map(move |number| H::random(&mut Random::of_case(seed, number)))
+}
+
+#[derive(Default)]
+struct Found {
+    counts: Counts,
+    broken: Differences,
+}
+
+/// Runs cases, dealt out to the jobs.
+fn run_cases<H: Half, I: Iterator<Item = H>>(
+    lines: &str,
+    options: &Options,
+    cases: impl Fn(usize) -> I + Sync,
+) -> usize {
+    let start = Instant::now();
+    let mut whole = Found::default();
+    for found in threads::each_job(options.jobs, |job| check_cases(cases(job))) {
+        whole.counts.add(found.counts);
+        whole.broken.add(found.broken);
+    }
+    let Counts {
+        cases,
+        accepted,
+        further,
+    } = whole.counts;
+    println!(
+        "demand 3, {}, {lines} lines: {} cases, {} broken; {} accepted, {} {}, {:.1} s",
+        H::NAME,
+        grouped(cases),
+        grouped(whole.broken.count),
+        grouped(accepted),
+        grouped(further),
+        H::FURTHER,
+        start.elapsed().as_secs_f64()
+    );
+    whole.broken.print();
+    whole.broken.count
+}
+
+/// Checks the cases whose calls the library has.
+fn check_cases<H: Half>(cases: impl Iterator<Item = H>) -> Found {
+    let mut library = Library::new();
+    let mut found = Found::default();
+    for case in cases.filter(is_callable) {
+        match check(&case, &mut library, &mut |_, _| ()) {
+            Ok(said) => found.counts.count(said),
+            Err(text) => {
+                found.counts.count(Said::default());
+                found.broken.push(text);
+            }
+        }
+    }
+    found
+}
+
+fn is_callable<H: Half>(case: &H) -> bool {
+    let exported = console_lines::exported();
+    case.calls().iter().all(|name| exported.contains(name))
+}
+
+/// Checks a case with the library's answers. `plant` may change each of them before it
+/// is looked at; it is told the number of the call.
+fn check<H: Half>(
+    case: &H,
+    library: &mut Library,
+    plant: &mut dyn FnMut(usize, &mut Answer),
+) -> Result<Said, String> {
+    let mut calls = 0;
+    let mut written = None;
+    let said = case.check(&mut |case| {
+        let answer = library.call(case);
+        let mut answer = library.whole_answer(answer);
+        let faults = library.take_back(case);
+        if !faults.is_empty() {
+            written = Some(format!("# {}\n{case}", faults.join("; ")));
+        }
+        plant(calls, &mut answer);
+        calls += 1;
+        answer
+    });
+    written.map_or(said, Err)
+}
