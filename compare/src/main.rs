@@ -74,8 +74,9 @@ fn compare_calls(calls: &[&'static str], options: &Options) -> bool {
     }
     let seconds = start.elapsed().as_secs_f64();
     println!("total: {total}, {seconds:.1} s");
+    let equal = is_equal(&total);
     let holds = !options.is_whole() || demand3::run(options);
-    is_equal(&total) && holds
+    equal && holds
 }
 
 fn is_equal(total: &Tally) -> bool {
