@@ -11,6 +11,7 @@ use crate::threads;
 use oracle::noise::{Counts, Exchange, Half, Said, Separation};
 use oracle::random::Random;
 use oracle::{Answer, Call};
+use std::collections::BTreeMap;
 use std::time::Instant;
 
 /// How many random cases each half has.
@@ -56,13 +57,24 @@ fn random_cases<H: Half>(
 #[derive(Default)]
 struct Found {
     counts: Counts,
+    /// How many cases have each call.
+    calls: BTreeMap<&'static str, usize>,
     broken: Differences,
 }
 
 impl Found {
     fn add(&mut self, other: Found) {
         self.counts.add(other.counts);
+        for (name, count) in other.calls {
+            *self.calls.entry(name).or_default() += count;
+        }
         self.broken.add(other.broken);
+    }
+
+    fn calls(&self) -> String {
+        let calls = self.calls.iter();
+        let texts = calls.map(|(name, &count)| format!("{name} {}", grouped(count)));
+        texts.collect::<Vec<_>>().join(", ")
     }
 }
 
@@ -92,6 +104,7 @@ fn run_cases<H: Half, I: Iterator<Item = H>>(
         H::FURTHER,
         start.elapsed().as_secs_f64()
     );
+    println!("  cases with each call: {}", whole.calls());
     whole.broken.print();
     whole
 }
@@ -101,6 +114,9 @@ fn check_cases<H: Half>(cases: impl Iterator<Item = H>) -> Found {
     let mut library = Library::new();
     let mut found = Found::default();
     for case in cases.filter(is_callable) {
+        for name in case.calls() {
+            *found.calls.entry(name).or_default() += 1;
+        }
         match check(&case, &mut library, &mut |_, _| ()) {
             Ok(said) => found.counts.count(said),
             Err(text) => {

@@ -75,7 +75,10 @@ impl Half for Separation {
     }
 
     fn calls(&self) -> Vec<&'static str> {
-        vec!["convert", "read", self.other.call.name()]
+        match self.other.call {
+            Call::Convert | Call::Read { .. } => vec!["convert", "read"],
+            _ => vec!["convert", "read", self.other.call.name()],
+        }
     }
 
     fn check(&self, program: &mut Program) -> Result<Said, String> {
