@@ -50,6 +50,33 @@ console_answer console_rows(const uint8_t *line, size_t line_len, size_t width, 
 /* As console_rows, with no row list and no question 6: the count is the rows. */
 console_answer console_height(const uint8_t *line, size_t line_len, size_t width, size_t mode, uint8_t *conv, size_t conv_len, console_span *spans, size_t spans_len);
 
+/* A drawing leaves the converted line, its spans and a change list; the count is the
+ * list's bytes. A change is a 4-byte length of its body, a 2-byte kind and the body,
+ * all little-endian:
+ *   1  text in UTF-8
+ *   2  attributes, 24 bytes: intensity (0 normal, 1 bold, 2 half), underline (1, 2
+ *      double), blink (1 slow, 2 rapid), flags (1 italic, 2 reverse, 4 invisible, 8
+ *      strike, 16 overline), the colours of foreground, background and underline, and
+ *      the place and length of the link's URI in the converted line, 4 bytes each
+ *   3  clear to the end of the line, one colour
+ *   4  cursor right by one, no body
+ * A colour is 4 bytes: 0 default; 1 and an index; 2, red, green and blue. matches is as
+ * in console_read; current is the number of the match that is drawn as the current
+ * one, CONSOLE_NO_MATCH for none. Both are refused by 1 to 4, by 8 where a cluster
+ * begins left of the window and ends right of it, and by 9 where the list has fewer
+ * bytes than the changes take. */
+#define CONSOLE_NO_MATCH SIZE_MAX
+
+/* The columns from start up to end; where start is above 0, its column has an arrow and
+ * the window begins behind it. Refused by 5 where start or end is above 1,048,576, by 7
+ * where start is above 0 and not below end. */
+console_answer console_draw_window(const uint8_t *line, size_t line_len, const size_t *matches, size_t matches_len, size_t current, size_t start, size_t end, uint8_t *conv, size_t conv_len, console_span *spans, size_t spans_len, uint8_t *list, size_t list_len);
+
+/* count rows of the line from row first on, wrapped as by console_rows but with the
+ * matches. Refused by 5 where the mode is above 2, first, count or width above 65,535,
+ * or count 0. */
+console_answer console_draw_row(const uint8_t *line, size_t line_len, const size_t *matches, size_t matches_len, size_t current, size_t first, size_t count, size_t width, size_t mode, uint8_t *conv, size_t conv_len, console_span *spans, size_t spans_len, uint8_t *list, size_t list_len);
+
 #ifdef __cplusplus
 }
 #endif

@@ -6,6 +6,8 @@ pub struct Kind {
     /// The parts of a line: each takes an equal share of its bytes.
     parts: &'static [&'static [u8]],
     pub hostile: bool,
+    /// How many times as fast as the source the library is wanted to be.
+    pub wanted: f64,
 }
 
 impl Kind {
@@ -28,11 +30,12 @@ impl Kind {
     }
 }
 
-const fn common(name: &'static str, parts: &'static [&'static [u8]]) -> Kind {
+const fn common(name: &'static str, wanted: f64, parts: &'static [&'static [u8]]) -> Kind {
     Kind {
         name,
         parts,
         hostile: false,
+        wanted,
     }
 }
 
@@ -41,6 +44,7 @@ const fn hostile(name: &'static str, parts: &'static [&'static [u8]]) -> Kind {
         name,
         parts,
         hostile: true,
+        wanted: 2.0,
     }
 }
 
@@ -71,12 +75,12 @@ const CYCLE: [u8; 72] = {
     cycle
 };
 
-pub const KINDS: [Kind; 28] = [
-    common("plain log line", &[LOG]),
-    common("coloured, with a link", &[COLOURED]),
-    common("man page", &[MAN_PAGE]),
-    common("mixed scripts", &[SCRIPTS]),
-    common("noisy line", &[NOISY]),
+pub static KINDS: [Kind; 28] = [
+    common("plain log line", 3.0, &[LOG]),
+    common("coloured, with a link", 3.0, &[COLOURED]),
+    common("man page", 2.0, &[MAN_PAGE]),
+    common("mixed scripts", 2.0, &[SCRIPTS]),
+    common("noisy line", 2.0, &[NOISY]),
     hostile("indicators, backspaces", &["\u{1F1E6}".as_bytes(), b"\x08"]),
     hostile(
         "indicators, erasures",
@@ -94,7 +98,10 @@ pub const KINDS: [Kind; 28] = [
     hostile("bold syllables", &["각\u{8}각".as_bytes()]),
     hostile("bold emoji", &["🚢\u{8}🚢".as_bytes()]),
     hostile("bold flags", &["🇳🇴\u{8}🇳🇴".as_bytes()]),
-    hostile("bold jamo", &["\u{1100}\u{1161}\u{8}\u{1100}\u{1161}".as_bytes()]),
+    hostile(
+        "bold jamo",
+        &["\u{1100}\u{1161}\u{8}\u{1100}\u{1161}".as_bytes()],
+    ),
     hostile(
         "indicators, nested runs",
         &["\u{1F1E6}".as_bytes(), "\u{1F1E6}x\u{8}\u{8}".as_bytes()],
@@ -108,5 +115,5 @@ pub const KINDS: [Kind; 28] = [
     hostile("tabs", &[b"\t"]),
 ];
 
-/// For rows only, at width 0.
-pub const HYPHENS: Kind = hostile("hyphens", &[b"-"]);
+/// For rows at width 0.
+pub static HYPHENS: Kind = hostile("hyphens", &[b"-"]);

@@ -1,35 +1,40 @@
 //! Measures the static library and the Rust source on the same lines.
 
-mod job;
+mod calls;
 mod lines;
+mod memory;
 mod table;
+mod times;
 mod timing;
 
 use lines::KINDS;
+use oracle::Call;
 use std::env;
 use std::process::ExitCode;
 use std::time::Duration;
 use table::Table;
 use timing::Effort;
 
-const USAGE: &str = "usage: bench [--call NAME]... [--quick] | bench --once NAME LINE BYTES";
-const NAMES: [&str; 6] = oracle::Call::NAMES;
+const USAGE: &str = "usage: bench [--call NAME]... [--quick] [--times] [--growth]
+       bench --once NAME CALL LINE BYTES";
 
 const HEADING: &str = "\
-Nanoseconds of processor time for a call from the raw line: medians, warmed up,
-both built for release. No buffer is cleared by the caller: the library writes all
-of what it is lent in every call, zeros included.
-  just      the library, lent just enough memory
-  generous  the library, lent at least 32,768 bytes, 2,048 spans, 4,096 rows and
-            65,536 bytes of changes
-  source    the Rust's own functions, which allocate what they return
-  ratio     source / just and source / generous: how many times as fast the library is
-  copy      copying the line and zeroing the rest of the conversion buffer, as in just
-  growth    time at 4,096 bytes / time at 512 bytes; 8 is linear";
+Calls from the raw line: medians of processor time, warmed up, both built for release.
+No buffer is cleared by the caller: the library writes all of what it is lent in every
+call, zeros included.
+  ratio     source / just: how many times as fast the library is; with a star where it
+            is below what is wanted, 3 for the log line and the coloured one, else 2
+  just      nanoseconds of the library, lent just enough memory
+  generous  the same, lent at least 32,768 bytes, 2,048 spans, 4,096 rows and 65,536
+            bytes of changes
+  source    nanoseconds of the Rust's own functions, which allocate what they return
+Columns: width/mode, window, row:width/mode.";
 
 struct Options {
     calls: Vec<String>,
     effort: Effort,
+    times: bool,
+    growth: bool,
 }
 
 impl Options {
@@ -38,15 +43,19 @@ impl Options {
         let mut options = Options {
             calls: Vec::new(),
             effort: Effort { rounds: 21, sample },
+            times: false,
+            growth: false,
         };
         while let Some(argument) = arguments.next() {
             match argument.as_str() {
                 "--call" => options.calls.push(arguments.next()?),
                 "--quick" => options.effort.rounds = 5,
+                "--times" => options.times = true,
+                "--growth" => options.growth = true,
                 _ => return None,
             }
         }
-        let known = |call: &String| NAMES.contains(&call.as_str());
+        let known = |call: &String| Call::NAMES.contains(&call.as_str());
         options.calls.iter().all(known).then_some(options)
     }
 
@@ -55,37 +64,57 @@ impl Options {
     }
 }
 
-/// Makes one call on the line with a number, of some bytes, if that is what is asked for.
-fn once(arguments: &[String]) -> bool {
-    let [first, name, line, bytes] = arguments else {
-        return false;
+/// Makes one call and prints its name, numbers and line, if the arguments ask for that
+/// and there is such a call and line.
+fn once(arguments: &[String]) -> Option<()> {
+    let [_, option, name, call, line, bytes] = arguments else {
+        return None;
     };
-    let (Ok(line), Ok(bytes)) = (line.parse::<usize>(), bytes.parse()) else {
-        return false;
-    };
-    let asked = first == "--once" && NAMES.contains(&name.as_str()) && line < KINDS.len();
-    if asked {
-        table::once(name, &KINDS[line], bytes);
+    let calls = calls::growing(Call::NAMES.into_iter().find(|known| known == name)?);
+    let call = calls.get(call.parse::<usize>().ok()?)?;
+    let kind = KINDS.get(line.parse::<usize>().ok()?)?;
+    let line = kind.line(bytes.parse().ok()?);
+    if option == "--once" {
+        times::once(call, &line);
+        println!("{name} {}\t{}", calls::label(call), kind.name);
     }
-    asked
+    Some(())
 }
 
 fn main() -> ExitCode {
-    if once(&env::args().skip(1).collect::<Vec<_>>()) {
+    let arguments: Vec<String> = env::args().collect();
+    if once(&arguments).is_some() {
         return ExitCode::SUCCESS;
     }
-    let Some(options) = Options::of(env::args().skip(1)) else {
+    let Some(options) = Options::of(arguments.into_iter().skip(1)) else {
         eprintln!("{USAGE}");
         return ExitCode::from(2);
     };
     println!("{HEADING}");
     let exported = console_lines::exported();
-    for name in NAMES.into_iter().filter(|name| options.wants(name)) {
+    for name in Call::NAMES.into_iter().filter(|name| options.wants(name)) {
         if exported.contains(&name) {
-            Table::new(name, options.effort).print();
+            measure(name, &options);
         } else {
             println!("\n{name}: not in the library");
         }
     }
     ExitCode::SUCCESS
+}
+
+fn measure(name: &'static str, options: &Options) {
+    let effort = options.effort;
+    let table = Table::measured(name, effort);
+    for table in [&table, &Table::with_hyphens(name, effort)] {
+        table.print_ratios();
+        if options.times {
+            table.print_times();
+        }
+    }
+    if name == "convert" {
+        table::print_copying(&table, effort);
+    }
+    if options.growth {
+        table::print_growths(name, effort);
+    }
 }

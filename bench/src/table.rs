@@ -1,239 +1,145 @@
-//! The tables of a call: times, and how they grow with the line.
+//! The tables of a call: how many times as fast as the source the library is, the
+//! times themselves, and how they grow with the line.
 
-use crate::job::{generous, just, Job, Memory};
+use crate::calls::{self, label};
 use crate::lines::{Kind, HYPHENS, KINDS};
-use crate::timing::{medians, Effort};
-use std::hint::black_box;
+use crate::times::{copying, times, Times};
+use crate::timing::Effort;
+use oracle::Call;
 
 const LENGTHS: [usize; 4] = [512, 1_024, 2_048, 4_096];
 const LONGEST: usize = LENGTHS[3];
 
-/// The largest figure so far, and where it was found.
-#[derive(Default)]
-struct Largest(Option<(f64, String)>);
-
-impl Largest {
-    fn add(&mut self, figure: f64, place: &str) {
-        if self.0.as_ref().is_none_or(|(largest, _)| figure > *largest) {
-            self.0 = Some((figure, place.to_string()));
-        }
-    }
-
-    fn print(&self, what: &str) {
-        if let Some((figure, place)) = &self.0 {
-            println!("largest {what}: {figure:.2} ({place})");
-        }
-    }
+/// A line, and its times in each of some calls.
+struct Row {
+    kind: &'static Kind,
+    line: Vec<u8>,
+    times: Vec<Times>,
 }
 
 pub struct Table {
     name: &'static str,
-    effort: Effort,
-    against_source: Largest,
-    against_copy: Largest,
-    growth: Largest,
+    calls: Vec<Call>,
+    rows: Vec<Row>,
 }
 
 impl Table {
-    pub fn new(name: &'static str, effort: Effort) -> Table {
-        Table {
-            name,
-            effort,
-            against_source: Largest::default(),
-            against_copy: Largest::default(),
-            growth: Largest::default(),
-        }
+    /// Measures the calls of a name on each line.
+    pub fn measured(name: &'static str, effort: Effort) -> Table {
+        let common = KINDS.iter().filter(|kind| !kind.hostile);
+        let short = common.map(|kind| (kind, kind.short()));
+        let long = KINDS.iter().map(|kind| (kind, kind.line(LONGEST)));
+        Table::of(name, calls::measured(name), short.chain(long), effort)
     }
 
-    pub fn print(mut self) {
-        self.print_times();
-        self.print_growths();
-        println!();
-        self.against_source.print("just / source");
-        self.against_copy.print("just / copy, lines without 08");
-        self.growth.print("growth of just");
+    /// Measures a line of hyphens.
+    pub fn with_hyphens(name: &'static str, effort: Effort) -> Table {
+        let lines = [(&HYPHENS, HYPHENS.line(LONGEST))].into_iter();
+        Table::of(name, calls::with_hyphens(name), lines, effort)
     }
 
-    /// Whether copying is measured beside the call.
-    fn converts(&self) -> bool {
-        self.name == "convert"
+    fn of(
+        name: &'static str,
+        calls: Vec<Call>,
+        lines: impl Iterator<Item = (&'static Kind, Vec<u8>)>,
+        effort: Effort,
+    ) -> Table {
+        let row = |(kind, line): (_, Vec<u8>)| {
+            let times = calls.iter().map(|call| times(call, &line, effort));
+            let times = times.collect();
+            Row { kind, line, times }
+        };
+        let rows = lines.map(row).collect();
+        Table { name, calls, rows }
+    }
+
+    /// How many times as fast as the source the library is, lent just enough.
+    pub fn print_ratios(&self) {
+        self.print("ratio", |row, times| {
+            self.marked(row, times.source / times.just)
+        });
+    }
+
+    /// A ratio, with a star where it is below the one wanted.
+    fn marked(&self, row: &Row, ratio: f64) -> String {
+        let short = ratio < row.kind.wanted && !self.only_copies(&row.line);
+        format!("{ratio:.1}{}", if short { '*' } else { ' ' })
     }
 
     /// Whether the call only copies the line: the source then does nothing.
     fn only_copies(&self, line: &[u8]) -> bool {
-        self.converts() && !line.contains(&0x08)
+        self.name == "convert" && !line.contains(&0x08)
     }
 
-    // ---- times
-
-    fn print_times(&mut self) {
-        print!("\n{:<18} {:<24} {:>6}", "call", "line", "bytes");
-        print!(" {:>9} {:>9} {:>9}", "just", "generous", "source");
-        print!(" {:>6} {:>6}", "ratio", "ratio");
-        println!("{}", if self.converts() { "      copy" } else { "" });
-        for job in jobs(self.name) {
-            for kind in KINDS.iter().filter(|kind| !kind.hostile) {
-                self.print_time(job, kind, &kind.short());
-            }
-            for kind in &KINDS {
-                self.print_time(job, kind, &kind.line(LONGEST));
-            }
-        }
-        for job in hyphen_jobs(self.name) {
-            self.print_time(job, &HYPHENS, &HYPHENS.line(LONGEST));
-        }
+    /// The same, lent generously, and the times themselves.
+    pub fn print_times(&self) {
+        self.print("ratio, generous", |row, times| {
+            self.marked(row, times.source / times.generous)
+        });
+        self.print("just", |_, times| format!("{:.0} ", times.just));
+        self.print("generous", |_, times| format!("{:.0} ", times.generous));
+        self.print("source", |_, times| format!("{:.0} ", times.source));
     }
 
-    fn print_time(&mut self, job: Job, kind: &Kind, line: &[u8]) {
-        let [just, generous, source] = times(job, line, self.effort);
-        let copy = self.converts().then(|| copying(line, self.effort));
-        let (call, name, bytes) = (job.to_string(), kind.name, line.len());
-        print!("{call:<18} {name:<24} {bytes:>6}");
-        print!(" {just:>9.0} {generous:>9.0} {source:>9.0}");
-        print!(" {:>6.1} {:>6.1}", source / just, source / generous);
-        println!(
-            "{}",
-            copy.map_or(String::new(), |copy| format!(" {copy:>9.0}"))
-        );
-        let place = format!("{call}, {name}, {bytes} bytes");
-        match copy {
-            Some(copy) if self.only_copies(line) => self.against_copy.add(just / copy, &place),
-            _ => self.against_source.add(just / source, &place),
+    fn print(&self, what: &str, cell: impl Fn(&Row, &Times) -> String) {
+        if self.calls.is_empty() {
+            return;
         }
-    }
-
-    // ---- growth
-
-    fn print_growths(&mut self) {
-        println!("\n{:<43} {:>43} {:>43}", "", "just", "source");
-        print!("{:<18} {:<24}", "call", "line");
-        for _ in 0..2 {
-            for len in LENGTHS {
-                print!(" {len:>8}");
-            }
-            print!("  growth");
+        let title = format!("{}: {what}", self.name);
+        print!("\n{title:<28} {:>6}", "bytes");
+        for call in &self.calls {
+            print!(" {:>7} ", label(call));
         }
         println!();
-        for job in growth_jobs(self.name) {
-            for kind in &KINDS {
-                self.print_growth(job, kind);
+        for row in &self.rows {
+            print!("{:<28} {:>6}", row.kind.name, row.line.len());
+            for times in &row.times {
+                print!(" {:>8}", cell(row, times));
             }
-        }
-        for job in hyphen_jobs(self.name) {
-            self.print_growth(job, &HYPHENS);
-        }
-        if self.converts() {
-            print!("{:<43}", "(copying alone)");
-            print_row(LENGTHS.map(|len| copying(&KINDS[0].line(len), self.effort)));
             println!();
         }
     }
+}
 
-    fn print_growth(&mut self, job: Job, kind: &Kind) {
-        let times = LENGTHS.map(|len| times(job, &kind.line(len), self.effort));
-        let (call, name) = (job.to_string(), kind.name);
-        print!("{call:<18} {name:<24}");
-        let growth = print_row(times.map(|time| time[0]));
-        print_row(times.map(|time| time[2]));
+/// Conversion beside copying the line and zeroing the rest of its buffer, for lines
+/// that are only copied.
+pub fn print_copying(table: &Table, effort: Effort) {
+    println!(
+        "\n{:<42} {:>6} {:>9} {:>9}",
+        "convert: only copied", "bytes", "just", "copy"
+    );
+    for row in table.rows.iter().filter(|row| table.only_copies(&row.line)) {
+        let (just, copy) = (row.times[0].just, copying(&row.line, effort));
+        println!(
+            "{:<28} {:>6} {just:>9.0} {copy:>9.0}",
+            row.kind.name,
+            row.line.len()
+        );
+    }
+}
+
+/// The times at four lengths, and their growth from the first to the last.
+pub fn print_growths(name: &'static str, effort: Effort) {
+    for call in calls::growing(name) {
+        let title = format!("{name} {}: growth", label(&call));
+        println!("\n{title:<24} {:>43} {:>43}", "just", "source");
+        print!("{:<24}", "");
+        for _ in 0..2 {
+            LENGTHS.iter().for_each(|len| print!(" {len:>8}"));
+            print!("  growth");
+        }
         println!();
-        if !self.only_copies(&kind.line(LONGEST)) {
-            self.growth.add(growth, &format!("{call}, {name}"));
+        for kind in &KINDS {
+            let times = LENGTHS.map(|len| times(&call, &kind.line(len), effort));
+            print!("{:<24}", kind.name);
+            print_growth(times.map(|times| times.just));
+            print_growth(times.map(|times| times.source));
+            println!();
         }
     }
 }
 
-/// Prints times for the lengths, and their growth, which is returned.
-fn print_row(times: [f64; 4]) -> f64 {
-    for time in times {
-        print!(" {time:>8.0}");
-    }
-    let growth = times[3] / times[0];
-    print!(" {growth:>7.1}");
-    growth
-}
-
-/// The jobs whose times are printed.
-fn jobs(name: &str) -> Vec<Job> {
-    match name {
-        "convert" => vec![Job::Convert],
-        "read" => vec![Job::Read],
-        "rows" => rows(&[(1, 1), (40, 1), (80, 1), (1, 2), (40, 2), (80, 2)]),
-        "height" => vec![Job::Height { width: 80, mode: 2 }],
-        "draw_window" => vec![Job::DrawWindow { start: 0, end: 80 }],
-        _ => vec![Job::DrawRow { width: 80, mode: 2 }],
-    }
-}
-
-/// The jobs whose growth is printed.
-fn growth_jobs(name: &str) -> Vec<Job> {
-    match name {
-        "rows" => rows(&[(1, 1), (1, 2), (80, 2)]),
-        _ => jobs(name),
-    }
-}
-
-fn rows(widths_and_modes: &[(usize, usize)]) -> Vec<Job> {
-    let each = widths_and_modes.iter();
-    each.map(|&(width, mode)| Job::Rows { width, mode })
-        .collect()
-}
-
-/// The jobs for a line of hyphens.
-fn hyphen_jobs(name: &str) -> Vec<Job> {
-    let (width, modes) = (0, [1, 2].into_iter());
-    match name {
-        "rows" => modes.map(|mode| Job::Rows { width, mode }).collect(),
-        "height" => modes.map(|mode| Job::Height { width, mode }).collect(),
-        _ => Vec::new(),
-    }
-}
-
-/// Times of the library with just enough memory and with generous memory, and of
-/// the source. The library's answers are compared with the oracle's first.
-fn times(job: Job, line: &[u8], effort: Effort) -> [f64; 3] {
-    let expected = job.expected(line);
-    assert_eq!(expected.number, 0, "{job} is refused");
-    let just = just(line, &expected);
-    let generous = generous(just);
-    let mut memory = Memory::new(generous);
-    for sizes in [generous, just] {
-        let answer = job.library(line, &mut memory, sizes);
-        assert!(memory.holds(answer, &expected), "{job}: a wrong answer");
-    }
-    let [mut memory, mut other] = [memory, Memory::new(generous)];
-    medians(
-        effort,
-        [
-            &mut || {
-                black_box(job.library(black_box(line), &mut memory, just));
-            },
-            &mut || {
-                black_box(job.library(black_box(line), &mut other, generous));
-            },
-            &mut || job.source(line),
-        ],
-    )
-}
-
-/// One call on a line of a kind, with just enough memory: what bench/count counts.
-pub fn once(name: &str, kind: &Kind, len: usize) {
-    let (job, line) = (growth_jobs(name)[0], kind.line(len));
-    let sizes = just(&line, &job.expected(&line));
-    black_box(job.library(&line, &mut Memory::new(sizes), sizes));
-    println!("{}", kind.name);
-}
-
-/// The time of copying a line into its conversion buffer and zeroing the rest.
-fn copying(line: &[u8], effort: Effort) -> f64 {
-    let mut conv = Memory::new([8 * line.len(), 0, 0, 0]).conv;
-    let [time] = medians(
-        effort,
-        [&mut || {
-            let (copy, rest) = conv.split_at_mut(line.len());
-            copy.copy_from_slice(black_box(line));
-            rest.fill(0);
-            black_box(&mut conv);
-        }],
-    );
-    time
+fn print_growth(times: [f64; 4]) {
+    times.iter().for_each(|time| print!(" {time:>8.0}"));
+    print!(" {:>7.1}", times[3] / times[0]);
 }

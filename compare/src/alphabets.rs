@@ -59,6 +59,20 @@ pub const DRAWN: Alphabet = &[
     b"\x1B(0", b"\x1B(B", b"\x1B]8;;u\x07", b"\n",
 ];
 
+/// What the attributes of a drawing come from, and what they are seen on.
+#[rustfmt::skip]
+pub const ATTRIBUTES: Alphabet = &[
+    b"a", b"q\x01", b"\xFF", b"\x1B[m", b"\x1B[1;3;31m", b"\x1B[22;4;48;5;9m", b"\x1B[7;58;2;1;2;3m",
+    b"\x1B]8;;u\x07", b"\x1B]8;;\x1B\\", b"\x1B[K", b"\x1B(0", b"\x1B(B",
+];
+
+/// Clusters that are drawn wider than they are wrapped, or wider than two columns.
+#[rustfmt::skip]
+pub const SHIFTED: Alphabet = &[
+    b"a", b" ", b"\t", b"\xCC\x81", b"\xF3\xA0\x84\x80", b"\xE6\xBC\xA2", b"\xE1\x84\x80",
+    b"\xF0\x9F\x87\xA6",
+];
+
 /// Each class of scalars, one of each width where there are several, and 08.
 #[rustfmt::skip]
 pub const CLASSES: Alphabet = &[

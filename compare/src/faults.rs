@@ -59,7 +59,7 @@ fn try_fault(fault: Fault, cases: &[Case]) -> (usize, usize) {
             let fault = library.difference(case, &case.answer(), answer);
             found += usize::from(fault.is_some());
         } else {
-            library.take_back();
+            library.take_back(case);
         }
     }
     (planted, found)

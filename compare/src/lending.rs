@@ -1,19 +1,23 @@
 //! Sizes lent, at and around what a call needs.
 
 use oracle::random::Random;
-use oracle::Call;
+use oracle::{Call, Case, Sizes};
 
-/// Lends the call sizes around its need; any of them may be too small.
-pub fn lend(random: &mut Random, call: &mut Call, line: &[u8]) {
-    let conv = 8 * line.len();
-    call.lend([conv, usize::MAX, usize::MAX, usize::MAX]);
-    let answer = call.answer(line);
+/// The call with sizes lent around its need; any of them may be too small.
+pub fn around_need(random: &mut Random, call: Call, line: &[u8]) -> Case {
+    let sizes = need(&call, line).map(|need| around(random, need));
+    Case::new(line, call, sizes)
+}
+
+/// What the call needs; where it is refused whatever is lent, what reading needs.
+pub fn need(call: &Call, line: &[u8]) -> Sizes {
+    let answer = call.ample_answer(line);
+    let matches = call.matches().to_vec();
     let spans = match answer.number {
         0 => answer.records.len(),
-        _ => oracle::read(line, call.matches(), conv, usize::MAX).count,
+        _ => Call::Read { matches }.ample_answer(line).count,
     };
-    let need = [conv, spans, answer.pairs.len(), answer.list.len()];
-    call.lend(need.map(|need| around(random, need)));
+    [8 * line.len(), spans, answer.pairs.len(), answer.list.len()]
 }
 
 fn around(random: &mut Random, need: usize) -> usize {
@@ -26,4 +30,36 @@ fn around(random: &mut Random, need: usize) -> usize {
         65..=78 => need + random.below(40),
         _ => need + random.between(40, 5_000),
     }
+}
+
+/// Much more than a short line needs.
+const MUCH: usize = 20_000;
+
+/// Each buffer lent nothing, one item too few, just enough, one more and much more,
+/// in every combination.
+pub fn each_choice(call: &Call, line: &[u8]) -> Vec<Sizes> {
+    let mut choices = vec![need(call, line)];
+    for index in (0..4).filter(|&index| call.is_lent()[index]) {
+        choices = choices
+            .into_iter()
+            .flat_map(|sizes| around_one(sizes, index))
+            .collect();
+    }
+    choices
+}
+
+fn around_one(sizes: Sizes, index: usize) -> [Sizes; 5] {
+    let need = sizes[index];
+    [0, need.saturating_sub(1), need, need + 1, need + MUCH].map(|size| {
+        let mut sizes = sizes;
+        sizes[index] = size;
+        sizes
+    })
+}
+
+/// Change lists of every size up to one more than is needed.
+pub fn each_list(call: &Call, line: &[u8]) -> Vec<Sizes> {
+    let [conv, spans, rows, list] = need(call, line);
+    let sizes = (0..=list + 1).map(|list| [conv, spans, rows, list]);
+    sizes.collect()
 }

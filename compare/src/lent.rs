@@ -8,7 +8,7 @@ const GUARD: usize = 64;
 const SPARE: usize = 16_384;
 
 /// A place in lent memory, or beside it.
-#[derive(Clone, Copy)]
+#[derive(Clone, Copy, Debug)]
 pub enum Place {
     Before,
     First,

@@ -4,7 +4,7 @@ use crate::faults::Fault;
 use crate::lent::Lent;
 use console_lines::Span;
 use oracle::format::answer_text;
-use oracle::{Answer, Call, Case, Record};
+use oracle::{Answer, Case, Record};
 use std::fmt;
 
 const BYTE: u8 = 0xA7;
@@ -94,19 +94,15 @@ impl Library {
         let same = answer.number == expected.number
             && answer.count == expected.count
             && self.buffers_hold(expected);
-        let mut faults = self.memory_faults(case);
+        let mut faults = Vec::new();
         if !same {
             let answer = answer_text(&case.call, &self.whole_answer(answer));
-            faults.insert(0, format!("= {answer}"));
+            faults.push(format!("= {answer}"));
         }
-        self.take_back();
-        if self.calls.is_multiple_of(CALLS_BETWEEN_WHOLE_CHECKS) && !self.untouched() {
-            faults.push("memory far outside was written by this call or one before".to_string());
-        }
+        faults.extend(self.take_back(case));
         if faults.is_empty() {
             return None;
         }
-        self.restore();
         let expected = answer_text(&case.call, expected);
         Some(format!(
             "{case} = {expected}\n  library: {}",
@@ -115,37 +111,16 @@ impl Library {
     }
 
     pub fn call(&mut self, case: &Case) -> console_lines::Answer {
-        let [conv, spans, rows, list] = case.call.lent();
+        let [conv, spans, rows, list] = case.sizes();
         let line = self.line.lend_copy(&case.line);
         let matches = self.matches.lend_copy(case.call.matches());
-        let (conv, spans) = (self.conv.lend(conv), self.spans.lend(spans));
-        let (rows, list) = (self.rows.lend(rows), self.list.lend(list));
-        match case.call {
-            Call::Convert { .. } => console_lines::convert(line, conv),
-            Call::Read { .. } => console_lines::read(line, matches, conv, spans),
-            Call::Rows { width, mode, .. } => {
-                console_lines::rows(line, width, mode, conv, spans, rows)
-            }
-            Call::Height { width, mode, .. } => {
-                console_lines::height(line, width, mode, conv, spans)
-            }
-            Call::DrawWindow {
-                current,
-                start,
-                end,
-                ..
-            } => console_lines::draw_window(line, matches, current, start, end, conv, spans, list),
-            Call::DrawRow {
-                current,
-                first,
-                count,
-                width,
-                mode,
-                ..
-            } => console_lines::draw_row(
-                line, matches, current, first, count, width, mode, conv, spans, list,
-            ),
-        }
+        let lent = console_lines::Lent {
+            conv: self.conv.lend(conv),
+            spans: self.spans.lend(spans),
+            rows: self.rows.lend(rows),
+            list: self.list.lend(list),
+        };
+        console_lines::make(&case.call, line, matches, lent)
     }
 
     fn buffers_hold(&self, expected: &Answer) -> bool {
@@ -202,7 +177,7 @@ impl Library {
     }
 
     /// What the library returned and left, zeros included.
-    fn whole_answer(&self, answer: console_lines::Answer) -> Answer {
+    pub fn whole_answer(&self, answer: console_lines::Answer) -> Answer {
         Answer {
             number: answer.number,
             count: answer.count,
@@ -213,8 +188,10 @@ impl Library {
         }
     }
 
-    /// Fills what was lent with the pattern again.
-    pub fn take_back(&mut self) {
+    /// Fills what was lent with the pattern again. What the call did to memory that is
+    /// not lent for writing is returned, as text.
+    pub fn take_back(&mut self, case: &Case) -> Vec<String> {
+        let mut faults = self.memory_faults(case);
         self.line.take_back();
         self.matches.take_back();
         self.conv.take_back();
@@ -222,6 +199,13 @@ impl Library {
         self.rows.take_back();
         self.list.take_back();
         self.calls += 1;
+        if self.calls.is_multiple_of(CALLS_BETWEEN_WHOLE_CHECKS) && !self.untouched() {
+            faults.push("memory far outside was written by this call or one before".to_string());
+        }
+        if !faults.is_empty() {
+            self.restore();
+        }
+        faults
     }
 
     /// Whether all of the memory holds the pattern.

@@ -71,6 +71,33 @@ pub fn sequences() -> Lines {
     }
 }
 
+/// Every byte with line drawing on, off again, off, and never on.
+pub fn line_drawn() -> Lines {
+    const BEFORE: [&[u8]; 4] = [b"\x1B(0", b"\x1B(0q\x1B(B", b"\x1B(B", b"q"];
+    let line = |number: usize| [BEFORE[number % 4], &[(number / 4) as u8], b"x"].concat();
+    Lines {
+        count: 256 * BEFORE.len(),
+        line: Box::new(line),
+    }
+}
+
+/// A few short lines.
+pub fn few() -> Lines {
+    const FEW: [&[u8]; 7] = [
+        b"",
+        b"a",
+        b"ab c",
+        b"a\tb\n",
+        b"\xE6\xBC\xA2",
+        b"\xF3\xA0\x84\x80\xE6\xBC\xA2",
+        b"\xFF-a\x08a",
+    ];
+    Lines {
+        count: FEW.len(),
+        line: Box::new(|number| FEW[number].to_vec()),
+    }
+}
+
 /// One of so many random lines has the next of all lengths.
 const LONG_ONE_IN: usize = 50;
 

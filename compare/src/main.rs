@@ -2,6 +2,7 @@
 
 mod alphabets;
 mod calls;
+mod demand3;
 mod faults;
 mod lending;
 mod lent;
@@ -11,13 +12,13 @@ mod options;
 mod orders;
 mod sets;
 mod tally;
+mod threads;
 
 use library::Library;
 use options::Options;
 use oracle::{Call, Case};
 use sets::Set;
 use std::process::ExitCode;
-use std::thread;
 use std::time::Instant;
 use tally::{grouped, Tally};
 
@@ -35,25 +36,37 @@ fn main() -> ExitCode {
     if !missing.is_empty() {
         println!("not in the library: {}", missing.join(", "));
     }
-    if options.faults {
-        plant_faults(&there, options.seed)
+    let good = if options.faults {
+        plant_faults(&there, &options)
+    } else if options.demand3 {
+        demand3::run(&options)
     } else {
         compare_calls(&there, &options)
-    }
-}
-
-fn plant_faults(calls: &[&'static str], seed: u64) -> ExitCode {
-    let missed = calls.iter().filter(|call| !faults::try_faults(call, seed));
-    if missed.count() == 0 && !calls.is_empty() {
-        println!("all found");
+    };
+    if good {
         ExitCode::SUCCESS
     } else {
-        println!("NOT ALL FOUND");
         ExitCode::FAILURE
     }
 }
 
-fn compare_calls(calls: &[&'static str], options: &Options) -> ExitCode {
+/// Plants faults behind the calls and, where none is singled out, in demand 3; whether
+/// all are found.
+fn plant_faults(calls: &[&'static str], options: &Options) -> bool {
+    let missed = calls
+        .iter()
+        .filter(|call| !faults::try_faults(call, options.seed));
+    let mut good = missed.count() == 0 && !calls.is_empty();
+    if options.is_whole() {
+        good &= demand3::try_faults(options.seed);
+    }
+    println!("{}", if good { "all found" } else { "NOT ALL FOUND" });
+    good
+}
+
+/// Compares the calls and, where none is singled out, runs demand 3; whether all is
+/// equal and the demand holds.
+fn compare_calls(calls: &[&'static str], options: &Options) -> bool {
     let start = Instant::now();
     let mut total = Tally::default();
     for call in calls {
@@ -61,20 +74,21 @@ fn compare_calls(calls: &[&'static str], options: &Options) -> ExitCode {
     }
     let seconds = start.elapsed().as_secs_f64();
     println!("total: {total}, {seconds:.1} s");
-    verdict(&total)
+    let equal = is_equal(&total);
+    let holds = !options.is_whole() || demand3::run(options);
+    equal && holds
 }
 
-fn verdict(total: &Tally) -> ExitCode {
+fn is_equal(total: &Tally) -> bool {
+    let differ = total.differences.count;
     if total.cases == 0 {
         println!("nothing compared");
-        ExitCode::FAILURE
-    } else if total.differ == 0 {
+    } else if differ == 0 {
         println!("all equal");
-        ExitCode::SUCCESS
     } else {
-        println!("NOT EQUAL: {} differ", grouped(total.differ));
-        ExitCode::FAILURE
+        println!("NOT EQUAL: {} differ", grouped(differ));
     }
+    total.cases > 0 && differ == 0
 }
 
 fn compare_call(call: &'static str, options: &Options) -> Tally {
@@ -88,7 +102,7 @@ fn compare_call(call: &'static str, options: &Options) -> Tally {
         let tally = compare_set(set, options);
         let seconds = start.elapsed().as_secs_f64();
         println!("{call}, {}: {tally}, {seconds:.1} s", set.name);
-        tally.print_differences();
+        tally.differences.print();
         whole.add(tally);
     }
     println!("{call}: {whole}; {}", whole.numbers());
@@ -101,22 +115,12 @@ fn given(call: &str, cases: &[Case]) -> Set {
     Set::of("given cases", cases.cloned().collect())
 }
 
-/// The stack of a thread: a call must do with less.
-const STACK: usize = 512 * 1_024;
-
-/// Compares a set, its cases dealt out to so many threads.
+/// Compares a set, its cases dealt out to the jobs.
 fn compare_set(set: &Set, options: &Options) -> Tally {
     let mut whole = Tally::default();
-    thread::scope(|scope| {
-        let start = |job| {
-            let thread = thread::Builder::new().stack_size(STACK);
-            thread.spawn_scoped(scope, move || compare_part(set, options, job))
-        };
-        let jobs: Result<Vec<_>, _> = (0..options.jobs).map(start).collect();
-        for job in jobs.expect("threads") {
-            whole.add(job.join().expect("a thread of the comparison"));
-        }
-    });
+    for tally in threads::each_job(options.jobs, |job| compare_part(set, options, job)) {
+        whole.add(tally);
+    }
     whole
 }
 

@@ -4,6 +4,7 @@ use oracle::{Call, Case};
 use std::fs;
 
 pub const USAGE: &str = "usage: compare [--call NAME]... [--quick] [--jobs N] [--seed N] [--trace]
+       compare --demand3 [--quick] [--jobs N] [--seed N]
        compare --cases FILE [--trace]
        compare --faults [--call NAME]...";
 
@@ -21,6 +22,8 @@ pub struct Options {
     pub trace: bool,
     /// Plants faults, to see that they are found.
     pub faults: bool,
+    /// Runs demand 3 alone.
+    pub demand3: bool,
     /// Cases to compare in place of the sets.
     pub cases: Option<Vec<Case>>,
 }
@@ -34,6 +37,7 @@ impl Options {
             seed: 1,
             trace: false,
             faults: false,
+            demand3: false,
             cases: None,
         };
         while let Some(argument) = arguments.next() {
@@ -45,6 +49,7 @@ impl Options {
                 "--seed" => options.seed = number(&value()?)?,
                 "--trace" => options.trace = true,
                 "--faults" => options.faults = true,
+                "--demand3" => options.demand3 = true,
                 "--cases" => options.cases = Some(cases(&value()?)?),
                 _ => return Err(format!("no option {argument}")),
             }
@@ -54,6 +59,11 @@ impl Options {
 
     pub fn wants(&self, name: &str) -> bool {
         self.calls.is_empty() || self.calls.iter().any(|call| call == name)
+    }
+
+    /// Whether no call or case is singled out.
+    pub fn is_whole(&self) -> bool {
+        self.calls.is_empty() && self.cases.is_none()
     }
 
     /// The step from one case of a set to the next.

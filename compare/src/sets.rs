@@ -1,12 +1,15 @@
 //! The sets of cases for each call.
 
-use crate::alphabets::{self, Alphabet};
-use crate::calls::{self, WIDTHS};
-use crate::lending::lend;
-use crate::lines::{self, scalars, sequences, short, Context, Lines};
+use crate::alphabets::{self, Alphabet, ATTRIBUTES, DRAWN as SPANS, SEARCHED, SHIFTED};
+use crate::calls::{self, MODES, WIDTHS};
+use crate::lending;
+use crate::lines::{self, few, line_drawn, scalars, sequences, short, Context, Lines};
 use crate::orders::orders;
 use oracle::random::Random;
-use oracle::{sample, Call, Case, NONE};
+use oracle::{sample, Call, Case, Sizes};
+
+/// Makes a call for a line.
+type AnyCall = fn(&mut Random, &[u8]) -> Call;
 
 /// Cases that are made from their numbers.
 pub struct Set {
@@ -38,7 +41,11 @@ const RANDOM: usize = 2_000_000;
 /// The sets for a call, the oracle's sample first.
 pub fn sets(call: &'static str, seed: u64) -> Vec<Set> {
     let maker = Maker { call, seed };
-    let mut sets = vec![Set::of("the oracle's sample", sample(call, seed))];
+    let mut sets = vec![
+        Set::of("the oracle's sample", sample(call, seed)),
+        maker.each("numbers at each limit", few(), calls::at_limits(call)),
+        maker.lent("sizes lent", short(SPANS, 2), lending::each_choice),
+    ];
     sets.extend(match call {
         "convert" => maker.convert(),
         "read" => maker.read(),
@@ -69,21 +76,17 @@ const READ: &[Context] = &[
     (b"\x1B[m", b""),
 ];
 const WRAPPED: &[Context] = &[(b"", b""), (b"a", b"b c")];
-const DRAWN: &[Context] = &[(b"a", b"\xFF"), (b"\x1B(0", b"")];
+const DRAWN: &[Context] = &[(b"a", b"\xFF"), (b"\x1B(0", b""), (b"\x1B(0\x1B(B", b"")];
 
-// ---- arguments that each line is tried with
+// ---- arguments of row drawings
 
-const MODES: [usize; 3] = [0, 1, 2];
-const STARTS: [usize; 7] = [0, 1, 2, 3, 4, 8, 9];
-const ENDS: [usize; 11] = [0, 1, 2, 3, 4, 5, 8, 9, 10, 16, 80];
-const DRAWN_WIDTHS: [usize; 5] = [0, 1, 2, 4, 8];
-
-/// Takes one of the items by the number, and takes it off the number.
-fn take<T: Copy>(number: &mut usize, items: &[T]) -> T {
-    let item = items[*number % items.len()];
-    *number /= items.len();
-    item
-}
+/// First rows and counts, inside the rows of a short line and beyond.
+#[rustfmt::skip]
+const ROWS: &[(usize, usize)] = &[
+    (0, 1), (1, 1), (2, 1), (3, 1), (9, 1), (0, 2), (1, 2), (4, 9), (0, 65_535), (1, 65_535),
+    (65_535, 65_535), (0, 0), (1, 0), (0, 65_536), (65_536, 1),
+];
+const NARROW_ROWS: &[(usize, usize)] = &[(0, 1), (1, 1), (2, 1), (1, 2), (9, 1)];
 
 #[derive(Clone, Copy)]
 struct Maker {
@@ -92,10 +95,6 @@ struct Maker {
 }
 
 impl Maker {
-    fn random(self, number: usize) -> Random {
-        Random::new(self.seed.rotate_left(40) ^ number as u64)
-    }
-
     /// A set whose cases are a line, a call on it, and sizes lent around the need.
     fn set(
         self,
@@ -104,17 +103,16 @@ impl Maker {
         make: impl Fn(&mut Random, usize) -> (Vec<u8>, Call) + Sync + 'static,
     ) -> Set {
         let case = move |number| {
-            let mut random = self.random(number);
-            let (line, mut call) = make(&mut random, number);
-            lend(&mut random, &mut call, &line);
-            Case { line, call }
+            let mut random = Random::of_case(self.seed, number);
+            let (line, call) = make(&mut random, number);
+            lending::around_need(&mut random, call, &line)
         };
         let case = Box::new(case);
         Set { name, count, case }
     }
 
     /// A call on every line.
-    fn every(self, name: &'static str, lines: Lines, call: fn(&mut Random, &[u8]) -> Call) -> Set {
+    fn every(self, name: &'static str, lines: Lines, call: AnyCall) -> Set {
         self.set(name, lines.count, move |random, number| {
             let line = (lines.line)(number);
             let call = call(random, &line);
@@ -122,25 +120,27 @@ impl Maker {
         })
     }
 
-    /// Each of so many calls on every line.
-    fn each(
-        self,
-        name: &'static str,
-        lines: Lines,
-        calls: usize,
-        call: impl Fn(usize) -> Call + Sync + 'static,
-    ) -> Set {
-        self.set(name, lines.count * calls, move |_, number| {
-            ((lines.line)(number / calls), call(number % calls))
+    /// Each of the calls on every line.
+    fn each(self, name: &'static str, lines: Lines, calls: Vec<Call>) -> Set {
+        self.set(name, lines.count * calls.len(), move |_, number| {
+            let (line, call) = (number / calls.len(), number % calls.len());
+            ((lines.line)(line), calls[call].clone())
         })
     }
 
-    fn random_lines(
-        self,
-        name: &'static str,
-        alphabet: Alphabet,
-        call: fn(&mut Random, &[u8]) -> Call,
-    ) -> Set {
+    /// A few calls on every line, each with each of the sizes lent.
+    fn lent(self, name: &'static str, lines: Lines, sizes: fn(&Call, &[u8]) -> Vec<Sizes>) -> Set {
+        let mut cases = Vec::new();
+        for line in (0..lines.count).map(lines.line) {
+            for call in calls::few(self.call) {
+                let sizes = sizes(&call, &line).into_iter();
+                cases.extend(sizes.map(|sizes| Case::new(&line, call.clone(), sizes)));
+            }
+        }
+        Set::of(name, cases)
+    }
+
+    fn random_lines(self, name: &'static str, alphabet: Alphabet, call: AnyCall) -> Set {
         self.set(name, RANDOM, move |random, number| {
             let line = lines::random(random, alphabet, number);
             let call = call(random, &line);
@@ -150,7 +150,7 @@ impl Maker {
 
     fn convert(self) -> Vec<Set> {
         use alphabets::{CLASSES, STRUCK as CLUSTERS, STRUCK_BYTES};
-        let call = |_: &mut Random, _: &[u8]| Call::Convert { conv: 0 };
+        let call = |_: &mut Random, _: &[u8]| Call::Convert;
         vec![
             self.every("short lines of bytes", short(STRUCK_BYTES, 6), call),
             self.every("short lines of clusters", short(CLUSTERS, 7), call),
@@ -161,12 +161,14 @@ impl Maker {
     }
 
     fn read(self) -> Vec<Set> {
-        use alphabets::{CLASSES, LEFT_OUT, LINKS, PARAMETERS, SEARCHED, TELLING_BYTES};
+        use alphabets::{CLASSES, LEFT_OUT, LINKS, PARAMETERS, TELLING_BYTES};
         let plain = |_: &mut Random, _: &[u8]| calls::reading(Vec::new());
         let matched =
             |random: &mut Random, line: &[u8]| calls::reading(calls::any_matches(random, line));
-        let one = |number| calls::reading(calls::digits(number, 10, 2));
-        let two = |number| calls::reading(calls::digits(number, 5, 4));
+        let [one, two] = [(10, 2), (5, 4)].map(|(base, count)| {
+            let matches = calls::each_matches(base, count).into_iter();
+            matches.map(calls::reading).collect()
+        });
         vec![
             self.every("short lines of bytes", short(TELLING_BYTES, 5), plain),
             self.every("short style orders", short(PARAMETERS, 6), plain),
@@ -175,8 +177,8 @@ impl Maker {
             self.every("every scalar", scalars(READ), plain),
             self.every("sequences of bytes", sequences(), plain),
             self.every("sequences at ESC", orders(), plain),
-            self.each("short lines, one match", short(SEARCHED, 4), 100, one),
-            self.each("short lines, two matches", short(SEARCHED, 3), 625, two),
+            self.each("short lines, one match", short(SEARCHED, 4), one),
+            self.each("short lines, two matches", short(SEARCHED, 3), two),
             self.every("short lines, any matches", short(LEFT_OUT, 6), matched),
             self.every("sequences at ESC, any matches", orders(), matched),
             self.random_lines("random lines", TELLING_BYTES, plain),
@@ -187,76 +189,65 @@ impl Maker {
     /// Rows and height.
     fn wrapped(self) -> Vec<Set> {
         use alphabets::{WIDTHS_OF_SPANS, WORDS};
-        let rows = self.call == "rows";
-        let any = if rows {
-            calls::any_rows
-        } else {
-            calls::any_height
+        let any = match self.call {
+            "rows" => calls::any_rows,
+            _ => calls::any_height,
         };
-        let each = move |mut number| {
-            let width = take(&mut number, &WIDTHS);
-            calls::wrapping(rows, width, take(&mut number, &MODES))
-        };
-        let narrow = move |number| calls::wrapping(rows, number + 1, number + 1);
-        let count = WIDTHS.len() * MODES.len();
+        let each = calls::each_wrapping(self.call, &WIDTHS, &MODES);
+        let narrow = [1, 2].map(|number| calls::wrapping(self.call, number, number));
+        let (words, spans) = (short(WORDS, 5), short(WIDTHS_OF_SPANS, 4));
         vec![
-            self.each(
-                "short words, each width and mode",
-                short(WORDS, 5),
-                count,
-                each,
-            ),
-            self.each(
-                "short spans, each width and mode",
-                short(WIDTHS_OF_SPANS, 4),
-                count,
-                each,
-            ),
+            self.each("short words, each width and mode", words, each.clone()),
+            self.each("short spans, each width and mode", spans, each),
             self.every("short words", short(WORDS, 7), any),
-            self.each("every scalar", scalars(WRAPPED), 2, narrow),
+            self.each("every scalar", scalars(WRAPPED), narrow.to_vec()),
             self.random_lines("random lines", WORDS, any),
         ]
     }
 
     fn draw_window(self) -> Vec<Set> {
-        let each = |mut number| {
-            let start = take(&mut number, &STARTS);
-            calls::drawn_window(Vec::new(), NONE, start, take(&mut number, &ENDS))
-        };
-        let whole = |_: &mut Random, _: &[u8]| calls::drawn_window(Vec::new(), NONE, 0, 80);
-        let count = STARTS.len() * ENDS.len();
-        vec![
-            self.each(
-                "short lines, each window",
-                short(alphabets::DRAWN, 3),
-                count,
-                each,
-            ),
-            self.every("short lines", short(alphabets::DRAWN, 5), calls::any_window),
-            self.every("every scalar", scalars(DRAWN), whole),
-            self.every("sequences at ESC", orders(), whole),
-            self.random_lines("random lines", alphabets::DRAWN, calls::any_window),
-        ]
+        let each = calls::each_window(26);
+        let mut sets = vec![
+            self.each("short lines, each window", short(SPANS, 3), each.clone()),
+            self.each("shifted columns, each window", short(SHIFTED, 3), each),
+        ];
+        sets.extend(self.drawn(calls::any_window));
+        sets
     }
 
     fn draw_row(self) -> Vec<Set> {
-        let each = |mut number| {
-            let width = take(&mut number, &DRAWN_WIDTHS);
-            let mode = take(&mut number, &MODES);
-            let first = take(&mut number, &[0, 1, 2]);
-            let rows = take(&mut number, &[1, 2]);
-            calls::drawn_row(Vec::new(), NONE, first, rows, width, mode)
-        };
-        let count = DRAWN_WIDTHS.len() * MODES.len() * 6;
+        let each = calls::each_row(ROWS, &[0, 1, 2, 3, 4, 8, 11], &MODES);
+        let narrow = calls::each_row(NARROW_ROWS, &[0, 1, 2, 3, 5, 8, 9, 10, 16], &[1, 2]);
+        let mut sets = vec![
+            self.each("short lines, each row", short(SPANS, 3), each),
+            self.each("shifted columns, each row", short(SHIFTED, 4), narrow),
+        ];
+        sets.extend(self.drawn(calls::any_row));
+        sets
+    }
+
+    /// What both drawings are tried with.
+    fn drawn(self, any: AnyCall) -> Vec<Set> {
+        let few = calls::few(self.call);
+        let one = calls::each_search(&few, &calls::each_matches(5, 2));
+        let two = calls::each_search(&few[..1], &calls::each_matches(4, 4));
+        let searched = calls::each_search(&few[..1], &[vec![], vec![0, 1], vec![1, 2]]);
+        let whole = few[..1].to_vec();
         vec![
-            self.each(
-                "short lines, each width, mode and row",
-                short(alphabets::DRAWN, 3),
-                count,
-                each,
+            self.every("short lines", short(SPANS, 5), any),
+            self.every("short lines of attributes", short(ATTRIBUTES, 5), any),
+            self.every("shifted columns", short(SHIFTED, 6), any),
+            self.each("short lines, one match", short(SEARCHED, 3), one),
+            self.each("short lines, two matches", short(SEARCHED, 2), two),
+            self.each("line drawing of each byte", line_drawn(), searched),
+            self.lent(
+                "change lists of each size",
+                short(SPANS, 2),
+                lending::each_list,
             ),
-            self.every("short lines", short(alphabets::DRAWN, 5), calls::any_row),
-            self.random_lines("random lines", alphabets::DRAWN, calls::any_row),
+            self.each("every scalar", scalars(DRAWN), whole.clone()),
+            self.each("sequences at ESC", orders(), whole),
+            self.random_lines("random lines", SPANS, any),
         ]
     }
 }

@@ -2,16 +2,44 @@
 
 use std::fmt;
 
-/// So many differences of a set are printed, the shortest ones.
+/// So many differences are printed, the shortest ones.
 const MOST_PRINTED: usize = 20;
+
+/// Differences found, as text.
+#[derive(Default)]
+pub struct Differences {
+    pub count: usize,
+    shortest: Vec<String>,
+}
+
+impl Differences {
+    pub fn push(&mut self, text: String) {
+        self.add(Differences {
+            count: 1,
+            shortest: vec![text],
+        });
+    }
+
+    pub fn add(&mut self, other: Differences) {
+        self.count += other.count;
+        self.shortest.extend(other.shortest);
+        self.shortest.sort_by_key(String::len);
+        self.shortest.truncate(MOST_PRINTED);
+    }
+
+    pub fn print(&self) {
+        for text in &self.shortest {
+            println!("{text}");
+        }
+    }
+}
 
 #[derive(Default)]
 pub struct Tally {
     pub cases: usize,
-    pub differ: usize,
     /// How many were accepted, and how many refused by each question.
     by_number: [usize; 10],
-    differences: Vec<String>,
+    pub differences: Differences,
 }
 
 impl Tally {
@@ -19,31 +47,16 @@ impl Tally {
         self.cases += 1;
         self.by_number[number] += 1;
         if let Some(text) = difference {
-            self.differ += 1;
             self.differences.push(text);
-            self.keep_shortest();
         }
-    }
-
-    fn keep_shortest(&mut self) {
-        self.differences.sort_by_key(String::len);
-        self.differences.truncate(MOST_PRINTED);
     }
 
     pub fn add(&mut self, other: Tally) {
         self.cases += other.cases;
-        self.differ += other.differ;
         for (count, more) in self.by_number.iter_mut().zip(other.by_number) {
             *count += more;
         }
-        self.differences.extend(other.differences);
-        self.keep_shortest();
-    }
-
-    pub fn print_differences(&self) {
-        for text in &self.differences {
-            println!("{text}");
-        }
+        self.differences.add(other.differences);
     }
 
     /// How many were accepted and how many refused, by number.
@@ -60,7 +73,7 @@ impl Tally {
 
 impl fmt::Display for Tally {
     fn fmt(&self, f: &mut fmt::Formatter<'_>) -> fmt::Result {
-        let (cases, differ) = (grouped(self.cases), grouped(self.differ));
+        let (cases, differ) = (grouped(self.cases), grouped(self.differences.count));
         write!(f, "{cases} cases, {differ} differ")
     }
 }

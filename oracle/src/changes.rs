@@ -1,5 +1,6 @@
 //! The change list in bytes: document 01, "Drawing".
 
+use std::ops::Range;
 use streampager::probe::Reading;
 use termwiz::cell::CellAttributes;
 use termwiz::color::ColorAttribute;
@@ -72,17 +73,24 @@ fn colour(colour: ColorAttribute) -> [u8; 4] {
     }
 }
 
+/// The changes of a list: the kind of each, and where its body stands. None where the
+/// list is not a whole number of changes.
+pub fn places(list: &[u8]) -> Option<Vec<(u16, Range<usize>)>> {
+    let mut changes = Vec::new();
+    let mut end = 0;
+    while end < list.len() {
+        let [a, b, c, d, e, f] = *list[end..].first_chunk::<6>()?;
+        let start = end + 6;
+        end = start + u32::from_le_bytes([a, b, c, d]) as usize;
+        list.get(start..end)?;
+        changes.push((u16::from_le_bytes([e, f]), start..end));
+    }
+    Some(changes)
+}
+
 /// The changes of a list: kind and body of each.
 pub fn decode(list: &[u8]) -> Vec<(u16, &[u8])> {
-    let mut changes = Vec::new();
-    let mut rest = list;
-    while let Some((head, behind)) = rest.split_first_chunk::<6>() {
-        let [a, b, c, d, e, f] = *head;
-        let len = u32::from_le_bytes([a, b, c, d]) as usize;
-        let (body, next) = behind.split_at(len);
-        changes.push((u16::from_le_bytes([e, f]), body));
-        rest = next;
-    }
-    assert!(rest.is_empty(), "a whole number of changes");
-    changes
+    let changes = places(list).expect("a whole number of changes");
+    let changes = changes.into_iter();
+    changes.map(|(kind, body)| (kind, &list[body])).collect()
 }

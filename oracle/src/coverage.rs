@@ -1,8 +1,8 @@
 //! Counts of what a list of cases covers.
 
 use crate::answer::Answer;
+use crate::call::{Call, Case, Sizes};
 use crate::changes;
-use crate::format::{Call, Case};
 use crate::generate::{self, SINGLE_PARAMETERS};
 use std::collections::{BTreeMap, BTreeSet};
 use streampager::probe::line_drawn;
@@ -38,10 +38,9 @@ pub struct Coverage {
     parameters: BTreeSet<u32>,
     /// Texts drawn.
     texts: BTreeSet<String>,
-    /// The longest line, and the largest sizes lent: conversion buffer, spans,
-    /// rows, change list.
+    /// The longest line, and the largest sizes lent.
     longest: usize,
-    lent: [usize; 4],
+    lent: Sizes,
 }
 
 impl Coverage {
@@ -50,7 +49,7 @@ impl Coverage {
         let name = case.call.name();
         self.cases += 1;
         self.longest = self.longest.max(case.line.len());
-        for (largest, size) in self.lent.iter_mut().zip(case.call.lent()) {
+        for (largest, size) in self.lent.iter_mut().zip(case.sizes()) {
             *largest = size.max(*largest);
         }
         *self.returned.entry((name, answer.number)).or_default() += 1;

@@ -3,6 +3,7 @@
 //! with the source's panic in every drawing, and a difference is a panic here.
 
 mod answer;
+mod call;
 pub mod changes;
 pub mod coverage;
 pub mod drawn;
@@ -16,7 +17,7 @@ pub mod statements;
 pub use answer::{check_constructors, check_last_clusters, text_searched_len};
 pub use answer::{convert, draw_row, draw_window, height, read, rows};
 pub use answer::{Answer, NONE};
-pub use format::{Call, Case};
+pub use call::{ample, Call, Case, Sizes};
 pub use streampager::probe::{clip, line_drawn, Record};
 
 /// The source's own functions, without questions, records and checks around them.

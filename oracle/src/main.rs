@@ -3,7 +3,7 @@
 use oracle::coverage::Coverage;
 use oracle::format::answer_text;
 use oracle::generate;
-use oracle::noise::{self, Counts};
+use oracle::noise::{Counts, Exchange, Half, Separation};
 use oracle::random::Random;
 use oracle::statements::{self, Statement};
 use oracle::{sample as recorded, Case};
@@ -168,29 +168,29 @@ fn random(count: usize, seed: u64) -> Outcome {
 }
 
 fn demand3(count: usize, seed: u64) -> Outcome {
-    print_separation("random", noise::separation(count, seed)?);
-    print_separation("short", noise::short_separation()?);
-    print_exchange("random", noise::exchange(count, seed)?);
-    print_exchange("short", noise::short_exchange()?);
+    half::<Separation>(count, seed)?;
+    half::<Exchange>(count, seed)
+}
+
+fn half<H: Half>(count: usize, seed: u64) -> Outcome {
+    let random = (0..count).map(|case| H::random(&mut Random::of_case(seed, case)));
+    hold_half("random", random)?;
+    hold_half("short", H::short())
+}
+
+fn hold_half<H: Half>(lines: &str, cases: impl Iterator<Item = H>) -> Outcome {
+    let mut counts = Counts::default();
+    for case in cases {
+        counts.count(case.check(&mut |case| case.answer())?);
+    }
+    let Counts {
+        cases,
+        accepted,
+        further,
+    } = counts;
+    let (name, what) = (H::NAME, H::FURTHER);
+    println!("demand 3, {name}, {lines} lines: {cases}, {accepted} accepted, {further} {what}");
     Ok(())
-}
-
-fn print_separation(lines: &str, counts: Counts) {
-    let Counts {
-        cases,
-        accepted,
-        further,
-    } = counts;
-    println!("demand 3, separation, {lines} lines: {cases}, {accepted} accepted, records of {further} other calls");
-}
-
-fn print_exchange(lines: &str, counts: Counts) {
-    let Counts {
-        cases,
-        accepted,
-        further,
-    } = counts;
-    println!("demand 3, exchange, {lines} lines: {cases}, {accepted} accepted, {further} with other digits");
 }
 
 fn sample(seed: u64) -> Outcome {

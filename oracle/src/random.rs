@@ -8,6 +8,11 @@ impl Random {
         Random(seed)
     }
 
+    /// The numbers for one case of those with a seed.
+    pub fn of_case(seed: u64, case: usize) -> Random {
+        Random(seed.rotate_left(40) ^ case as u64)
+    }
+
     pub fn number(&mut self) -> u64 {
         self.0 = self.0.wrapping_add(0x9E37_79B9_7F4A_7C15);
         let mut z = self.0;

@@ -1,7 +1,7 @@
 //! The recorded sample: fixed cases, and random ones that depend on the seed.
 
+use crate::call::{Case, Sizes};
 use crate::coverage::known_parameters;
-use crate::format::Case;
 use crate::generate;
 use crate::random::Random;
 use crate::statements::{self, convert, height, read, rows};
@@ -54,11 +54,10 @@ fn stated() -> Vec<Case> {
 }
 
 /// The same call, with a change list of what it needs or of 64 bytes.
-fn snug(mut case: Case) -> Case {
-    let [conv, spans, rows, list] = case.call.lent();
+fn snug(case: Case) -> Case {
+    let [conv, spans, rows, list] = case.sizes();
     let need = case.answer().list.len().max(64);
-    case.call.lend([conv, spans, rows, list.min(need)]);
-    case
+    case.lent([conv, spans, rows, list.min(need)])
 }
 
 /// Each byte as a line, read and, where it is drawn as a mark, drawn.
@@ -214,8 +213,8 @@ fn long_lines() -> Vec<Case> {
         draw_window(&above, 0, 80),
         draw_row(&above, 0, 1, 80, 1),
     ];
-    let little = |case: &Case| with_sizes(case, [8 * 4097, 1, 2, 64]);
-    let fitting = accepted.iter().map(|case| with_sizes(case, needs(case)));
+    let little = |case: &Case| case.lent([8 * 4097, 1, 2, 64]);
+    let fitting = accepted.iter().map(|case| case.lent(needs(case)));
     fitting.chain(refused.iter().map(little)).collect()
 }
 
@@ -244,17 +243,17 @@ fn lent_sizes() -> Vec<Case> {
 /// A call with all lent sizes just enough, and with each in turn one too small.
 fn around_need(case: &Case) -> Vec<Case> {
     let enough = needs(case);
-    let mut cases = vec![with_sizes(case, enough)];
+    let mut cases = vec![case.lent(enough)];
     cases.extend((0..4).map(|index| {
         let mut sizes = enough;
         sizes[index] = sizes[index].saturating_sub(1);
-        with_sizes(case, sizes)
+        case.lent(sizes)
     }));
     cases
 }
 
 /// The sizes that an accepted call needs.
-fn needs(case: &Case) -> [usize; 4] {
+fn needs(case: &Case) -> Sizes {
     let answer = case.answer();
     [
         8 * case.line.len(),
@@ -262,12 +261,6 @@ fn needs(case: &Case) -> [usize; 4] {
         answer.pairs.len(),
         answer.list.len(),
     ]
-}
-
-fn with_sizes(case: &Case, sizes: [usize; 4]) -> Case {
-    let mut case = case.clone();
-    case.call.lend(sizes);
-    case
 }
 
 /// Mostly short lines; a few dozen are longer.
@@ -281,8 +274,7 @@ fn random_cases(seed: u64) -> Vec<Case> {
             random.between(1, 22)
         };
         let line = generate::line(&mut random, size);
-        let call = generate::call(&mut random, &line, true);
-        cases.push(Case { line, call });
+        cases.push(generate::case_on(&mut random, &line, true));
     }
     cases
 }

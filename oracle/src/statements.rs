@@ -8,8 +8,8 @@ pub use bench_lines::{bench_lines, CLIPPINGS};
 pub use corners::corners;
 
 use crate::answer::{Answer, NONE};
+use crate::call::{Call, Case};
 use crate::changes;
-use crate::format::{Call, Case};
 
 /// A case and what is stated of its answer.
 pub struct Statement {
@@ -121,52 +121,27 @@ pub fn bytes(text: &str) -> Vec<u8> {
 const AMPLE: usize = 1 << 20;
 
 pub fn convert(line: &[u8]) -> Case {
-    Case::new(
-        line,
-        Call::Convert {
-            conv: 8 * line.len(),
-        },
-    )
+    Case::new(line, Call::Convert, [8 * line.len(), 0, 0, 0])
 }
 
 pub fn read(line: &[u8], matches: &[usize]) -> Case {
     let matches = matches.to_vec();
-    let (conv, spans) = (8 * line.len(), line.len() + 4);
-    Case::new(
-        line,
-        Call::Read {
-            matches,
-            conv,
-            spans,
-        },
-    )
+    let sizes = [8 * line.len(), line.len() + 4, 0, 0];
+    Case::new(line, Call::Read { matches }, sizes)
 }
 
 pub fn rows(line: &[u8], width: usize, mode: usize) -> Case {
-    let (conv, spans, rows) = (8 * line.len(), line.len() + 1, 4 * line.len() + 2);
-    Case::new(
-        line,
-        Call::Rows {
-            width,
-            mode,
-            conv,
-            spans,
-            rows,
-        },
-    )
+    let sizes = [8 * line.len(), line.len() + 1, 4 * line.len() + 2, 0];
+    Case::new(line, Call::Rows { width, mode }, sizes)
 }
 
 pub fn height(line: &[u8], width: usize, mode: usize) -> Case {
-    let (conv, spans) = (8 * line.len(), line.len() + 1);
-    Case::new(
-        line,
-        Call::Height {
-            width,
-            mode,
-            conv,
-            spans,
-        },
-    )
+    let sizes = [8 * line.len(), line.len() + 1, 0, 0];
+    Case::new(line, Call::Height { width, mode }, sizes)
+}
+
+fn drawing(line: &[u8], call: Call) -> Case {
+    Case::new(line, call, [8 * line.len(), line.len() + 4, 0, AMPLE])
 }
 
 pub fn draw_window(line: &[u8], start: usize, end: usize) -> Case {
@@ -185,11 +160,8 @@ pub fn draw_window_with(
         current,
         start,
         end,
-        conv: 8 * line.len(),
-        spans: line.len() + 4,
-        list: AMPLE,
     };
-    Case::new(line, call)
+    drawing(line, call)
 }
 
 pub fn draw_row(line: &[u8], first: usize, count: usize, width: usize, mode: usize) -> Case {
@@ -212,11 +184,8 @@ pub fn draw_row_with(
         count,
         width,
         mode,
-        conv: 8 * line.len(),
-        spans: line.len() + 4,
-        list: AMPLE,
     };
-    Case::new(line, call)
+    drawing(line, call)
 }
 
 // ---- saying what is stated

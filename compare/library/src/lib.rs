@@ -1,5 +1,7 @@
 //! The six calls of the static library as declared in include/console_lines.h,
-//! and safe functions on slices around them.
+//! as safe functions on slices.
+
+use oracle::Call;
 
 #[repr(C)]
 #[derive(Clone, Copy, Debug, PartialEq, Eq)]
@@ -31,233 +33,93 @@ pub fn exported() -> Vec<&'static str> {
     there.map(|(name, _)| name).collect()
 }
 
-/// A C function, or, where the library does not export it, one that panics.
+/// A call with the slices that it reads, its numbers, and the slices that it writes;
+/// the C function takes each slice as a pointer and a length. Where the library does
+/// not export it, the call panics.
 macro_rules! declare {
-    ($has:ident, $name:ident($($argument:ident: $type:ty),* $(,)?)) => {
+    ($has:ident, $name:ident, $symbol:ident(
+        $($read:ident: $read_item:ty),*;
+        $($number:ident),*;
+        $($written:ident: $written_item:ty),*
+    )) => {
         #[cfg($has)]
         extern "C" {
-            fn $name($($argument: $type),*) -> Answer;
+            fn $symbol(
+                $(_: *const $read_item, _: usize,)*
+                $($number: usize,)*
+                $(_: *mut $written_item, _: usize),*
+            ) -> Answer;
         }
 
-        #[cfg(not($has))]
-        #[allow(clippy::too_many_arguments)]
-        unsafe fn $name($(_: $type),*) -> Answer {
-            panic!("the library has no {}", stringify!($name))
+        #[allow(clippy::too_many_arguments, unused_variables)]
+        pub fn $name(
+            $($read: &[$read_item],)*
+            $($number: usize,)*
+            $($written: &mut [$written_item]),*
+        ) -> Answer {
+            // SAFETY: each pointer comes from a slice with its length, and the library
+            // keeps none of them.
+            #[cfg($has)]
+            unsafe {
+                $symbol(
+                    $($read.as_ptr(), $read.len(),)*
+                    $($number,)*
+                    $($written.as_mut_ptr(), $written.len()),*
+                )
+            }
+            #[cfg(not($has))]
+            panic!("the library has no {}", stringify!($symbol))
         }
     };
 }
 
-declare!(
-    has_convert,
-    console_convert(line: *const u8, line_len: usize, conv: *mut u8, conv_len: usize)
-);
-declare!(
-    has_read,
-    console_read(
-        line: *const u8,
-        line_len: usize,
-        matches: *const usize,
-        matches_len: usize,
-        conv: *mut u8,
-        conv_len: usize,
-        spans: *mut Span,
-        spans_len: usize,
-    )
-);
-declare!(
-    has_rows,
-    console_rows(
-        line: *const u8,
-        line_len: usize,
-        width: usize,
-        mode: usize,
-        conv: *mut u8,
-        conv_len: usize,
-        spans: *mut Span,
-        spans_len: usize,
-        rows: *mut usize,
-        rows_len: usize,
-    )
-);
-declare!(
-    has_height,
-    console_height(
-        line: *const u8,
-        line_len: usize,
-        width: usize,
-        mode: usize,
-        conv: *mut u8,
-        conv_len: usize,
-        spans: *mut Span,
-        spans_len: usize,
-    )
-);
-declare!(
-    has_draw_window,
-    console_draw_window(
-        line: *const u8,
-        line_len: usize,
-        matches: *const usize,
-        matches_len: usize,
-        current: usize,
-        start: usize,
-        end: usize,
-        conv: *mut u8,
-        conv_len: usize,
-        spans: *mut Span,
-        spans_len: usize,
-        list: *mut u8,
-        list_len: usize,
-    )
-);
-declare!(
-    has_draw_row,
-    console_draw_row(
-        line: *const u8,
-        line_len: usize,
-        matches: *const usize,
-        matches_len: usize,
-        current: usize,
-        first: usize,
-        count: usize,
-        width: usize,
-        mode: usize,
-        conv: *mut u8,
-        conv_len: usize,
-        spans: *mut Span,
-        spans_len: usize,
-        list: *mut u8,
-        list_len: usize,
-    )
-);
+declare!(has_convert, convert, console_convert(line: u8; ; conv: u8));
+declare!(has_read, read, console_read(line: u8, matches: usize; ; conv: u8, spans: Span));
+declare!(has_rows, rows, console_rows(line: u8; width, mode; conv: u8, spans: Span, rows: usize));
+declare!(has_height, height, console_height(line: u8; width, mode; conv: u8, spans: Span));
+declare!(has_draw_window, draw_window, console_draw_window(
+    line: u8, matches: usize; current, start, end; conv: u8, spans: Span, list: u8
+));
+declare!(has_draw_row, draw_row, console_draw_row(
+    line: u8, matches: usize; current, first, count, width, mode; conv: u8, spans: Span, list: u8
+));
 
-// SAFETY of the calls below: each pointer comes from a slice with its length, and
-// the library keeps none of them.
-
-pub fn convert(line: &[u8], conv: &mut [u8]) -> Answer {
-    unsafe { console_convert(line.as_ptr(), line.len(), conv.as_mut_ptr(), conv.len()) }
+/// Memory lent to a call; what it is not lent is not looked at.
+pub struct Lent<'m> {
+    pub conv: &'m mut [u8],
+    pub spans: &'m mut [Span],
+    pub rows: &'m mut [usize],
+    pub list: &'m mut [u8],
 }
 
-pub fn read(line: &[u8], matches: &[usize], conv: &mut [u8], spans: &mut [Span]) -> Answer {
-    unsafe {
-        console_read(
-            line.as_ptr(),
-            line.len(),
-            matches.as_ptr(),
-            matches.len(),
-            conv.as_mut_ptr(),
-            conv.len(),
-            spans.as_mut_ptr(),
-            spans.len(),
-        )
-    }
-}
-
-pub fn rows(
-    line: &[u8],
-    width: usize,
-    mode: usize,
-    conv: &mut [u8],
-    spans: &mut [Span],
-    rows: &mut [usize],
-) -> Answer {
-    unsafe {
-        console_rows(
-            line.as_ptr(),
-            line.len(),
-            width,
-            mode,
-            conv.as_mut_ptr(),
-            conv.len(),
-            spans.as_mut_ptr(),
-            spans.len(),
-            rows.as_mut_ptr(),
-            rows.len(),
-        )
-    }
-}
-
-pub fn height(
-    line: &[u8],
-    width: usize,
-    mode: usize,
-    conv: &mut [u8],
-    spans: &mut [Span],
-) -> Answer {
-    unsafe {
-        console_height(
-            line.as_ptr(),
-            line.len(),
-            width,
-            mode,
-            conv.as_mut_ptr(),
-            conv.len(),
-            spans.as_mut_ptr(),
-            spans.len(),
-        )
-    }
-}
-
-#[allow(clippy::too_many_arguments)]
-pub fn draw_window(
-    line: &[u8],
-    matches: &[usize],
-    current: usize,
-    start: usize,
-    end: usize,
-    conv: &mut [u8],
-    spans: &mut [Span],
-    list: &mut [u8],
-) -> Answer {
-    unsafe {
-        console_draw_window(
-            line.as_ptr(),
-            line.len(),
-            matches.as_ptr(),
-            matches.len(),
+/// Makes any of the six calls, with a copy of its matches.
+pub fn make(call: &Call, line: &[u8], matches: &[usize], lent: Lent) -> Answer {
+    let Lent {
+        conv,
+        spans,
+        rows: row_list,
+        list,
+    } = lent;
+    match *call {
+        Call::Convert => convert(line, conv),
+        Call::Read { .. } => read(line, matches, conv, spans),
+        Call::Rows { width, mode } => rows(line, width, mode, conv, spans, row_list),
+        Call::Height { width, mode } => height(line, width, mode, conv, spans),
+        Call::DrawWindow {
             current,
             start,
             end,
-            conv.as_mut_ptr(),
-            conv.len(),
-            spans.as_mut_ptr(),
-            spans.len(),
-            list.as_mut_ptr(),
-            list.len(),
-        )
-    }
-}
-
-#[allow(clippy::too_many_arguments)]
-pub fn draw_row(
-    line: &[u8],
-    matches: &[usize],
-    current: usize,
-    first: usize,
-    count: usize,
-    width: usize,
-    mode: usize,
-    conv: &mut [u8],
-    spans: &mut [Span],
-    list: &mut [u8],
-) -> Answer {
-    unsafe {
-        console_draw_row(
-            line.as_ptr(),
-            line.len(),
-            matches.as_ptr(),
-            matches.len(),
+            ..
+        } => draw_window(line, matches, current, start, end, conv, spans, list),
+        Call::DrawRow {
             current,
             first,
             count,
             width,
             mode,
-            conv.as_mut_ptr(),
-            conv.len(),
-            spans.as_mut_ptr(),
-            spans.len(),
-            list.as_mut_ptr(),
-            list.len(),
-        )
+            ..
+        } => draw_row(
+            line, matches, current, first, count, width, mode, conv, spans, list,
+        ),
     }
 }

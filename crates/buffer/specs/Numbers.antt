@@ -1,8 +1,12 @@
--- Numbers as bytes.
+-- Numbers: the smaller of two, and numbers as bytes.
 use Prim.Native.Nat.{ℕ, _+_, _/_, _%_}
 use mathlib.Core.Bool.{cond}
 use mathlib.Core.List.{List, [], _∷_}
-use lib.Dec.{ltb}
+use lib.Dec.{leb, ltb}
+pub mod Laws
+
+abbrev pub smallerOf : ℕ → ℕ → ℕ
+smallerOf a b = cond (leb a b) a b
 
 -- little-endian
 unfoldable pub le2 : ℕ → List ℕ

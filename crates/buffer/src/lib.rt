@@ -1,10 +1,29 @@
-// Writing into lent memory. A buffer is written from its front with a count that saturates one past the buffer's length.
+// Lent memory. A buffer is written from its front with a count that saturates one past the buffer's length.
 ghost use mathlib.Core.Path.{_≡_};
 ghost use Prim.Native.Nat.{_+_, _-_, _≤_, _<_};
 ghost use mathlib.Core.List.{_++_};
-ghost use lib.ListN.{length, take, replicate};
+ghost use lib.ListN.{length, take, replicate, getD};
 ghost use Rattle.buffer.specs.Sink.{sink, put, emit, Copied};
-ghost use Rattle.buffer.specs.Numbers.{le2, le4, hexDigit};
+ghost use Rattle.buffer.specs.Numbers.{smallerOf, le2, le4, hexDigit};
+
+pub fn smaller(a: usize, b: usize) -> usize
+    ensures { λ r. ⌜ r ≡ smallerOf a b ⌝ }
+{
+    if a <= b {
+        return a;
+    }
+    b
+}
+
+// The byte at a place, or 0 past the end.
+pub fn byte_at(s: &[u8], at: usize) -> u8
+    ensures { λ r. ⌜ r ≡ getD (now (s .entry)) at 0 ⌝ }
+{
+    if at < s.len() {
+        return s[at];
+    }
+    0
+}
 
 // Writes one byte at the count `at`, and returns the next count.
 pub fn push_byte(out: &mut [u8], at: usize, b: u8) -> usize

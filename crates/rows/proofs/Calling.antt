@@ -23,7 +23,9 @@ use Rattle.spans.specs.Contracts.{readAs}
 use Rattle.rows.specs.Rows.{Row, rows}
 use Rattle.rows.specs.Calls.{modeOf, modeAndWidth, numbersOf, rowsCall, heightCall}
 use Rattle.rows.specs.Calls.Laws.{read-accepted, read-refused, read-passed, height-refused, height-five, height-accepted, rows-refused, rows-five, rows-six, rows-accepted}
-use Rattle.rows.specs.Contracts.{Kept, kept, keeps, column, beginning, SpansRoom, MadeWrap, largest, lineRoom, wrappingOf, decided, outcomeOf, answerOf, cleared, Called}
+use Rattle.text.specs.TextParts.{column}
+use Rattle.rows.specs.Contracts.{Kept, kept, keeps, beginning, SpansRoom, MadeWrap, largest, lineRoom, wrappingOf, decided, outcomeOf, answerOf, cleared, Called}
+use Rattle.text.specs.TextParts.{column}
 use Rattle.rows.specs.Contracts.Laws.{rows-kept, keeps-count, keeps-numbers, numbersOf-length}
 use Rattle.rows.specs.declared.Request.{Request}
 use Rattle.rows.specs.declared.Outcome.{Outcome}

@@ -17,7 +17,8 @@ use Rattle.spans.specs.Spans.ContentLaw.{textIn}
 use Rattle.spans.specs.Calls.{noRecord}
 use Rattle.rows.specs.Rows.{Wrap, tabbed}
 use Rattle.rows.specs.Rows.Laws.{Natural, unit-over, tabbed-over, splitText-over}
-use Rattle.rows.specs.Contracts.{textAt, held, on, Stepped, unitOf, textOf, recordIn, spanOf, spansOf, lastKept, LastRow, SpanRoom, SpansRoom, MadeWrap}
+use Rattle.text.specs.TextParts.{textAt}
+use Rattle.rows.specs.Contracts.{held, on, Stepped, unitOf, textOf, recordIn, spanOf, spansOf, lastKept, LastRow, SpanRoom, SpansRoom, MadeWrap}
 use Rattle.rows.specs.declared.wrap.Tally.{Tally}
 use Rattle.rows.specs.declared.wrap.WrapState.{WrapState}
 use Rattle.rows.proofs.Texts.{renamed, on-id, turn, done}

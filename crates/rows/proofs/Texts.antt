@@ -1,7 +1,6 @@
 -- Texts wrapped by clusters and by words: steps one after the other, and the loops.
 use mathlib.Core.Path.{_≡_, refl, sym, ap, _∙_}
-use Prim.Native.Nat.{ℕ, _+_, _-_, _*_, _≤_}
-use native.Mathlib.Nat.{add-zero}
+use Prim.Native.Nat.{ℕ, _+_, _-_, _*_, _≤_, _<_}
 use native.Mathlib.Omega.{arith}
 use mathlib.Core.Bool.{Bool, true, false}
 use mathlib.Core.List.{List, [], _∷_, _++_}
@@ -9,26 +8,29 @@ use mathlib.Core.Logic.{_≢_}
 use lib.ListN.{length, drop, take, length-take}
 use lib.Dec.{eqb, leb}
 use borrow.Author.Tests.{eq-eqb, ne-eqb}
-use Rattle.text.specs.Each.{All, all-nil, all-cons}
+use Rattle.text.specs.Each.{All, all-cons}
 use Rattle.text.specs.Utf8.{Scalar}
 use Rattle.text.specs.Utf8.Valid.{Valid}
 use Rattle.text.specs.Class.{Profile}
 use Rattle.text.specs.Width.{widthOf}
 use Rattle.text.specs.Cluster.{clusters}
 use Rattle.text.specs.Code.{size, firstOf, profileOf}
-use Rattle.text.specs.Code.Laws.{none-past, run-valid, run-front, width-append, FirstCluster, first-cluster}
-use Rattle.text.specs.Cluster.Laws.{clusters-first, further}
+use Rattle.text.specs.Code.Laws.{none-past, run-valid, run-front, width-append}
 use Rattle.text.specs.declared.BytePlace.{BytePlace}
+use Rattle.text.specs.declared.TextPart.{TextPart}
+use Rattle.text.specs.declared.segmentation.ClusterStep.{ClusterStep}
+use Rattle.text.specs.TextParts.{place, column, textAt}
+use Rattle.text.specs.TextParts.Laws.{first-there, behind-part}
+use Rattle.text.specs.Segmentation.{packedAt, NextClusterReady, NextCluster}
+use Rattle.text.specs.Segmentation.Laws.{packed-inside, packed-none, first-some}
 use Rattle.rows.specs.Words.{Word, words}
 use Rattle.rows.specs.Words.Laws.{firstWord, restWords, first-word-all, first-word-some, words-first}
 use Rattle.rows.specs.Rows.{Row, Wrap, wrap, pushed, unit, byClusters, byWords, longWord, oneWord, splitText}
 use Rattle.rows.specs.Rows.Laws.{over, Natural, byClusters-over, longWord-over, byWords-over}
-use Rattle.rows.specs.Contracts.{column, textAt, Measured, WordAt, WordRoom, bothOf, Kept, kept, keep, keeps, Held, held, on, Room, Stepped, advanced, unitOf, clustersOf, longWordOf, oneWordOf, wordsOf, textOf}
-use Rattle.rows.specs.declared.words.Stretch.{Stretch}
+use Rattle.rows.specs.Contracts.{WordAt, WordRoom, bothOf, Kept, kept, keep, keeps, Held, held, on, Room, Stepped, advanced, unitOf, clustersOf, longWordOf, oneWordOf, wordsOf, textOf}
 use Rattle.text.specs.declared.class.Profile as profile
 use Rattle.rows.specs.declared.wrap.WrapState.{WrapState}
 use Rattle.rows.proofs.Breaks.{word-clusters}
-use Rattle.rows.proofs.Parts.{behind-stretch}
 use Rattle.rows.proofs.Steps.{stays}
 
 -- ---- one after the other
@@ -99,27 +101,15 @@ module _ (P : Profile) (width : ℕ) where
   unfolding clustersOf byClusters unitOf
   clusters-more s rest n e v t = rw v (ap (byClusters P width t) e)
 
--- a first cluster of no bytes is none
-first-there : (P : Profile) (s : List Scalar) → (size (firstOf (clusters P s)) ≢ 0) → FirstCluster P s
-unfolding size firstOf clusters
-first-there P [] z = absurd (z refl)
-first-there P (c ∷ s) z = first-cluster P c s
-
-first-none : (P : Profile) {s : List Scalar} → All Valid s → size (firstOf (clusters P s)) ≡ 0 → s ≡ []
-unfolding size firstOf
-first-none P all-nil z = refl
-first-none P (all-cons {a = c} {s = s} v a) z =
-    let e : size (c ∷ take (further P (c ∷ []) s) s) ≡ 0 = ap (λ (gs : List (List Scalar)). size (firstOf gs)) (sym (clusters-first P c s)) ∙ z in
-    absurd (omega (arith, v .some))
-
-pub record Breaking (P : Profile) (width : ℕ) (text l₀ : List ℕ) (t₀ : WrapState) (p : BytePlace) (l : List ℕ) (t : WrapState) : Type 0 where
+pub record Breaking (P : Profile) (width : ℕ) (text l₀ : List ℕ) (t₀ : WrapState) (p : BytePlace) (u : ℕ) (l : List ℕ) (t : WrapState) : Type 0 where
   pub so : Stepping (clustersOf P width) text l₀ t₀ p l t
   pub more : t .tally .count ≤ t₀ .tally .count + p .0
+  pub scalar : u ≡ packedAt P text (p .0)
 
-pub break-begin : (P : Profile) (width n : ℕ) (text l : List ℕ) (t : WrapState) → Room t n → Breaking P width text l t (record { 0 = 0 }) l t
-break-begin P width n text l t r = record { so = record { inside = omega arith; long = refl; work = refl; low = r .low; near = omega arith }; more = omega arith }
+pub break-begin : (P : Profile) (width n : ℕ) (text l : List ℕ) (t : WrapState) (u : ℕ) → u ≡ packedAt P text 0 → Room t n → Breaking P width text l t (place 0) u l t
+break-begin P width n text l t u e r = record { so = record { inside = omega arith; long = refl; work = refl; low = r .low; near = omega arith }; more = omega arith; scalar = e }
 
-module _ (P : Profile) (width : ℕ) (text l₀ : List ℕ) (t₀ : WrapState) (p : BytePlace) (l : List ℕ) (t : WrapState) (b : Breaking P width text l₀ t₀ p l t) where
+module _ (P : Profile) (width : ℕ) (text l₀ : List ℕ) (t₀ : WrapState) (p : BytePlace) (u : ℕ) (l : List ℕ) (t : WrapState) (b : Breaking P width text l₀ t₀ p u l t) where
   abbrev now-text : List Scalar
   now-text = textAt text (p .0)
 
@@ -132,43 +122,55 @@ module _ (P : Profile) (width : ℕ) (text l₀ : List ℕ) (t₀ : WrapState) (
         more = omega (arith, b .more, b .so .inside);
       }
 
-  pub break-end : length text ≤ p .0 → Stepped l₀ t₀ (clustersOf P width (textAt text 0)) (2 * length text) (length text) l t
-  break-end h = break-done (none-past text (p .0) h)
+  pub break-end : u ≡ 0 → Stepped l₀ t₀ (clustersOf P width (textAt text 0)) (2 * length text) (length text) l t
+  break-end z = break-done (packed-none P text (p .0) u (b .scalar) z)
 
-  module _ (g : Stretch) (m : Measured P text (p .0) (firstOf (clusters P now-text)) g) where
-    pub break-stop : g .end .0 ≡ p .0 → Stepped l₀ t₀ (clustersOf P width (textAt text 0)) (2 * length text) (length text) l t
-    break-stop h = break-done (first-none P (run-valid (drop (p .0) text)) (omega (arith, m .end)))
+  pub break-ready : (u ≢ 0) → NextClusterReady P text (p .0) u
+  break-ready z = record { inside = packed-inside P text (p .0) u (b .scalar) z; scalar = b .scalar }
 
-    pub break-turn : (l′ : List ℕ) (t′ : WrapState) → (g .end .0 ≢ p .0) → Stepped l t (unitOf width (g .width .0)) (g .width .0) 1 l′ t′ → length l′ ≡ length l
-        → Breaking P width text l₀ t₀ (g .end) l′ t′
+  module _ (g : ClusterStep) (c : NextCluster P text (p .0) g) where
+    break-further : (u ≢ 0) → p .0 < g .part .end .0
+    break-further z = omega (arith, c .part .end, first-some P text (p .0) u (b .scalar) z)
+
+    pub break-less : (u ≢ 0) → length text - g .part .end .0 < length text - p .0
+    break-less z = let h = break-further z in omega (arith, h, c .part .inside)
+
+    pub break-turn : (l′ : List ℕ) (t′ : WrapState) → (u ≢ 0) → Stepped l t (unitOf width (g .part .width .0)) (g .part .width .0) 1 l′ t′ → length l′ ≡ length l
+        → Breaking P width text l₀ t₀ (g .part .end) (g .next) l′ t′
     break-turn l′ t′ z s k =
-        let f = first-there P now-text (λ o. z (m .end ∙ rw o (add-zero (p .0)))) in
-        let r : textAt text (g .end .0) ≡ f .rest = behind-stretch P text (p .0) (firstOf (clusters P now-text)) (f .rest) g m (f .text) in
+        let m = c .part in
+        let h = break-further z in
+        let f = first-there P now-text (λ o. absurd (omega (arith, m .end))) in
+        let r : textAt text (g .part .end .0) ≡ f .rest = behind-part P text (p .0) (firstOf (clusters P now-text)) (f .rest) (g .part) m (f .text) in
         record {
           so = record {
             inside = m .inside;
             long = k ∙ b .so .long;
             work = ap (λ (x : List Scalar). on (clustersOf P width x) (held l′ t′)) r
-                ∙ turn (clustersOf P width now-text) (held l t) (b .so .work) (unitOf width (g .width .0)) (clustersOf P width (f .rest)) (held l′ t′) (clusters-more P width now-text (f .rest) (g .width .0) (f .clusters) (m .width)) (clusters-natural P width (f .rest)) (s .same);
+                ∙ turn (clustersOf P width now-text) (held l t) (b .so .work) (unitOf width (g .part .width .0)) (clustersOf P width (f .rest)) (held l′ t′) (clusters-more P width now-text (f .rest) (g .part .width .0) (f .clusters) (m .width)) (clusters-natural P width (f .rest)) (s .same);
             low = s .low;
             near = omega (arith, s .near, b .so .near, m .small, m .end);
           };
-          more = omega (arith, s .more, b .more, m .end, z);
+          more = omega (arith, s .more, b .more, h);
+          scalar = c .next;
         }
+
+pub break-none : (P : Profile) (width n : ℕ) (text l : List ℕ) (t : WrapState) → Room t n → length text ≡ 0 → Stepped l t (clustersOf P width (textAt text 0)) (2 * length text) (length text) l t
+break-none P width n text l t r h = break-done P width text l t (place 0) (packedAt P text 0) l t (break-begin P width n text l t (packedAt P text 0) refl r) (none-past text 0 (omega arith))
 
 -- ---- a word
 
 -- its text, and the text behind it
-module _ (P : Profile) (text : List ℕ) (at : ℕ) (v : Stretch) (w : WordAt P text at v) where
+module _ (P : Profile) (text : List ℕ) (at : ℕ) (v : TextPart) (w : WordAt P text at v) where
   both-part : textAt (take (v .end .0 - at) (drop at text)) 0 ≡ bothOf (firstWord (textAt text at))
   both-part =
       let n : v .end .0 - at ≡ size (bothOf (firstWord (textAt text at))) = omega (arith, w .end) in
       rw n (run-front (drop at text) (bothOf (firstWord (textAt text at))) _ (first-word-all (textAt text at)))
 
   pub behind-all : textAt text (v .end .0) ≡ restWords (textAt text at)
-  behind-all = behind-stretch P text at (bothOf (firstWord (textAt text at))) (restWords (textAt text at)) v w (first-word-all (textAt text at))
+  behind-all = behind-part P text at (bothOf (firstWord (textAt text at))) (restWords (textAt text at)) v w (first-word-all (textAt text at))
 
-module _ (P : Profile) (width : ℕ) (text : List ℕ) (at : BytePlace) (v : Stretch) (t : WrapState) (w : WordRoom P text (at .0) v t) where
+module _ (P : Profile) (width : ℕ) (text : List ℕ) (at : BytePlace) (v : TextPart) (t : WrapState) (w : WordRoom P text (at .0) v t) where
   abbrev theWord : Word
   theWord = firstWord (textAt text (at .0))
 
@@ -209,7 +211,7 @@ clusters-append P width [] hs t = refl
 clusters-append P width (g ∷ gs) hs t = clusters-append P width gs hs (unit width t (widthOf P g))
 
 -- a word is broken with its separator
-module _ (f : profile.Profile) (width : ℕ) (text : List ℕ) (at : BytePlace) (v : Stretch) (t : WrapState) (w : WordRoom (profileOf f) text (at .0) v t) where
+module _ (f : profile.Profile) (width : ℕ) (text : List ℕ) (at : BytePlace) (v : TextPart) (t : WrapState) (w : WordRoom (profileOf f) text (at .0) v t) where
   abbrev P : Profile
   P = profileOf f
 
@@ -270,7 +272,7 @@ module _ (P : Profile) (width : ℕ) (text l₀ : List ℕ) (t₀ : WrapState) (
   pub words-end : length text ≤ p .0 → Stepped l₀ t₀ (wordsOf P width (textAt text 0)) (2 * length text) (2 * length text) l t
   words-end h = word-done (none-past text (p .0) h)
 
-  module _ (v : Stretch) (w : WordAt P text (p .0) v) where
+  module _ (v : TextPart) (w : WordAt P text (p .0) v) where
     no-word : (s : List Scalar) → All Valid s → v .end .0 ≡ p .0 + size (bothOf (firstWord s)) → v .end .0 ≡ p .0 → s ≡ []
     unfolding size
     no-word [] a e h = refl

@@ -1,16 +1,17 @@
--- What the code's values say: stretches and words of a text; the state of wrapping and the lent row list, of the rows pushed.
+-- What the code's values say: words of a text; the state of wrapping and the lent row list, of the rows pushed.
 use mathlib.Core.Path.{_≡_}
 use Prim.Native.Nat.{ℕ, _+_, _-_, _*_, _/_, _≤_, _<_, _^_}
 use mathlib.Core.Bool.{Bool, true, false, cond, _&&_, _||_, not}
 use mathlib.Core.List.{List, [], _∷_, _++_}
 use lib.ListN.{length, set, take, drop, replicate}
 use lib.Dec.{eqb, leb, ltb}
-use Rattle.text.specs.declared.Column.{Column}
+use Rattle.buffer.specs.Numbers.{smallerOf}
+use Rattle.text.specs.declared.TextPart.{TextPart}
 use Rattle.text.specs.declared.Answer.{Answer}
-use Rattle.text.specs.Utf8.{Scalar, decode}
+use Rattle.text.specs.Utf8.{Scalar}
 use Rattle.text.specs.Class.{Profile}
-use Rattle.text.specs.Width.{widthOf, profile01}
-use Rattle.text.specs.Code.{runOf, size}
+use Rattle.text.specs.Width.{profile01}
+use Rattle.text.specs.TextParts.{column, textAt, Measured}
 use Rattle.text.specs.Cluster.{clusters}
 use Rattle.spans.specs.Spans.{Record}
 use Rattle.spans.specs.Spans.ContentLaw.{textIn}
@@ -18,7 +19,6 @@ use Rattle.spans.specs.Calls.{Read}
 use Rattle.spans.specs.Contracts.{readAs, ReadNumbers}
 use Rattle.rows.specs.Words.{Word, words}
 use Rattle.rows.specs.Words.Laws.{firstWord}
-use Rattle.rows.specs.declared.words.Stretch.{Stretch}
 use Rattle.rows.specs.Rows.{Row, row, Wrap, wrap, unit, byClusters, longWord, oneWord, byWords, splitText, tabbed}
 use Rattle.rows.specs.Calls.{modeAndWidth, Wrapped, rowsCall, heightCall}
 use Rattle.rows.specs.declared.Request.{Request}
@@ -28,22 +28,11 @@ use Rattle.rows.specs.declared.wrap.WrapState.{WrapState}
 use Rattle.rows.specs.declared.wrap.Wrapping.{Wrapping}
 pub mod Laws
 
--- ---- parts of a text
+-- ---- words
 
 -- a byte that belongs to a separator, or else to a word before a `-`, of those of one column
 abbrev pub byteBelongs : Bool → ℕ → Bool
 byteBelongs sep b = cond sep (eqb b 0x20) ((leb 0x21 b && leb b 0x7E) && not (eqb b 0x2D))
-
--- the text from a place on, up to a damaged byte
-abbrev pub textAt : List ℕ → ℕ → List Scalar
-textAt s p = runOf (decode (drop p s))
-
--- a stretch from a place on that holds these scalars
-pub record Measured (P : Profile) (s : List ℕ) (at : ℕ) (front : List Scalar) (r : Stretch) : Type 0 where
-  pub end : r .end .0 ≡ at + size front
-  pub width : r .width .0 ≡ widthOf P front
-  pub inside : r .end .0 ≤ length s
-  pub small : r .width .0 ≤ 2 * (r .end .0 - at)
 
 -- the bytes of the `-` that a text begins with
 unfoldable pub hyphenSize : List Scalar → ℕ
@@ -59,13 +48,10 @@ abbrev pub bothOf : Word → List Scalar
 bothOf v = v .word ++ v .sep
 
 -- the first word from a place on
-abbrev pub WordAt : Profile → List ℕ → ℕ → Stretch → Type 0
+abbrev pub WordAt : Profile → List ℕ → ℕ → TextPart → Type 0
 WordAt P s at r = Measured P s at (bothOf (firstWord (textAt s at))) r
 
 -- ---- the rows pushed
-
-abbrev pub column : ℕ → Column
-column n = record { 0 = n }
 
 -- one more, up to the largest usize
 unfoldable pub nextCount : ℕ → ℕ
@@ -156,7 +142,7 @@ pub record Room (t : WrapState) (n : ℕ) : Type 0 where
   pub room : t .position .0 + n < 2 ^ 64
 
 -- a word of a text, with room for it
-pub record WordRoom (P : Profile) (s : List ℕ) (at : ℕ) (v : Stretch) (t : WrapState) : Type 0 where
+pub record WordRoom (P : Profile) (s : List ℕ) (at : ℕ) (v : TextPart) (t : WrapState) : Type 0 where
   pub there : WordAt P s at v
   pub room : Room t (2 * (v .end .0 - at))
 
@@ -242,7 +228,7 @@ largest = 0xFFFF_FFFF_FFFF_FFFF
 
 -- the converted line of a call that is not refused 1 or 2 stands in so many bytes of a buffer
 abbrev pub lineRoom : ℕ → ℕ
-lineRoom conv = cond (leb conv 32768) conv 32768
+lineRoom conv = smallerOf conv 32768
 
 abbrev pub wrappingOf : Request → ℕ → Wrapping
 wrappingOf q conv = record { profile = record { version = 0 }; width = column (q .width); mode = q .mode; len = lineRoom conv }
@@ -257,7 +243,7 @@ decided q read rows numbers =
 unfoldable pub outcomeOf : (number rows numbers : ℕ) → Outcome
 outcomeOf number rows numbers =
     cond (eqb number 0)
-    (record { number = 0; count = rows; kept = largest; numbers = 2 * cond (leb rows (numbers / 2)) rows (numbers / 2) })
+    (record { number = 0; count = rows; kept = largest; numbers = 2 * smallerOf rows (numbers / 2) })
     (record { number = number; count = 0; kept = 0; numbers = 0 })
 
 abbrev pub answerOf : Outcome → Answer

@@ -1,9 +1,9 @@
 // Layer 3, rows: words and wrapping; the calls `rows` and `height`.
 use buffer::clear_bytes;
 use buffer::clear_numbers;
+use buffer::smaller;
 use spans::Span;
 use spans::clear_spans;
-use spans::stretches::smaller;
 use text::Answer;
 use text::Column;
 use text::class::Profile;

@@ -1,28 +1,18 @@
-// Words and clusters of a text: src/line.rs, SplitWords.
+// Words of a text: src/line.rs, SplitWords.
 use text::BytePlace;
 use text::Column;
+use text::TextPart;
 use text::class::Profile;
-use text::class::is_printable;
 use text::class::is_whitespace;
-use text::cluster::begins_cluster;
-use text::cluster::walked_end;
-use text::utf8::byte_at;
 use text::utf8::decode;
-use text::width::text_width;
 use text::width::width;
 ghost use mathlib.Core.Path.{_≡_};
 ghost use Prim.Native.Nat.{_≤_, _<_};
 ghost use lib.ListN.{length};
-ghost use Rattle.text.specs.Cluster.{clusters};
-ghost use Rattle.text.specs.Code.{profileOf, firstOf};
+ghost use Rattle.text.specs.Code.{profileOf};
+ghost use Rattle.text.specs.TextParts.{textAt, Measured};
 ghost use Rattle.rows.specs.Words.Laws.{belongs, leading};
-ghost use Rattle.rows.specs.Contracts.{byteBelongs, textAt, Measured, HyphenAt, WordAt};
-
-// A part of a text from some place on: where it ends, and its width.
-pub struct Stretch {
-    pub end: BytePlace,
-    pub width: Column,
-}
+ghost use Rattle.rows.specs.Contracts.{byteBelongs, HyphenAt, WordAt};
 
 // Is x a scalar of a separator, or else of a word before a `-`?
 fn belongs(sep: bool, x: u32) -> bool
@@ -46,7 +36,7 @@ fn byte_belongs(sep: bool, b: u8) -> bool
 }
 
 // The leading scalars that belong.
-fn leading(profile: Profile, text: &[u8], at: BytePlace, sep: bool) -> Stretch
+fn leading(profile: Profile, text: &[u8], at: BytePlace, sep: bool) -> TextPart
     requires { ⌜ at .0 ≤ length (now text) ⌝ }
     ensures { λ r. ⌜ Measured (profileOf profile) (now (text .entry)) (at .0) (leading sep (textAt (now (text .entry)) (at .0))) r ⌝ }
 {
@@ -60,17 +50,17 @@ fn leading(profile: Profile, text: &[u8], at: BytePlace, sep: bool) -> Stretch
         } else {
             let u = decode(text, p.0);
             if u.len == 0 {
-                return Stretch { end: p, width: w };
+                return TextPart { end: p, width: w };
             }
             if belongs(sep, u.code) {
                 w = Column(w.0 + width(profile, u.code));
                 p = BytePlace(p.0 + u.len);
             } else {
-                return Stretch { end: p, width: w };
+                return TextPart { end: p, width: w };
             }
         }
     }
-    Stretch { end: p, width: w }
+    TextPart { end: p, width: w }
 }
 
 // The number of bytes of the `-` at a place, or 0.
@@ -89,7 +79,7 @@ fn hyphen_len(text: &[u8], at: BytePlace) -> usize
 }
 
 // The word at a place with its separator.
-pub fn next_word(profile: Profile, text: &[u8], at: BytePlace) -> Stretch
+pub fn next_word(profile: Profile, text: &[u8], at: BytePlace) -> TextPart
     requires { ⌜ at .0 < length (now text) ⌝ }
     ensures { λ r. ⌜ WordAt (profileOf profile) (now (text .entry)) (at .0) r ⌝ }
 {
@@ -98,7 +88,7 @@ pub fn next_word(profile: Profile, text: &[u8], at: BytePlace) -> Stretch
     let columns = w.width;
     let n = hyphen_len(text, word);
     if n != 0 {
-        return Stretch {
+        return TextPart {
             end: BytePlace(word.0 + n),
             width: Column(columns.0 + 1),
         };
@@ -106,38 +96,8 @@ pub fn next_word(profile: Profile, text: &[u8], at: BytePlace) -> Stretch
     let s = leading(profile, text, word, true);
     let sep = s.end;
     let more = s.width;
-    Stretch {
+    TextPart {
         end: sep,
         width: Column(columns.0 + more.0),
-    }
-}
-
-// The cluster at a place; nothing where a damaged byte stands there.
-pub fn cluster(profile: Profile, text: &[u8], at: BytePlace) -> Stretch
-    requires { ⌜ at .0 < length (now text) ⌝ }
-    ensures { λ r. ⌜ Measured (profileOf profile) (now (text .entry)) (at .0) (firstOf (clusters (profileOf profile) (textAt (now (text .entry)) (at .0)))) r ⌝ }
-{
-    if is_printable(byte_at(text, at.0)) {
-        if is_printable(byte_at(text, at.0 + 1)) {
-            return Stretch {
-                end: BytePlace(at.0 + 1),
-                width: Column(1),
-            };
-        }
-    }
-    let u = decode(text, at.0);
-    if u.len != 0 {
-        let next = BytePlace(at.0 + u.len);
-        if begins_cluster(byte_at(text, next.0)) {
-            return Stretch {
-                end: next,
-                width: Column(width(profile, u.code)),
-            };
-        }
-    }
-    let end = BytePlace(walked_end(profile, text, at.0));
-    Stretch {
-        end: end,
-        width: Column(text_width(profile, text, at.0, end.0)),
     }
 }

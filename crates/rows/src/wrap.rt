@@ -1,20 +1,22 @@
 // Wrapping: src/line.rs, Span::split and make_wrap.
-use super::words::Stretch;
-use super::words::cluster;
 use super::words::next_word;
 use spans::Span;
 use text::BytePlace;
 use text::Column;
+use text::TextPart;
 use text::class::Profile;
+use text::segmentation::next_cluster;
+use text::segmentation::scalar_at;
 ghost use mathlib.Core.Path.{_≡_};
 ghost use Prim.Native.Nat.{_+_, _-_, _*_, _<_};
 ghost use lib.Dec.{eqb, leb};
 ghost use lib.ListN.{length, take, drop};
 ghost use Rattle.text.specs.Code.{profileOf};
+ghost use Rattle.text.specs.TextParts.{textAt};
 ghost use Rattle.rows.specs.Words.Laws.{firstWord};
 ghost use mathlib.Core.Bool.{cond};
 ghost use Rattle.rows.specs.Rows.{row, tabbed, pushed};
-ghost use Rattle.rows.specs.Contracts.{kept, keep, nextCount, tallied, Room, Stepped, advanced, unitOf, textAt, WordRoom, clustersOf, longWordOf, oneWordOf, wordsOf, textOf, spanOf, LastRow, beginning, SpanRoom, SpansRoom, MadeWrap};
+ghost use Rattle.rows.specs.Contracts.{kept, keep, nextCount, tallied, Room, Stepped, advanced, unitOf, WordRoom, clustersOf, longWordOf, oneWordOf, wordsOf, textOf, spanOf, LastRow, beginning, SpanRoom, SpansRoom, MadeWrap};
 
 // What is kept of the rows pushed: their number, the start of the row `first`, the end of the row `last`, the end of the row pushed last.
 pub struct Tally {
@@ -176,16 +178,17 @@ fn by_clusters(text: &[u8], rows: &mut [usize], wrapping: Wrapping, state: WrapS
     let profile = wrapping.profile;
     let width = wrapping.width;
     let mut t = state;
+    if text.len() == 0 {
+        return t;
+    }
     let mut p = BytePlace(0);
-    while p.0 < text.len() {
-        let g = cluster(profile, text, p);
-        let end = g.end;
-        let columns = g.width;
-        if end.0 == p.0 {
-            return t;
-        }
-        t = unit(rows, width, t, columns);
-        p = end;
+    let mut scalar = scalar_at(profile, text, 0);
+    while scalar != 0 {
+        let step = next_cluster(profile, text, p, scalar);
+        let part = step.part;
+        t = unit(rows, width, t, part.width);
+        p = part.end;
+        scalar = step.next;
     }
     t
 }
@@ -197,7 +200,7 @@ fn long_word(
     wrapping: Wrapping,
     state: WrapState,
     at: BytePlace,
-    word: Stretch,
+    word: TextPart,
 ) -> WrapState
     requires { ⌜ WordRoom (profileOf (wrapping .profile)) (now text) (at .0) word state ⌝ }
     ensures { λ r. ⌜ Stepped (now (rows .entry)) state (longWordOf (profileOf (wrapping .profile)) (wrapping .width .0) (firstWord (textAt (now (text .entry)) (at .0)))) (2 * (word .end .0 - at .0)) (word .end .0 - at .0) (now (rows .exit)) r ⌝ }
@@ -219,7 +222,7 @@ fn one_word(
     wrapping: Wrapping,
     state: WrapState,
     at: BytePlace,
-    word: Stretch,
+    word: TextPart,
 ) -> WrapState
     requires { ⌜ WordRoom (profileOf (wrapping .profile)) (now text) (at .0) word state ⌝ }
     ensures { λ r. ⌜ Stepped (now (rows .entry)) state (oneWordOf (profileOf (wrapping .profile)) (wrapping .width .0) (firstWord (textAt (now (text .entry)) (at .0)))) (2 * (word .end .0 - at .0)) (word .end .0 - at .0 + 1) (now (rows .exit)) r ⌝ }

@@ -4,21 +4,13 @@ ghost use lib.ListN.{length};
 use super::first_line::FirstLine;
 use super::first_line::nothing;
 use super::first_line::read_part;
+use buffer::smaller;
 
 // The first line, how many bytes of the line were read, and whether more are to be read.
 pub struct Input {
     pub first: FirstLine,
     pub count: usize,
     pub open: bool,
-}
-
-fn smaller(a: usize, b: usize) -> usize
-    ensures { λ r. ⌜ (r ≤ a) × (r ≤ b) ⌝ }
-{
-    if a <= b {
-        return a;
-    }
-    b
 }
 
 // Some more bytes of the input: those of the first line, then those of the line as far as it has room. A line that fills its room is

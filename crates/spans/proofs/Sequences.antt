@@ -1,16 +1,16 @@
 -- The ends of the functions that read a sequence at ESC.
-use mathlib.Core.Path.{_≡_, refl, sym}
+use mathlib.Core.Path.{_≡_, refl}
 use Prim.Native.Nat.{ℕ, zero, suc, _+_, _-_, _≤_, _<_}
 use native.Mathlib.Nat.{sub-zero, zero-sub, suc-sub-suc}
 use native.Mathlib.Numerals.{add-one}
 use native.Mathlib.Omega.{arith}
 use mathlib.Core.Bool.{Bool, true, false, cond, _&&_}
 use mathlib.Core.List.{List, [], _∷_}
-use lib.ListN.{length, take, drop, getD, length-drop, drop-of-length-le, List·getD-eq-default}
+use lib.ListN.{length, take, drop, getD, length-drop, drop-of-length-le}
 use lib.Seq.{drop-cons, take-all, slice, drop-nil, take-nil, getD-drop}
 use lib.Dec.{eqb}
-use Rattle.spans.specs.Sgr.{parameters, allowed, orders}
-use Rattle.spans.specs.Sequence.{Sequence, sgr, ignored, Found, found, missing, leading, past, ifKnown, erase, final, charset, csi, uriByte, idByte, closed, osc, parse}
+use Rattle.spans.specs.Sgr.{parameters, orders}
+use Rattle.spans.specs.Sequence.{Sequence, ignored, Found, found, missing, leading, past, ifKnown, erase, final, charset, csi, uriByte, idByte, closed, osc, parse}
 use Rattle.spans.specs.Contracts.{told, Skipped, uriAt, Scanned, ordersOf, ordersAt, parametersAt}
 use Rattle.spans.specs.declared.sequence.Sequence as code
 use Rattle.spans.specs.declared.sequence.Sequence.the-variants.{Missing}
@@ -55,9 +55,6 @@ module _ (p : ℕ → Bool) (s : List ℕ) where
   pub skip-past : (at i : ℕ) → Skipping p s at i → length s ≤ i → Skipped p s at i
   unfolding leading
   skip-past at i z h = skipped at i z (rw (drop-of-length-le s h))
-
-pub missing-byte : (s : List ℕ) (i : ℕ) → length s ≤ i → 0 ≡ getD s i 0
-missing-byte s i h = sym (List·getD-eq-default s 0 h)
 
 -- ---- behind `ESC [`
 

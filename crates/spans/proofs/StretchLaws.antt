@@ -17,7 +17,9 @@ use Rattle.spans.specs.Search.{trimmed, escapes, searchedLength, inOrder
 use Rattle.spans.specs.Spans.{Span, spansAt, spans, readPieces, Record, aRecord, recordOf, records}
 use Rattle.spans.specs.Spans.Laws.{map-append}
 use Rattle.spans.specs.Spans.Steps.{step-some}
-use Rattle.spans.specs.Contracts.{clipped, isMatch, spent, withoutNewline, pending, behindStretch, remaining, orderFrom, stretchesLeft, Sound, Opening, Opened, Waiting, Going, Moved, Settled, Counting, firstRecord, Nexted, HasNext, Begun, Started, OffsetsFrom, OffsetReady, OffsetAt, recordsFrom, matchIn, Ready, Stepped}
+use Rattle.buffer.specs.Numbers.{smallerOf}
+use Rattle.buffer.specs.Numbers.Laws.{smaller-right}
+use Rattle.spans.specs.Contracts.{isMatch, spent, withoutNewline, pending, behindStretch, remaining, orderFrom, stretchesLeft, Sound, Opening, Opened, Waiting, Going, Moved, Settled, Counting, firstRecord, Nexted, HasNext, Begun, Started, OffsetsFrom, OffsetReady, OffsetAt, recordsFrom, matchIn, Ready, Stepped}
 use Rattle.spans.specs.declared.search.Offset.{Offset}
 use Rattle.spans.specs.declared.search.Offsets.{Offsets}
 use Rattle.spans.specs.declared.reader.Matched.{Matched}
@@ -227,7 +229,7 @@ module _ (line matches : List ℕ) (c : Cursor) (z : Going line matches c) where
 -- ---- `settle`
 
 -- where the stretch ends, with bytes left or not
-pub stretch-length : (line : List ℕ) (end : ℕ) → length (take end line) ≡ clipped end (length line)
+pub stretch-length : (line : List ℕ) (end : ℕ) → length (take end line) ≡ smallerOf end (length line)
 stretch-length line end =
     cases (leb end (length line))
     (λ e. rw e (length-take-le end line (leb-true end (length line) e)))
@@ -272,11 +274,8 @@ settled-here line matches c w z e f = settle-ends line matches c c (settle-begin
 
 -- ---- `next_record`
 
-pub clip-fits : (a b end : ℕ) → end ≡ clipped a b → end ≤ b
-clip-fits a b end e = rw e (cases (leb a b) (λ f. rw f (leb-true a b f)) (λ f. rw f (omega arith)))
-
 -- behind the last span nothing is left
-nothing-left : (line matches : List ℕ) (c d : Cursor) (s : Settled line matches c d) (end : ℕ) → end ≡ clipped (d .end) (length line) → (P : Profile) → end ≤ d .place .at → remaining P line matches d ≡ []
+nothing-left : (line matches : List ℕ) (c d : Cursor) (s : Settled line matches c d) (end : ℕ) → end ≡ smallerOf (d .end) (length line) → (P : Profile) → end ≤ d .place .at → remaining P line matches d ≡ []
 unfolding remaining behindStretch pending records
 nothing-left line matches c d s end e P h =
     let k : length (take (d .end) line) ≤ d .place .at = rw (stretch-length line (d .end), ← e) h in
@@ -289,9 +288,9 @@ nothing-left line matches c d s end e P h =
     let w : drop (d .index) matches ≡ [] = drop-of-length-le matches {i = d .index} (nltb→le _ _ (rw (v .1) tt)) in
     rw (no-records P (d .matched) (take (d .end) line) (d .place .at) k, v .0, w)
 
-module _ (line matches : List ℕ) (c d : Cursor) (z : Counting line matches c) (s : Settled line matches c d) (end : ℕ) (e : end ≡ clipped (d .end) (length line)) where
+module _ (line matches : List ℕ) (c d : Cursor) (z : Counting line matches c) (s : Settled line matches c d) (end : ℕ) (e : end ≡ smallerOf (d .end) (length line)) where
   end-fits : end ≤ length line
-  end-fits = clip-fits (d .end) (length line) end e
+  end-fits = smaller-right (d .end) (length line) end e
 
   same-part : take end line ≡ take (d .end) line
   same-part =
@@ -352,7 +351,7 @@ some-records P m t at h =
     let k : 0 < length (spansAt P (matchIn m) at (drop at t)) = rw d (step-some P (matchIn m) at (getD t at 0) (drop (suc at) t)) in
     rw (length-map (spansAt P (matchIn m) at (drop at t)) recordOf) k
 
-pub has-next-is : (line matches : List ℕ) (c d : Cursor) → Sound line matches c → Settled line matches c d → (end : ℕ) → end ≡ clipped (d .end) (length line) → HasNext line matches c (ltb (d .place .at) end)
+pub has-next-is : (line matches : List ℕ) (c d : Cursor) → Sound line matches c → Settled line matches c d → (end : ℕ) → end ≡ smallerOf (d .end) (length line) → HasNext line matches c (ltb (d .place .at) end)
 unfolding remaining
 has-next-is line matches c d z s end e P =
     cases (ltb (d .place .at) end)

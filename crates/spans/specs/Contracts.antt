@@ -340,9 +340,6 @@ pub record OffsetAt (s : List ℕ) (x : ℕ) (r : Offset) : Type 0 where
 
 -- ---- stretches
 
-abbrev pub clipped : ℕ → ℕ → ℕ
-clipped a b = cond (leb a b) a b
-
 -- the stretch has no bytes left, of a line of n bytes, and another follows, with k numbers of match ranges
 abbrev pub spent : ℕ → ℕ → Cursor → Bool
 spent n k c = (leb (c .end) (c .place .at) || leb n (c .place .at)) && (isMatch (c .matched) || ltb (c .index) k)

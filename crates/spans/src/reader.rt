@@ -1,8 +1,8 @@
 // parse_spans: the spans of a stretch of a line, one after the other. A stretch ends where the slice ends.
 use super::Span;
 use super::sequence::Sequence;
-use super::sequence::byte_at;
 use super::sequence::sequence_at;
+use buffer::byte_at;
 use text::BytePlace;
 use text::class::LV;
 use text::class::LVT;

@@ -1,5 +1,5 @@
 // Reading with matches: src/search.rs, ESCAPE_SEQUENCE and trim_trailing_newline; src/line.rs, convert_offset.
-use super::sequence::byte_at;
+use buffer::byte_at;
 ghost use mathlib.Core.Path.{_≡_};
 ghost use Prim.Native.Nat.{_+_, _≤_, _<_};
 ghost use lib.ListN.{length};

@@ -3,9 +3,10 @@ use super::sgr::NextOrder;
 use super::sgr::Orders;
 use super::sgr::next_order;
 use super::sgr::scan_parameters;
+use buffer::byte_at;
 ghost use mathlib.Core.Path.{_≡_};
 ghost use Prim.Native.Nat.{_+_, _≤_};
-ghost use lib.ListN.{length, getD};
+ghost use lib.ListN.{length};
 ghost use lib.Seq.{slice};
 ghost use mathlib.Core.List.{[], _∷_};
 ghost use Rattle.spans.specs.Sgr.{parameters, orders};
@@ -20,16 +21,6 @@ pub enum Sequence {
     Ignored(usize),
     Hyperlink(usize, usize, usize),
     LineDrawing(bool, usize),
-}
-
-// The byte at a place, or 0 past the end.
-pub fn byte_at(s: &[u8], i: usize) -> u8
-    ensures { λ r. ⌜ r ≡ getD (now (s .entry)) i 0 ⌝ }
-{
-    if i < s.len() {
-        return s[i];
-    }
-    0
 }
 
 // One of @ABCDEFGHJLMPSTXZdf.

@@ -7,12 +7,13 @@ use super::search::Offsets;
 use super::search::first_offsets;
 use super::search::offset_at;
 use super::search::trimmed_len;
+use buffer::smaller;
 use text::BytePlace;
 use text::class::Profile;
 ghost use mathlib.Core.Path.{_≡_};
 ghost use lib.ListN.{length};
 ghost use Rattle.text.specs.Code.{profileOf};
-ghost use Rattle.spans.specs.Contracts.{clipped, spent, Opening, Waiting, Sound, Opened, Moved, Going, Settled, Counting, Nexted, HasNext, Begun, Started};
+ghost use Rattle.spans.specs.Contracts.{spent, Opening, Waiting, Sound, Opened, Moved, Going, Settled, Counting, Nexted, HasNext, Begun, Started};
 
 // Where a reading of a line stands: a place in a stretch, the stretch's end, the match that it is or that follows it, the next number
 // of the match ranges, and the conversion of offsets. `count` spans stand before it.
@@ -29,15 +30,6 @@ pub struct Cursor {
 pub struct NextRecord {
     pub span: Span,
     pub cursor: Cursor,
-}
-
-pub fn smaller(a: usize, b: usize) -> usize
-    ensures { λ r. ⌜ r ≡ clipped a b ⌝ }
-{
-    if a <= b {
-        return a;
-    }
-    b
 }
 
 // The stretch from `start` to match `number`, or to the line's end where there is none.

@@ -5,6 +5,8 @@ pub mod Runs
 pub mod Ascii
 pub mod Leads
 pub mod Walks
+pub mod PackedScalars
+pub mod ForwardWalk
 pub mod Backward
 pub mod Texts
 pub mod Even

@@ -8,3 +8,5 @@ pub mod Cluster
 pub mod Overstrike
 pub mod Calls
 pub mod Code
+pub mod TextParts
+pub mod Segmentation

@@ -8,6 +8,7 @@ ghost use Rattle.text.specs.Code.{converted, refusal};
 pub mod class;
 pub mod cluster;
 pub mod overstrike;
+pub mod segmentation;
 pub mod utf8;
 pub mod width;
 
@@ -17,6 +18,12 @@ pub struct BytePlace(pub usize);
 
 // A column of the screen, counted in cells.
 pub struct Column(pub usize);
+
+// A part of a text from some place on: where it ends, and its width.
+pub struct TextPart {
+    pub end: BytePlace,
+    pub width: Column,
+}
 
 // What a call returns: 0 and a count, or the number of the question that refuses it and 0.
 #[repr(C)]

@@ -15,7 +15,7 @@ pub struct Sequence {
 pub fn byte_at(s: &[u8], at: usize) -> u32
     ensures { λ r. ⌜ r ≡ getD (now (s .entry)) at 0 ⌝ }
 {
-    if at < s.len() { s[at] as u32 } else { 0 }
+    buffer::byte_at(s, at) as u32
 }
 
 // Is it a continuation byte?

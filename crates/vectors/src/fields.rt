@@ -1,4 +1,5 @@
 // The fields of a line of text: words, decimal numbers, lists of them, and hexadecimal bytes.
+use buffer::byte_at;
 ghost use Prim.Native.Nat.{_≤_};
 ghost use lib.ListN.{length};
 ghost use Rattle.io.specs.Counts.{Counts};
@@ -29,13 +30,6 @@ pub(crate) fn behind(s: &[u8], at: usize, stop: u8) -> usize
         return i + 1;
     }
     i
-}
-
-fn byte_at(s: &[u8], at: usize) -> u8 {
-    if at < s.len() {
-        return s[at];
-    }
-    0
 }
 
 // Does the word stand at `at`?

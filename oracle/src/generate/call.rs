@@ -2,8 +2,8 @@
 
 use super::line::any_line;
 use crate::answer::NONE;
+use crate::call::{Call, Case};
 use crate::drawn;
-use crate::format::{Call, Case};
 use crate::random::Random;
 
 /// A size around what is needed, mostly enough.
@@ -115,10 +115,10 @@ fn some_matches(random: &mut Random, line: &[u8], with_matches: bool) -> Vec<usi
 }
 
 /// Any of the six calls on a line.
-pub fn call(random: &mut Random, line: &[u8], with_matches: bool) -> Call {
+pub fn case_on(random: &mut Random, line: &[u8], with_matches: bool) -> Case {
     let conv = conv_size(random, line);
     match random.below(17) {
-        0 => Call::Convert { conv },
+        0 => Case::new(line, Call::Convert, [conv, 0, 0, 0]),
         1..=3 => reading(random, line, conv, with_matches),
         4..=6 => rows(random, line, conv),
         7 | 8 => height(random, line, conv),
@@ -132,83 +132,65 @@ fn spans_needed(line: &[u8], matches: &[usize]) -> usize {
     crate::read(line, matches, 8 * line.len(), usize::MAX).count
 }
 
-pub fn reading(random: &mut Random, line: &[u8], conv: usize, with_matches: bool) -> Call {
+pub fn reading(random: &mut Random, line: &[u8], conv: usize, with_matches: bool) -> Case {
     let matches = some_matches(random, line, with_matches);
     let need = spans_needed(line, &matches);
     let spans = size(random, need);
-    Call::Read {
-        matches,
-        conv,
-        spans,
-    }
+    Case::new(line, Call::Read { matches }, [conv, spans, 0, 0])
 }
 
-fn rows(random: &mut Random, line: &[u8], conv: usize) -> Call {
+fn rows(random: &mut Random, line: &[u8], conv: usize) -> Case {
     let (width, mode) = (width(random), mode(random));
     let need = spans_needed(line, &[]);
     let spans = enough(random, need);
-    let need = crate::height(line, width, mode, 8 * line.len(), usize::MAX).count;
+    let need = Call::Height { width, mode }.ample_answer(line).count;
     let rows = size(random, 2 * need);
-    Call::Rows {
-        width,
-        mode,
-        conv,
-        spans,
-        rows,
-    }
+    Case::new(line, Call::Rows { width, mode }, [conv, spans, rows, 0])
 }
 
-fn height(random: &mut Random, line: &[u8], conv: usize) -> Call {
+fn height(random: &mut Random, line: &[u8], conv: usize) -> Case {
     let need = spans_needed(line, &[]);
-    Call::Height {
-        width: width(random),
-        mode: mode(random),
-        conv,
-        spans: enough(random, need),
-    }
+    let (width, mode) = (width(random), mode(random));
+    let spans = enough(random, need);
+    Case::new(line, Call::Height { width, mode }, [conv, spans, 0, 0])
 }
 
 pub fn current(random: &mut Random) -> usize {
     random.pick(&[NONE, NONE, 0, 0, 1, 2, 7])
 }
 
-fn draw_window(random: &mut Random, line: &[u8], conv: usize, with_matches: bool) -> Call {
+fn draw_window(random: &mut Random, line: &[u8], conv: usize, with_matches: bool) -> Case {
     let matches = some_matches(random, line, with_matches);
     let need = spans_needed(line, &matches);
     let spans = enough(random, need);
     let (start, end) = window(random, line);
-    let mut call = Call::DrawWindow {
+    let call = Call::DrawWindow {
         matches,
         current: current(random),
         start,
         end,
-        conv: 8 * line.len(),
-        spans: usize::MAX,
-        list: usize::MAX,
     };
-    let need = call.answer(line).count;
-    call.lend([conv, spans, 0, size(random, need)]);
-    call
+    drawing(random, line, call, conv, spans)
 }
 
-fn draw_row(random: &mut Random, line: &[u8], conv: usize, with_matches: bool) -> Call {
+fn draw_row(random: &mut Random, line: &[u8], conv: usize, with_matches: bool) -> Case {
     let matches = some_matches(random, line, with_matches);
     let need = spans_needed(line, &matches);
     let spans = enough(random, need);
-    let mut call = Call::DrawRow {
+    let call = Call::DrawRow {
         matches,
         current: current(random),
         first: row_number(random),
         count: row_number(random) + random.pick(&[0, 1, 1, 1, 1, 1, 1, 1, 1, 1]),
         width: width(random),
         mode: mode(random),
-        conv: 8 * line.len(),
-        spans: usize::MAX,
-        list: usize::MAX,
     };
-    let need = call.answer(line).count;
-    call.lend([conv, spans, 0, size(random, need)]);
-    call
+    drawing(random, line, call, conv, spans)
+}
+
+fn drawing(random: &mut Random, line: &[u8], call: Call, conv: usize, spans: usize) -> Case {
+    let need = call.ample_answer(line).count;
+    Case::new(line, call, [conv, spans, 0, size(random, need)])
 }
 
 pub fn row_number(random: &mut Random) -> usize {
@@ -224,6 +206,5 @@ pub fn row_number(random: &mut Random) -> usize {
 /// A random case.
 pub fn case(random: &mut Random, with_matches: bool) -> Case {
     let line = any_line(random);
-    let call = call(random, &line, with_matches);
-    Case { line, call }
+    case_on(random, &line, with_matches)
 }

@@ -136,17 +136,8 @@ fn rows_and_bytes(list: &mut Vec<Statement>) {
     s.say(height(&[b'a'; 4096], 0, 1), Says::Count(4097));
     s.say(rows(&[b'-'; 4096], 0, 2), Says::Count(8192));
     let lent = |line: &[u8], mode: usize| {
-        let (conv, spans, rows) = (32_768, 2_048, 8_192);
-        Case::new(
-            line,
-            Call::Rows {
-                width: 0,
-                mode,
-                conv,
-                spans,
-                rows,
-            },
-        )
+        let width = 0;
+        Case::new(line, Call::Rows { width, mode }, [32_768, 2_048, 8_192, 0])
     };
     s.refuses(lent(&[b'-'; 2049], 2), 6);
     s.accepts(lent(&[b'-'; 2048], 2));

@@ -155,6 +155,10 @@ pub width-le : (v : ℕ) → width01 v ≤ 2
 unfolding width01
 width-le v = cases (among (number (class01 v)) (cr ∷ lf ∷ control ∷ extend ∷ zwj ∷ classV ∷ classT ∷ [])) (λ e. rw e (omega arith)) (λ e. rw e (cases (inAny wides v) (λ f. rw f (omega arith)) (λ f. rw f (omega arith))))
 
+pub width-two : (f : code.Profile) (v x : ℕ) → x ≡ profileOf f .width v → x ≤ 2
+unfolding profileOf profile01
+width-two f v x e = rw e (width-le v)
+
 pub width-append : (P : Profile) (a b : List Scalar) → widthOf P (a ++ b) ≡ widthOf P a + widthOf P b
 unfolding widthOf
 width-append P [] b = omega arith

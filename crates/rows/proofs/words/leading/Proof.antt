@@ -2,8 +2,8 @@ use Prim.Native.Nat.{_-_}
 use native.Mathlib.Omega.{arith}
 use lib.ListN.{length}
 use Rattle.text.specs.Code.{profileOf}
-use Rattle.text.specs.Code.Laws.{scalar-at}
-use Rattle.rows.proofs.Parts.{Walking, byte-on, walk-bad, walk-begin, walk-end, walk-on, walk-other, wide}
+use Rattle.text.specs.Code.Laws.{scalar-at, width-two}
+use Rattle.rows.proofs.Parts.{Walking, byte-on, walk-bad, walk-begin, walk-end, walk-on, walk-other}
 use borrow.Author.Needs.{needs}
 use Rattle.rows.proofs.words.leading.Statement.{statement}
 use Rattle.rows.proofs.words.leading.Tie as tie
@@ -48,7 +48,7 @@ width-requires : tie.Need-width-requires Inv-loop μ-loop
 width-requires c κs = search needs
 
 add-t18 : tie.Need-add-t18 Inv-loop μ-loop
-add-t18 c = omega (arith, wide _ _ _ (c .before .width .ensures))
+add-t18 c = omega (arith, width-two _ _ _ (c .before .width .ensures))
 
 add-t17 : tie.Need-add-t17 Inv-loop μ-loop
 add-t17 c = omega (arith, scalar-at _ _ _ (c .before .before .before .before .before .before .before .before .before .before .before .before .if1 .taken) (c .before .before .before .before .before .before .before .before .decode .ensures) (c .before .before .before .before .before .before .if3 .left) .fits)

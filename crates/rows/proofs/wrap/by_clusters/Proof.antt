@@ -1,41 +1,40 @@
-use Rattle.rows.proofs.wrap.by_clusters.Statement.{statement}
-use Rattle.rows.proofs.wrap.by_clusters.Tie as tie
-use Rattle.rows.proofs.Texts.{Breaking, break-begin, break-stop, break-turn, break-end}
-use Rattle.text.specs.Code.{profileOf}
-use native.Mathlib.Omega.{arith}
-use borrow.Author.Needs.{needs}
 use Prim.Native.Nat.{_-_}
 use lib.ListN.{length}
+use Rattle.text.specs.Code.{profileOf}
+use Rattle.rows.proofs.Texts.{Breaking, break-begin, break-end, break-less, break-none, break-ready, break-turn}
+use borrow.Author.Needs.{needs}
+use Rattle.rows.proofs.wrap.by_clusters.Statement.{statement}
+use Rattle.rows.proofs.wrap.by_clusters.Tie as tie
 
 abbrev Inv-loop : tie.InvT-loop
-Inv-loop text rows₀ profile width state p₀ rows t p = Breaking (profileOf profile) (width .0) text rows₀ state p rows t
+Inv-loop text rows₀ profile width t₀ p₀ scalar₀ rows t p scalar = Breaking (profileOf profile) (width .0) text rows₀ t₀ p scalar rows t
 
 abbrev μ-loop : tie.MeasureT-loop
-μ-loop text rows₀ profile width t₀ p₀ rows t p = length text - p .0
+μ-loop text rows₀ profile width t₀ p₀ scalar₀ rows t p scalar = length text - p .0
+
+returns : tie.Need-returns Inv-loop μ-loop
+returns c = search break-none
+
+scalar-at-requires : tie.Need-scalar-at-requires Inv-loop μ-loop
+scalar-at-requires c κs = search needs
 
 loop-holds : tie.Need-loop-holds Inv-loop μ-loop
 loop-holds c = search break-begin
 
-cluster-requires : tie.Need-cluster-requires Inv-loop μ-loop
-cluster-requires c κs = search needs
-
-same-length : tie.Need-same-length Inv-loop μ-loop
-same-length c = search needs
-
-returns : tie.Need-returns Inv-loop μ-loop
-returns c = search break-stop
+next-cluster-requires : tie.Need-next-cluster-requires Inv-loop μ-loop
+next-cluster-requires c κs = search break-ready
 
 unit-requires : tie.Need-unit-requires Inv-loop μ-loop
 unit-requires c κs = search needs
 
 loop-less : tie.Need-loop-less Inv-loop μ-loop
-loop-less c = omega arith
+loop-less c = search break-less
 
 loop-again : tie.Need-loop-again Inv-loop μ-loop
 loop-again c = search break-turn
 
-same-length-2 : tie.Need-same-length-2 Inv-loop μ-loop
-same-length-2 c = search needs
+same-length : tie.Need-same-length Inv-loop μ-loop
+same-length c = search needs
 
 returns-2 : tie.Need-returns-2 Inv-loop μ-loop
 returns-2 c = search break-end
@@ -46,12 +45,12 @@ by-clusters-spec =
     (tie.spec
     Inv-loop
     μ-loop
-    loop-holds
-    cluster-requires
-    same-length
     returns
+    scalar-at-requires
+    loop-holds
+    next-cluster-requires
     unit-requires
     loop-less
     loop-again
-    same-length-2
+    same-length
     returns-2)

@@ -1,6 +1,7 @@
 use lib.Seq.{length-take-le}
 use mathlib.Core.Path.{sym}
-use Rattle.spans.proofs.StretchLaws.{clip-fits, span-ready, record-step, record-none}
+use Rattle.buffer.specs.Numbers.Laws.{smaller-right}
+use Rattle.spans.proofs.StretchLaws.{span-ready, record-step, record-none}
 use borrow.Author.Needs.{needs}
 use Rattle.spans.proofs.stretches.next_record.Statement.{statement}
 use Rattle.spans.proofs.stretches.next_record.Tie as tie
@@ -12,7 +13,7 @@ smaller-requires : tie.Need-smaller-requires
 smaller-requires c κs = search needs
 
 slice-aggregate-next-span : tie.Need-slice-aggregate-next-span
-slice-aggregate-next-span c = sym (length-take-le _ _ (clip-fits _ _ _ (c .before .before .before .before .before .before .smaller .ensures)))
+slice-aggregate-next-span c = sym (length-take-le _ _ (smaller-right _ _ _ (c .before .before .before .before .before .before .smaller .ensures)))
 
 next-span-requires : tie.Need-next-span-requires
 next-span-requires c κs = search span-ready

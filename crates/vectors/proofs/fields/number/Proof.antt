@@ -5,7 +5,6 @@ use Rattle.vectors.proofs.fields.number.Tie as tie
 use Rattle.vectors.proofs.fields.number.Reads as reads
 use Rattle.vectors.proofs.fields.number.Lts as lts
 use Rattle.std.proofs.num.wrapping_add_usize.Reads as wrapping-add-usize-reads
-use Rattle.vectors.proofs.fields.byte_at.Reads as byte-at-reads
 use Rattle.vectors.proofs.fields.digit.Reads as digit-reads
 use Rattle.vectors.proofs.fields.times_ten.Reads as times-ten-reads
 

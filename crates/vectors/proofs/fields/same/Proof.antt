@@ -5,7 +5,6 @@ use Rattle.vectors.proofs.fields.same.Statement.{statement}
 use Rattle.vectors.proofs.fields.same.Tie as tie
 use Rattle.vectors.proofs.fields.same.Reads as reads
 use Rattle.vectors.proofs.fields.same.Lts as lts
-use Rattle.vectors.proofs.fields.byte_at.Reads as byte-at-reads
 
 abbrev Inv-loop : tie.InvT-loop
 Inv-loop a b i₀ i = i ≤ length a

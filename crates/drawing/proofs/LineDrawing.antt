@@ -1,0 +1,246 @@
+-- DEC line drawing: the table of replacements, the loop over a text, and the copy that is shown.
+use mathlib.Core.Path.{_≡_, refl, sym, ap, ap₂, _∙_, subst}
+use mathlib.Core.Logic.{_≢_}
+use Prim.Native.Nat.{ℕ, zero, suc, _+_, _-_, _*_, _/_, _%_, _≤_, _<_}
+use native.Mathlib.Omega.{arith}
+use mathlib.Core.Bool.{Bool, true, false, cond, _&&_}
+use mathlib.Core.List.{List, [], _∷_, _++_, map, append-nil}
+use lib.ListN.{length, take, drop, getD, List·getD-map, length-append}
+use lib.Seq.{take-append-seam, length-take-le}
+use lib.Dec.{T, eqb, leb, ltb, eqb→eq, leb→le}
+use borrow.Author.Tests.{le-leb, lt-leb, leb-true, lt-ltb, le-ltb}
+use Rattle.buffer.specs.Sink.{Sink, sink, put, emit, written}
+use Rattle.buffer.specs.Sink.Laws.{emit-append, emit-none, emit-room}
+use Rattle.text.specs.Tests.{cases, and-T, true-T, is-true}
+use Rattle.text.specs.Each.{All, all-nil, all-cons}
+use Rattle.text.specs.Utf8.{Scalar, scalar, to, within, decode, bytesOf}
+use Rattle.text.specs.Utf8.Valid.{Valid, run-text}
+use Rattle.text.specs.Class.{Profile}
+use Rattle.text.specs.Width.{width01, widthOf, profile01}
+use Rattle.text.specs.Cluster.Walk.{size-is}
+use Rattle.text.specs.Code.{runOf, size, profileOf, firstSequence}
+use Rattle.text.specs.Code.Laws.{ScalarAt, scalar-at, none-at, none-past, run-valid, run-front, run-fits, plain-width}
+use Rattle.text.proofs.Texts.{whole-prefix}
+use Rattle.text.specs.TextParts.{textAt}
+use Rattle.text.specs.declared.class.Profile as code
+use Rattle.text.specs.declared.utf8.Sequence.{Sequence}
+use Rattle.drawing.specs.Marks.{replacements, lineDrawn}
+use Rattle.drawing.specs.Contracts.{packedBytes, Replaceable, CopyRoom, CopyOf}
+
+-- ---- the table
+
+unfoldable pub table : List ℕ
+table =
+    0xC2A0 ∷ 0xE29786 ∷ 0xE29692 ∷ 0xE29089 ∷ 0xE2908C ∷ 0xE2908D ∷ 0xE2908A ∷ 0xC2B0 ∷ 0xC2B1 ∷ 0xE290A4 ∷ 0xE2908B ∷ 0xE29498 ∷ 0xE29490 ∷ 0xE2948C ∷ 0xE29494 ∷ 0xE294BC
+    ∷ 0xE28EBA ∷ 0xE28EBB ∷ 0xE29480 ∷ 0xE28EBC ∷ 0xE28EBD ∷ 0xE2949C ∷ 0xE294A4 ∷ 0xE294B4 ∷ 0xE294AC ∷ 0xE29482 ∷ 0xE289A4 ∷ 0xE289A5 ∷ 0xCF80 ∷ 0xE289A0 ∷ 0xC2A3 ∷ 0xC2B7 ∷ []
+
+table-is : map packedBytes table ≡ replacements
+unfolding packedBytes table replacements
+table-is = refl
+
+getD-any : {A : Type 0} (l : List A) (i : ℕ) (a b : A) → i < length l → getD l i a ≡ getD l i b
+getD-any [] i a b h = absurd (omega arith)
+getD-any (x ∷ l) zero a b h = refl
+getD-any (x ∷ l) (suc i) a b h = getD-any l i a b (omega arith)
+
+replacements-length : length replacements ≡ 32
+unfolding replacements
+replacements-length = refl
+
+table-at : (i : ℕ) → i < 32 → packedBytes (getD table i 0) ≡ getD replacements i []
+table-at i h =
+    sym (List·getD-map packedBytes table i 0) ∙ ap (λ (l : List (List ℕ)). getD l i (packedBytes 0)) table-is
+    ∙ getD-any replacements i (packedBytes 0) [] (omega (arith, replacements-length))
+
+pub packed-two : (s s₁ s₂ : Sink) (n : ℕ) → n < 0x10000 → s₁ ≡ put s (n / 256 % 256) → s₂ ≡ put s₁ (n % 256) → s₂ ≡ emit s (packedBytes n)
+unfolding packedBytes emit
+packed-two s s₁ s₂ n h p q = rw (lt-ltb n 0x10000 h, q, p) refl
+
+pub packed-three : (s s₁ s₂ s₃ : Sink) (n : ℕ) → 0x10000 ≤ n → s₁ ≡ put s (n / 65536 % 256) → s₂ ≡ put s₁ (n / 256 % 256) → s₃ ≡ put s₂ (n % 256) → s₃ ≡ emit s (packedBytes n)
+unfolding packedBytes emit
+packed-three s s₁ s₂ s₃ n h p q r = rw (le-ltb n 0x10000 h, r, q, p) refl
+
+pub replaced : (s s′ : Sink) (c i : ℕ) → Replaceable c → i ≡ c - 0x5F → s′ ≡ emit s (packedBytes (getD table i 0)) → s′ ≡ emit s (getD replacements (c - 0x5F) [])
+replaced s s′ c i r e p = p ∙ ap (emit s) (table-at i (omega (arith, r .low, r .high)) ∙ ap (λ (k : ℕ). getD replacements k []) e)
+
+-- ---- every replacement is a scalar of one column, in at most three bytes
+
+unfoldable joined : List (List ℕ) → List ℕ
+joined [] = []
+joined (r ∷ rs) = r ++ joined rs
+
+decoded-all : runOf (decode (joined replacements)) ≡ map scalar replacements
+unfolding runOf decode joined replacements scalar
+decoded-all = refl
+
+valid-all : All Valid (map scalar replacements)
+valid-all = subst (All Valid) decoded-all (run-valid (joined replacements))
+
+all-at : {A : Type 0} {Q : A → Type 0} {l : List A} → All Q l → (i : ℕ) (d : A) → i < length l → Q (getD l i d)
+all-at all-nil i d h = absurd (omega arith)
+all-at (all-cons q a) zero d h = q
+all-at (all-cons q a) (suc i) d h = all-at a i d (omega arith)
+
+unfoldable fine : List ℕ → Bool
+unfolding width01 scalar
+fine r = eqb (width01 (scalar r .code)) 1 && leb (length r) 3
+
+unfoldable allFine : List (List ℕ) → Bool
+unfolding fine
+allFine [] = true
+allFine (r ∷ rs) = fine r && allFine rs
+
+fine-all : T (allFine replacements)
+unfolding allFine replacements
+fine-all = tt
+
+fine-at : (l : List (List ℕ)) (i : ℕ) → T (allFine l) → i < length l → T (fine (getD l i []))
+unfolding allFine
+fine-at [] i t h = absurd (omega arith)
+fine-at (r ∷ l) zero t h = and-T (fine r) (allFine l) t .0
+fine-at (r ∷ l) (suc i) t h = fine-at l i (and-T (fine r) (allFine l) t .1) (omega arith)
+
+mapped : length (map scalar replacements) ≡ 32
+unfolding replacements
+mapped = refl
+
+module _ (i : ℕ) (h : i < 32) where
+  abbrev new : Scalar
+  new = scalar (getD replacements i [])
+
+  new-valid : Valid new
+  new-valid = subst Valid (List·getD-map scalar replacements i []) (all-at valid-all i (scalar []) (omega (arith, mapped)))
+
+  new-fine : T (eqb (width01 (new .code)) 1) × T (leb (length (getD replacements i [])) 3)
+  unfolding fine
+  new-fine = and-T (eqb (width01 (new .code)) 1) (leb (length (getD replacements i [])) 3) (fine-at replacements i fine-all (omega (arith, replacements-length)))
+
+  new-width : width01 (new .code) ≡ 1
+  new-width = eqb→eq (width01 (new .code)) 1 (new-fine .0)
+
+  new-length : length (getD replacements i []) ≤ 3
+  new-length = leb→le (length (getD replacements i [])) 3 (new-fine .1)
+
+in-range : (v : ℕ) → within (to 0x5F 0x7E) v ≡ true → (0x5F ≤ v) × (v ≤ 0x7E)
+in-range v e = let w = and-T (leb 0x5F v) (leb v 0x7E) (true-T e) in (leb→le 0x5F v (w .0), leb→le v 0x7E (w .1))
+
+-- ---- what is shown is valid text, as wide as the text, and at most three times as long
+
+lineDrawn-valid : {x : List Scalar} → All Valid x → All Valid (lineDrawn x)
+unfolding lineDrawn
+lineDrawn-valid all-nil = all-nil
+lineDrawn-valid (all-cons {a = c} {s = s} v a) =
+    cases (within (to 0x5F 0x7E) (c .code))
+    (λ e. let r = in-range (c .code) e in rw e (all-cons (new-valid (c .code - 0x5F) (omega (arith, r .0, r .1))) (lineDrawn-valid a)))
+    (λ e. rw e (all-cons v (lineDrawn-valid a)))
+
+pub lineDrawn-width : (f : code.Profile) (x : List Scalar) → widthOf (profileOf f) (lineDrawn x) ≡ widthOf (profileOf f) x
+unfolding lineDrawn widthOf profileOf profile01
+lineDrawn-width f [] = refl
+lineDrawn-width f (c ∷ s) =
+    cases (within (to 0x5F 0x7E) (c .code))
+    (λ e. let r = in-range (c .code) e in
+    rw e (ap₂ (λ (a b : ℕ). a + b) (new-width (c .code - 0x5F) (omega (arith, r .0, r .1)) ∙ sym (plain-width (c .code) (omega (arith, r .0)) (r .1))) (lineDrawn-width f s)))
+    (λ e. rw e (ap (λ (n : ℕ). width01 (c .code) + n) (lineDrawn-width f s)))
+
+lineDrawn-size : {x : List Scalar} → All Valid x → size (lineDrawn x) ≤ 3 * size x
+unfolding lineDrawn size scalar
+lineDrawn-size all-nil = omega arith
+lineDrawn-size (all-cons {a = c} {s = s} v a) =
+    cases (within (to 0x5F 0x7E) (c .code))
+    (λ e. let r = in-range (c .code) e in rw e (omega (arith, new-length (c .code - 0x5F) (omega (arith, r .0, r .1)), lineDrawn-size a, v .some)))
+    (λ e. rw e (omega (arith, lineDrawn-size a)))
+
+-- ---- the loop
+
+pub record Converting (s l₀ : List ℕ) (p a : ℕ) (l : List ℕ) : Type 0 where
+  pub inside : p ≤ length s
+  pub work : emit (sink l a) (bytesOf (lineDrawn (textAt s p))) ≡ emit (sink l₀ 0) (bytesOf (lineDrawn (textAt s 0)))
+
+pub convert-begin : (s l : List ℕ) → Converting s l 0 0 l
+convert-begin s l = record { inside = omega arith; work = refl }
+
+module _ {s l₀ l : List ℕ} {p a : ℕ} (k : Converting s l₀ p a l) where
+  convert-done : textAt s p ≡ [] → sink l a ≡ emit (sink l₀ 0) (bytesOf (lineDrawn (textAt s 0)))
+  unfolding lineDrawn bytesOf emit
+  convert-done e = rw e at (k .work)
+
+  pub convert-past : length s ≤ p → sink l a ≡ emit (sink l₀ 0) (bytesOf (lineDrawn (textAt s 0)))
+  convert-past h = convert-done (none-past s p h)
+
+  module _ (u : Sequence) (here : p < length s) (read : u ≡ firstSequence (decode (drop p s))) where
+    pub convert-bad : u .len ≡ 0 → sink l a ≡ emit (sink l₀ 0) (bytesOf (lineDrawn (textAt s 0)))
+    convert-bad z = convert-done (none-at s p u here read z)
+
+    module _ (z : u .len ≢ 0) where
+      abbrev c : Scalar
+      c = scalar-at s p u here read z .scalar
+
+      pub convert-fits : p + u .len ≤ length s
+      convert-fits = scalar-at s p u here read z .fits
+
+      pub convert-some : 1 ≤ u .len
+      convert-some = scalar-at s p u here read z .some
+
+      -- what the scalar is shown as
+      first-shown : (x : Scalar) → cond (within (to 0x5F 0x7E) (c .code)) (scalar (getD replacements (c .code - 0x5F) [])) c ≡ x
+          → emit (emit (sink l a) (x .bytes)) (bytesOf (lineDrawn (textAt s (p + u .len)))) ≡ emit (sink l₀ 0) (bytesOf (lineDrawn (textAt s 0)))
+      unfolding lineDrawn bytesOf
+      first-shown x e = sym (emit-append (sink l a) (x .bytes) (bytesOf (lineDrawn (textAt s (p + u .len))))) ∙ (rw (scalar-at s p u here read z .run, e) at (k .work))
+
+      pub convert-replaced : (l′ : List ℕ) (r : ℕ) → (leb 0x5F (u .code) && leb (u .code) 0x7E) ≡ true → sink l′ r ≡ emit (sink l a) (getD replacements (u .code - 0x5F) []) → Converting s l₀ (p + u .len) r l′
+      unfolding scalar
+      convert-replaced l′ r t e =
+          let q : c .code ≡ u .code = scalar-at s p u here read z .code in
+          record {
+            inside = convert-fits;
+            work = rw (e, ← q) (first-shown (scalar (getD replacements (c .code - 0x5F) [])) (rw (rw (← q) at t) refl));
+          }
+
+      first-bytes : take (p + u .len - p) (drop p s) ≡ c .bytes
+      unfolding size bytesOf
+      first-bytes =
+          let a = scalar-at s p u here read z in
+          let n : p + u .len - p ≡ size (c ∷ []) = omega (arith, a .len) in
+          let w = whole-prefix (c ∷ []) (textAt s (p + u .len)) (drop p s) (a .run) in
+          ap (λ (m : ℕ). take m (drop p s)) n ∙ sym w ∙ ap bytesOf (run-front (drop p s) (c ∷ []) (textAt s (p + u .len)) (a .run)) ∙ append-nil (c .bytes)
+
+      pub convert-kept : (l′ : List ℕ) (r : ℕ) → (leb 0x5F (u .code) && leb (u .code) 0x7E) ≡ false → sink l′ r ≡ emit (sink l a) (take (p + u .len - p) (drop p s)) → Converting s l₀ (p + u .len) r l′
+      convert-kept l′ r f g =
+          let n : within (to 0x5F 0x7E) (c .code) ≡ false = rw (scalar-at s p u here read z .code) f in
+          record { inside = convert-fits; work = rw (g, first-bytes) (first-shown c (rw n refl)) }
+
+pub replaceable : (c : ℕ) → (leb 0x5F c && leb c 0x7E) ≡ true → Replaceable c
+replaceable c e = let r = in-range c e in record { low = r .0; high = r .1 }
+
+-- ---- the copy
+
+pub copy-made : (s copy copy′ : List ℕ) (d : Bool) (n : ℕ) → CopyRoom copy s d → d ≡ true → sink copy′ n ≡ emit (sink copy 0) (bytesOf (lineDrawn (textAt s 0))) → CopyOf copy′ s d n
+copy-made s copy copy′ d n room on e =
+    let t : List Scalar = textAt s 0 in
+    let xs : List ℕ = bytesOf (lineDrawn t) in
+    let v : All Valid t = run-valid s in
+    let f : size t + size [] ≤ length s = run-fits s t [] (sym (append-nil t)) in
+    let z : length xs ≤ length copy = omega (arith, size-is (lineDrawn t), lineDrawn-size v, room on) in
+    let g : sink copy′ n ≡ sink (written copy 0 xs) (0 + length xs) = e ∙ emit-room copy xs 0 (omega arith) in
+    let m : n ≡ length xs = omega (arith, ap countOf g) in
+    let b : take n copy′ ≡ xs = rw (m, ap listOf g) (take-append-seam xs (drop (0 + length xs) copy)) in
+    record { fits = rw (ap listOf g, length-append xs (drop (0 + length xs) copy)) (omega (arith, m)); same = λ h. ap (λ (l : List ℕ). runOf (decode l)) b ∙ run-text (lineDrawn-valid v) }
+  where
+    countOf : Sink → ℕ
+    countOf (sink l r) = r
+
+    listOf : Sink → List ℕ
+    listOf (sink l r) = l
+
+pub copy-none : (s copy : List ℕ) (d : Bool) → d ≡ false → CopyOf copy s d 0
+copy-none s copy d off = record { fits = omega arith; same = λ h. absurd (true-T (sym off ∙ h)) }
+
+pub shown-length : (copy : List ℕ) (n : ℕ) → n ≤ length copy → n ≡ length (take n copy)
+shown-length copy n h = sym (length-take-le n copy h)
+
+pub shown-copy : (text copy : List ℕ) (d : Bool) (n : ℕ) → d ≡ true → take n copy ≡ cond d (take n copy) text
+shown-copy text copy d n e = rw e refl
+
+pub shown-own : (text copy : List ℕ) (d : Bool) (n : ℕ) → d ≡ false → text ≡ cond d (take n copy) text
+shown-own text copy d n e = rw e refl

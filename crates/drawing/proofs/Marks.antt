@@ -1,0 +1,276 @@
+-- Marks and tabs as printable bytes.
+use mathlib.Core.Path.{_≡_, refl, sym, ap, ap₂, _∙_}
+use mathlib.Core.Logic.{_≢_}
+use Prim.Native.Nat.{ℕ, zero, suc, _+_, _-_, _*_, _/_, _%_, _≤_, _<_, _^_}
+use native.Mathlib.Omega.{arith}
+use mathlib.Core.Bool.{Bool, true, false, cond, not, _&&_, true≢false}
+use mathlib.Core.List.{List, [], _∷_, _++_, append-nil, append-assoc}
+use lib.ListN.{length, take, drop, replicate, set, length-append}
+use lib.Seq.{take-append-seam, length-take-le}
+use lib.Dec.{eqb, ltb}
+use borrow.Author.Tests.{eq-eqb, ne-eqb, lt-ltb, le-ltb, ltb-true, ltb-false, le-leb}
+use Rattle.buffer.specs.Numbers as numbers
+use Rattle.buffer.specs.Sink.{Sink, sink, put, emit, written}
+use Rattle.buffer.specs.Sink.Laws.{emit-none, emit-append, then-emit, emit-room}
+use Rattle.text.specs.Tests.{cases}
+use Rattle.text.specs.Utf8.{Scalar, ascii, asciis, decode, bytesOf}
+use Rattle.text.specs.Utf8.Laws.{bytesOf-append}
+use Rattle.text.specs.Width.{widthOf}
+use Rattle.text.specs.Code.{runOf, size, profileOf, firstSequence, printable}
+use Rattle.text.specs.Code.Laws.{ScalarAt, scalar-at, none-at, none-past}
+use Rattle.text.specs.TextParts.{textAt}
+use Rattle.text.specs.declared.utf8.Sequence.{Sequence}
+use Rattle.drawing.specs.Clip.{spaces}
+use Rattle.drawing.specs.Marks.{hexDigit, byteMark, upperDigits, scalarMark}
+use Rattle.drawing.specs.Attributes.{control}
+use Rattle.drawing.specs.Draw.{State, Sent, sent, style, move, writeTruncated, writeMarks}
+use Rattle.drawing.specs.Contracts.{allPrintable, styleOf, stateOf, Wrote, ColumnsReady, writingColumns, eightSpaces, composedText, composedStyle, Composed, composing, ComposedWrote, scalarMarking, marking, MarksWrote}
+use Rattle.drawing.specs.declared.attributes.Style as code
+use Rattle.drawing.specs.declared.attributes.Style.the-variants.{File, Control}
+use Rattle.drawing.specs.declared.state.AttributeState.{AttributeState}
+use Rattle.drawing.specs.declared.state.Stepped.{Stepped}
+use Rattle.drawing.specs.declared.write.Window.{Window}
+use Rattle.drawing.proofs.Columns.{run-printable, asciis-bytes, printable-width, columns-width}
+use Rattle.drawing.proofs.Writing.{wrote-then, wrote-none, written-position}
+
+emit-one : (s : Sink) (b : ℕ) → emit s (b ∷ []) ≡ put s b
+unfolding emit
+emit-one s b = refl
+
+-- ---- digits
+
+digit-is : (d : ℕ) → hexDigit d ≡ ascii (numbers.hexDigit d)
+unfolding hexDigit numbers.hexDigit
+digit-is d = cases (ltb d 10) (λ e. rw e refl) (λ e. rw e refl)
+
+digit-printable : (n : ℕ) → printable (numbers.hexDigit (n % 16)) ≡ true
+unfolding numbers.hexDigit
+digit-printable n =
+    cases (ltb (n % 16) 10)
+    (λ e. let l = ltb-true (n % 16) 10 e in rw (e, le-leb 0x20 (0x30 + n % 16) (omega arith), le-leb (0x30 + n % 16) 0x7E (omega arith)) refl)
+    (λ e. rw (e, le-leb 0x20 (0x37 + n % 16) (omega arith), le-leb (0x37 + n % 16) 0x7E (omega arith)) refl)
+
+abbrev digit : ℕ → ℕ
+digit n = numbers.hexDigit (n % 16)
+
+pub digit-pushed : (s s′ : Sink) (b n : ℕ) → b ≡ numbers.hexDigit (n % 16) → s′ ≡ put s b → s′ ≡ emit s (numbers.hexDigit (n % 16) ∷ [])
+unfolding emit
+digit-pushed s s′ b n e p = rw (← e) p
+
+-- ---- the mark of a scalar
+
+unfoldable upperBytes : ℕ → List ℕ
+upperBytes v = cond (ltb v 0x10000) [] (cond (ltb v 0x100000) (digit (v / 0x10000) ∷ []) (digit (v / 0x100000) ∷ digit (v / 0x10000) ∷ []))
+
+unfoldable lowerBytes : ℕ → List ℕ
+lowerBytes v = digit (v / 0x1000) ∷ digit (v / 0x100) ∷ digit (v / 0x10) ∷ digit v ∷ []
+
+unfoldable markBytes : ℕ → List ℕ
+markBytes v = 0x3C ∷ 0x55 ∷ 0x2B ∷ (upperBytes v ++ (lowerBytes v ++ 0x3E ∷ []))
+
+asciis-append : (a b : List ℕ) → asciis (a ++ b) ≡ asciis a ++ asciis b
+unfolding asciis
+asciis-append [] b = refl
+asciis-append (x ∷ a) b = ap (λ (l : List Scalar). ascii x ∷ l) (asciis-append a b)
+
+upper-is : (v : ℕ) → upperDigits v ≡ asciis (upperBytes v)
+unfolding upperDigits upperBytes asciis
+upper-is v =
+    cases (ltb v 0x10000) (λ e. rw e refl)
+    (λ e. cases (ltb v 0x100000) (λ f. rw (e, f, digit-is (v / 0x10000 % 16)) refl) (λ f. rw (e, f, digit-is (v / 0x100000 % 16), digit-is (v / 0x10000 % 16)) refl))
+
+mark-is : (v : ℕ) → scalarMark v ≡ asciis (markBytes v)
+unfolding scalarMark markBytes lowerBytes asciis
+mark-is v =
+    rw (upper-is v, asciis-append (upperBytes v) (lowerBytes v ++ 0x3E ∷ []), digit-is (v / 0x1000 % 16), digit-is (v / 0x100 % 16), digit-is (v / 0x10 % 16), digit-is (v % 16)) refl
+
+pub upper-none : (s : Sink) (v : ℕ) → v < 0x10000 → s ≡ emit s (bytesOf (upperDigits v))
+unfolding upperDigits bytesOf emit
+upper-none s v h = rw (lt-ltb v 0x10000 h) refl
+
+pub upper-one : (s s′ : Sink) (v : ℕ) → 0x10000 ≤ v → v < 0x100000 → s′ ≡ emit s (digit (v / 0x10000) ∷ []) → s′ ≡ emit s (bytesOf (upperDigits v))
+unfolding upperBytes
+upper-one s s′ v h k p = p ∙ ap (emit s) (sym (ap bytesOf (upper-is v) ∙ asciis-bytes (upperBytes v) ∙ rw (le-ltb v 0x10000 h, lt-ltb v 0x100000 k) refl))
+
+pub upper-two : (s s₁ s₂ : Sink) (v : ℕ) → 0x10000 ≤ v → 0x100000 ≤ v → s₁ ≡ emit s (digit (v / 0x100000) ∷ []) → s₂ ≡ emit s₁ (digit (v / 0x10000) ∷ []) → s₂ ≡ emit s (bytesOf (upperDigits v))
+unfolding upperBytes
+upper-two s s₁ s₂ v h k p q =
+    then-emit s s₁ s₂ (digit (v / 0x100000) ∷ []) (digit (v / 0x10000) ∷ []) p q
+    ∙ ap (emit s) (sym (ap bytesOf (upper-is v) ∙ asciis-bytes (upperBytes v) ∙ rw (le-ltb v 0x10000 h, le-ltb v 0x100000 k) refl))
+
+pub lower-pushed : (s s₁ s₂ s₃ s₄ : Sink) (v : ℕ) → s₁ ≡ emit s (digit (v / 0x1000) ∷ []) → s₂ ≡ emit s₁ (digit (v / 0x100) ∷ []) → s₃ ≡ emit s₂ (digit (v / 0x10) ∷ []) → s₄ ≡ emit s₃ (digit v ∷ [])
+    → s₄ ≡ emit s (digit (v / 0x1000) ∷ digit (v / 0x100) ∷ digit (v / 0x10) ∷ digit v ∷ [])
+unfolding emit
+lower-pushed s s₁ s₂ s₃ s₄ v p q r t = rw (t, r, q, p) refl
+
+pub mark-pushed : (s s₁ s₂ s₃ s₄ : Sink) (v : ℕ) → s₁ ≡ emit s (0x3C ∷ 0x55 ∷ 0x2B ∷ []) → s₂ ≡ emit s₁ (bytesOf (upperDigits v))
+    → s₃ ≡ emit s₂ (digit (v / 0x1000) ∷ digit (v / 0x100) ∷ digit (v / 0x10) ∷ digit v ∷ []) → s₄ ≡ put s₃ 0x3E → s₄ ≡ emit s (bytesOf (scalarMark v))
+unfolding markBytes lowerBytes
+mark-pushed s s₁ s₂ s₃ s₄ v p q r t =
+    let u : s₂ ≡ emit s₁ (upperBytes v) = q ∙ ap (emit s₁) (ap bytesOf (upper-is v) ∙ asciis-bytes (upperBytes v)) in
+    let w : s₄ ≡ emit s₂ (lowerBytes v ++ 0x3E ∷ []) = then-emit s₂ s₃ s₄ (lowerBytes v) (0x3E ∷ []) r (t ∙ sym (emit-one s₃ 0x3E)) in
+    then-emit s s₁ s₄ (0x3C ∷ 0x55 ∷ 0x2B ∷ []) (upperBytes v ++ (lowerBytes v ++ 0x3E ∷ [])) p (then-emit s₁ s₂ s₄ (upperBytes v) (lowerBytes v ++ 0x3E ∷ []) u w)
+    ∙ ap (emit s) (sym (ap bytesOf (mark-is v) ∙ asciis-bytes (markBytes v)))
+
+-- ---- its bytes are printable, and at most ten
+
+append-printable : (a b : List ℕ) → allPrintable a ≡ true → allPrintable b ≡ true → allPrintable (a ++ b) ≡ true
+unfolding allPrintable
+append-printable [] b e f = f
+append-printable (x ∷ a) b e f = cases (printable x) (λ t. rw t (append-printable a b (rw t at e) f)) (λ t. absurd (true≢false (sym (rw t at e))))
+
+upper-printable : (v : ℕ) → (allPrintable (upperBytes v) ≡ true) × (length (upperBytes v) ≤ 2)
+unfolding upperBytes allPrintable
+upper-printable v =
+    cases (ltb v 0x10000) (λ e. rw e (refl, omega arith))
+    (λ e. cases (ltb v 0x100000) (λ f. rw (e, f, digit-printable (v / 0x10000)) (refl, omega arith)) (λ f. rw (e, f, digit-printable (v / 0x100000), digit-printable (v / 0x10000)) (refl, omega arith)))
+
+lower-printable : (v : ℕ) → allPrintable (lowerBytes v ++ 0x3E ∷ []) ≡ true
+unfolding lowerBytes allPrintable
+lower-printable v = rw (digit-printable (v / 0x1000), digit-printable (v / 0x100), digit-printable (v / 0x10), digit-printable v) refl
+
+mark-printable : (v : ℕ) → allPrintable (markBytes v) ≡ true
+unfolding markBytes allPrintable
+mark-printable v = append-printable (upperBytes v) (lowerBytes v ++ 0x3E ∷ []) (upper-printable v .0) (lower-printable v)
+
+mark-length : (v : ℕ) → length (markBytes v) ≤ 10
+unfolding markBytes lowerBytes
+mark-length v = rw (length-append (upperBytes v) (lowerBytes v ++ 0x3E ∷ [])) (omega (arith, upper-printable v .1))
+
+-- ---- a mark that was composed in ten zeros
+
+abbrev countOf : Sink → ℕ
+countOf (sink l r) = r
+
+abbrev listOf : Sink → List ℕ
+listOf (sink l r) = l
+
+module _ (mark : List ℕ) (n v : ℕ) (e : sink mark n ≡ emit (sink (replicate 10 0) 0) (bytesOf (scalarMark v))) where
+  mark-sink : sink mark n ≡ sink (written (replicate 10 0) 0 (markBytes v)) (0 + length (markBytes v))
+  mark-sink = e ∙ ap (emit (sink (replicate 10 0) 0)) (ap bytesOf (mark-is v) ∙ asciis-bytes (markBytes v)) ∙ emit-room (replicate 10 0) (markBytes v) 0 (omega (arith, mark-length v))
+
+  mark-count : n ≡ length (markBytes v)
+  mark-count = omega (arith, ap countOf mark-sink)
+
+  mark-front : take n mark ≡ markBytes v
+  mark-front = rw (mark-count, ap listOf mark-sink) (take-append-seam (markBytes v) (drop (0 + length (markBytes v)) (replicate 10 0)))
+
+  pub mark-inside : n ≤ length mark
+  mark-inside = rw (ap listOf mark-sink, length-append (markBytes v) (drop (0 + length (markBytes v)) (replicate 10 0))) (omega (arith, mark-count))
+
+  mark-fits : n ≤ 10
+  mark-fits = omega (arith, mark-count, mark-length v)
+
+  pub mark-slice : n ≡ length (take n mark)
+  mark-slice = sym (length-take-le n mark mark-inside)
+
+  mark-text : textAt (take n mark) 0 ≡ scalarMark v
+  mark-text = ap (λ (l : List ℕ). runOf (decode l)) mark-front ∙ run-printable (markBytes v) (mark-printable v) ∙ sym (mark-is v)
+
+  pub mark-ready : (t : AttributeState) → t .position .0 + 20 < 2 ^ 64 → ColumnsReady (take n mark) t
+  mark-ready t h = record { printable = rw mark-front (mark-printable v); room = rw mark-front (omega (arith, mark-length v)) }
+
+  pub mark-wrote : (w : Window) (l l′ : List ℕ) (at r : ℕ) (t t′ : AttributeState) → Wrote l at t (writingColumns w (take n mark) t Control) l′ r t′ → Wrote l at t (scalarMarking w v t) l′ r t′
+  unfolding styleOf
+  mark-wrote w l l′ at r t t′ h = rw mark-text at h
+
+mark-width : (w : Window) (v : ℕ) → widthOf (profileOf (w .profile)) (scalarMark v) ≤ 10
+mark-width w v = rw (mark-is v, printable-width (w .profile) (markBytes v) (mark-printable v)) (mark-length v)
+
+-- ---- a mark for each scalar
+
+pub record MarksOn (w : Window) (s l₀ : List ℕ) (at₀ : ℕ) (t₀ : AttributeState) (p : ℕ) (l : List ℕ) (t : Stepped) : Type 0 where
+  pub inside : p ≤ length s
+  pub near : t .state .position .0 ≤ t₀ .position .0 + 20 * p
+  pub work : (l′ : List ℕ) (r : ℕ) (t′ : AttributeState)
+      → Wrote l (t .at) (t .state) (writeMarks (profileOf (w .profile)) (w .start .0) (w .end .0) (stateOf (t .state)) (textAt s p)) l′ r t′
+      → Wrote l₀ at₀ t₀ (writeMarks (profileOf (w .profile)) (w .start .0) (w .end .0) (stateOf t₀) (textAt s 0)) l′ r t′
+
+pub marks-begin : (w : Window) (s l : List ℕ) (at : ℕ) (t : AttributeState) → MarksOn w s l at t 0 l (record { state = t; at = at })
+marks-begin w s l at t = record { inside = omega arith; near = omega arith; work = λ l′ r t′ h. h }
+
+module _ {w : Window} {s l₀ : List ℕ} {at₀ : ℕ} {t₀ : AttributeState} {p : ℕ} {l : List ℕ} {t : Stepped} (k : MarksOn w s l₀ at₀ t₀ p l t) where
+  marks-done : textAt s p ≡ [] → MarksWrote w s l₀ at₀ t₀ l t
+  unfolding writeMarks
+  marks-done e = record { wrote = k .work l (t .at) (t .state) (rw e (wrote-none l (t .at) (t .state) (t .state) (stateOf (t .state)) refl refl)); near = omega (arith, k .near, k .inside) }
+
+  pub marks-end : length s ≤ p → MarksWrote w s l₀ at₀ t₀ l t
+  marks-end h = marks-done (none-past s p h)
+
+  module _ (u : Sequence) (here : p < length s) (read : u ≡ firstSequence (decode (drop p s))) where
+    pub marks-bad : u .len ≡ 0 → MarksWrote w s l₀ at₀ t₀ l t
+    marks-bad z = marks-done (none-at s p u here read z)
+
+    module _ (z : u .len ≢ 0) where
+      pub marks-fits : p + u .len ≤ length s
+      marks-fits = scalar-at s p u here read z .fits
+
+      pub marks-turn : (l₁ : List ℕ) (t₁ : Stepped) → Wrote l (t .at) (t .state) (scalarMarking w (u .code) (t .state)) l₁ (t₁ .at) (t₁ .state) → MarksOn w s l₀ at₀ t₀ (p + u .len) l₁ t₁
+      unfolding writeMarks
+      marks-turn l₁ t₁ h =
+          let a = scalar-at s p u here read z in
+          let c : Wrote l (t .at) (t .state) (scalarMarking w (a .scalar .code) (t .state)) l₁ (t₁ .at) (t₁ .state) = rw (a .code) h in
+          record {
+            inside = a .fits;
+            near = omega (arith, k .near, written-position w l l₁ (t .at) (t₁ .at) (t .state) (t₁ .state) control (scalarMark (u .code)) h, mark-width w (u .code), a .some);
+            work = λ l′ r t′ m. k .work l′ r t′ (rw (a .run) (rw (c .state) at (wrote-then l l₁ l′ (t .at) (t₁ .at) r (t .state) (t₁ .state) t′ _ _ c m)));
+          }
+
+-- ---- the mark of a byte, and a tab's spaces
+
+printable-of : (n m : ℕ) → n ≤ m → allPrintable (take n (replicate m 0x20)) ≡ true
+unfolding allPrintable
+printable-of zero m h = refl
+printable-of (suc n) zero h = refl
+printable-of (suc n) (suc m) h = printable-of n m (omega arith)
+
+spaces-of : (n m : ℕ) → n ≤ m → asciis (take n (replicate m 0x20)) ≡ spaces n
+unfolding asciis
+spaces-of zero m h = refl
+spaces-of (suc n) zero h = absurd (omega arith)
+spaces-of (suc n) (suc m) h = ap (λ (l : List Scalar). ascii 0x20 ∷ l) (spaces-of n m (omega arith))
+
+spaces-take : (n : ℕ) → n ≤ 8 → (allPrintable (take n eightSpaces) ≡ true) × (textAt (take n eightSpaces) 0 ≡ spaces n)
+spaces-take n h = let p = printable-of n 8 h in (p, run-printable (take n eightSpaces) p ∙ spaces-of n 8 h)
+
+pub composed-tab : (out : List ℕ) (kind byte p : ℕ) → out ≡ eightSpaces → kind ≡ 10 → Composed out kind byte p (8 - p % 8)
+composed-tab out kind byte p e k =
+    let w = spaces-take (8 - p % 8) (omega arith) in
+    rw e record { fits = omega arith; small = omega arith; printable = w .0; same = rw (eq-eqb kind 10 k) (w .1) }
+
+pub composed-mark : (out : List ℕ) (kind byte p h l : ℕ) → out ≡ eightSpaces → (kind ≢ 10) → byte < 256 → h ≡ numbers.hexDigit (byte / 16) → l ≡ numbers.hexDigit (byte % 16)
+    → Composed (set (set (set (set out 0 0x3C) 1 h) 2 l) 3 0x3E) kind byte p 4
+unfolding byteMark allPrintable asciis
+composed-mark out kind byte p h l e k b f g =
+    let hi : printable h ≡ true = rw f (let m : byte / 16 % 16 ≡ byte / 16 = omega arith in rw m at (digit-printable (byte / 16))) in
+    let lo : printable l ≡ true = rw g (digit-printable byte) in
+    let all : allPrintable (0x3C ∷ h ∷ l ∷ 0x3E ∷ []) ≡ true = rw (hi, lo) refl in
+    rw e record {
+      fits = omega arith;
+      small = omega arith;
+      printable = all;
+      same = rw (ne-eqb kind 10 k) (run-printable (0x3C ∷ h ∷ l ∷ 0x3E ∷ []) all ∙ rw (digit-is (byte / 16), digit-is (byte % 16), f, g) refl);
+    }
+
+pub composed-style : (kind : ℕ) → kind ≡ 10 → File ≡ composedStyle kind
+composed-style kind k = rw (eq-eqb kind 10 k) refl
+
+pub mark-style : (kind : ℕ) → (kind ≢ 10) → Control ≡ composedStyle kind
+mark-style kind k = rw (ne-eqb kind 10 k) refl
+
+module _ (out : List ℕ) (kind byte : ℕ) (t : AttributeState) (n : ℕ) (c : Composed out kind byte (t .position .0) n) where
+  pub composed-fits : n ≤ 8
+  composed-fits = c .small
+
+  pub composed-slice : n ≡ length (take n out)
+  composed-slice = sym (length-take-le n out (c .fits))
+
+  pub composed-ready : t .position .0 + 16 < 2 ^ 64 → ColumnsReady (take n out) t
+  composed-ready r = record { printable = c .printable; room = rw (length-take-le n out (c .fits)) (omega (arith, c .small)) }
+
+  pub composed-wrote : (w : Window) (l l′ : List ℕ) (at : ℕ) (r : Stepped) (k : code.Style) → k ≡ composedStyle kind → Wrote l at t (writingColumns w (take n out) t k) l′ (r .at) (r .state) → ComposedWrote w kind byte l at t l′ r
+  composed-wrote w l l′ at r k e h =
+      record {
+        wrote = rw (c .same, e) at h;
+        near = omega (arith, written-position w l l′ at (r .at) t (r .state) (styleOf k) (textAt (take n out) 0) h, columns-width (w .profile) (take n out) (c .printable), length-take-le n out (c .fits), c .small);
+      }

@@ -1,0 +1,332 @@
+-- The forward walk through a cluster: a packed scalar taken apart, the rules by the state's number, a turn of the loop and its ends.
+use Prim.Native.Nat.{_%_, _*_, _+_, _/_, _<_, _≤_, ℕ}
+use native.Mathlib.Nat.{add-assoc, add-zero}
+use native.Mathlib.Omega.{arith}
+use mathlib.Core.Bool.{Bool, _&&_, _||_, and-false, cond, false, not, true}
+use mathlib.Core.List.{List, [], _∷_}
+use mathlib.Core.Logic.{_⊎_, inl, inr, ⊎-elim}
+use mathlib.Core.Path.{_∙_, _≡_, ap, refl, sym}
+use lib.Dec.{T, eqb, eqb→eq, leb, leb→le, ltb}
+use lib.ListN.{List·getD-eq-default, drop, getD, length, length-drop, take}
+use borrow.Author.Tests.{eq-eqb, eqb-false, eqb-true, ltb-false, ltb-true, ne-eqb}
+use Rattle.text.specs.Class.{Class, Profile, among, classL, classLV, classLVT, classT, classV, control, cr, extend, lf, number, other, regionalIndicator, zwj}
+use Rattle.text.specs.Cluster.{after, classOf, clusters, context, joined, joins, start}
+use Rattle.text.specs.Cluster.Laws.{clusters-first, further}
+use Rattle.text.specs.Code.{contextOf, firstOf, firstSequence, printable, profileOf, size}
+use Rattle.text.specs.Code.Laws.{none-at, none-past, plain-cluster, plain-width, run-fits, run-valid, scalar-at, width-size, width-two}
+use Rattle.text.specs.Each.{All, all-split}
+use Rattle.text.specs.Segmentation.{NextCluster, NextClusterReady, moreOf, packedAt, stateAfter, stateContext}
+use Rattle.text.specs.Segmentation.Laws.{packed-past}
+use Rattle.text.specs.Tests.{and-T, cases, is-true, true-T}
+use Rattle.text.specs.TextParts.{Measured, column, place, textAt}
+use Rattle.text.specs.TextParts.Laws.{first-all}
+use Rattle.text.specs.Utf8.{Range, Scalar, ascii, decode, decodeFrom, fits, lengthIn, sequence, table}
+use Rattle.text.specs.Utf8.Valid.{Valid}
+use Rattle.text.specs.Width.{profile01, widthOf}
+use Rattle.text.proofs.Ascii.{alone-numbers, each-at, eachFrom, other-alone}
+use Rattle.text.proofs.Branch.{in-range, met, on-false, on-true}
+use Rattle.text.proofs.PackedScalars.{first-packed, printable-one}
+use Rattle.text.proofs.Units.{first-by}
+use Rattle.text.specs.declared.class.Profile as code
+use Rattle.text.specs.declared.utf8.Sequence.{Sequence}
+
+-- ---- bounds
+
+short : List (List Range) → Bool
+short [] = true
+short (r ∷ rs) = leb (length r) 4 && short rs
+
+short-table : T (short table)
+unfolding short table
+short-table = tt
+
+in-short : (rows : List (List Range)) (s : List ℕ) → T (short rows) → lengthIn rows s ≤ 4
+unfolding short lengthIn
+in-short [] s t = omega arith
+in-short (r ∷ rs) s t =
+    let q = and-T (leb (length r) 4) (short rs) t in
+    cases (fits r s) (λ e. rw e (leb→le _ _ (q .0))) (λ e. rw e (in-short rs s (q .1)))
+
+len-le : (s : List ℕ) → firstSequence (decode s) .len ≤ 4
+unfolding firstSequence decode decodeFrom sequence
+len-le [] = omega arith
+len-le (b ∷ s) = rw (first-by b s (sequence (b ∷ s)) refl) (in-short table (b ∷ s) short-table)
+
+number-le : (c : Class) → number c ≤ 11
+unfolding number
+number-le cr = omega arith
+number-le lf = omega arith
+number-le control = omega arith
+number-le extend = omega arith
+number-le zwj = omega arith
+number-le classL = omega arith
+number-le classV = omega arith
+number-le classT = omega arith
+number-le classLV = omega arith
+number-le classLVT = omega arith
+number-le regionalIndicator = omega arith
+number-le other = omega arith
+
+pub class-small : (P : Profile) (x k : ℕ) → k ≡ number (P .class x) → k ≤ 11
+class-small P x k e = rw e (number-le (P .class x))
+
+-- ---- a packed scalar
+
+record Some (P : Profile) (s : List ℕ) (p v : ℕ) : Type 0 where
+  c : Scalar
+  run : textAt s p ≡ c ∷ textAt s (p + v % 8)
+  class : classOf P c ≡ v / 8 % 16
+  len : length (c .bytes) ≡ v % 8
+  columns : P .width (c .code) ≡ v / 128
+  some : 1 ≤ v % 8
+  room : p + v % 8 ≤ length s
+
+record None (s : List ℕ) (p v : ℕ) : Type 0 where
+  run : textAt s p ≡ []
+  zero : v ≡ 0
+
+rest-of : (k w : ℕ) → k ≤ 11 → (k + 16 * w) % 16 ≡ k
+rest-of k w g = omega (arith, g)
+
+view : (P : Profile) (s : List ℕ) (p v : ℕ) → p < length s → v ≡ packedAt P s p → None s p v ⊎ Some P s p v
+unfolding packedAt
+view P s p v here read =
+    let q : Sequence = firstSequence (decode (drop p s)) in
+    let k : ℕ = number (P .class (q .code)) in
+    let w : ℕ = P .width (q .code) in
+    let h : q .len ≤ 4 = len-le (drop p s) in
+    let g : k ≤ 11 = number-le (P .class (q .code)) in
+    cases (eqb (q .len) 0)
+    (λ e. inl (record { run = none-at s p q here refl (eqb-true (q .len) 0 e); zero = rw e at read }))
+    (λ e.
+    let z = scalar-at s p q here refl (eqb-false (q .len) 0 e) in
+    let r : v ≡ q .len + 8 * (k + 16 * w) = rw e at read in
+    let n : v % 8 ≡ q .len = omega (arith, r, h) in
+    let y : v / 8 ≡ k + 16 * w = omega (arith, r, h) in
+    let d : v / 8 % 16 ≡ k = rw y (rest-of k w g) in
+    let x : v / 128 ≡ w = omega (arith, r, h, g) in
+    inr (record {
+      c = z .scalar;
+      run = rw n (z .run);
+      class = ap (λ (y : ℕ). number (P .class y)) (z .code) ∙ sym d;
+      len = z .len ∙ sym n;
+      columns = ap (P .width) (z .code) ∙ sym x;
+      some = rw n (z .some);
+      room = rw n (z .fits);
+    }))
+
+pub class-le : (P : Profile) (s : List ℕ) (p v : ℕ) → p < length s → v ≡ packedAt P s p → v / 8 % 16 ≤ 11
+class-le P s p v here read = ⊎-elim
+    (λ (n : None s p v). rw (n .zero) (omega arith))
+    (λ (x : Some P s p v). rw (← x .class) (number-le (P .class (x .c .code))))
+    (view P s p v here read)
+
+-- ---- the rules, by the class of the next scalar
+
+unfoldable pub continues : ℕ → ℕ → Bool
+continues p c =
+    cond (eqb c 11) false
+    (cond (eqb c 3 || eqb c 4) (not (eqb p 2 || (eqb p 0 || eqb p 1)))
+    (cond (eqb c 5 || (eqb c 8 || eqb c 9)) (eqb p 5)
+    (cond (eqb c 6) (eqb p 5 || (eqb p 8 || eqb p 6))
+    (cond (eqb c 7) ((eqb p 8 || eqb p 6) || (eqb p 9 || eqb p 7))
+    (cond (eqb c 10) (eqb p 10) (eqb c 1 && eqb p 0))))))
+
+same : Bool → Bool → Bool
+same a b = cond a b (not b)
+
+same-is : (a b : Bool) → same a b ≡ true → a ≡ b
+unfolding same
+same-is true true e = refl
+same-is true false e = sym e
+same-is false true e = e
+same-is false false e = refl
+
+rule : ℕ → ℕ → Bool
+rule p c = same (continues p c) (joined p (stateContext p) c)
+
+row : ℕ → Bool
+row p = eachFrom 0 12 (rule p)
+
+all-rules : T (eachFrom 0 12 row)
+unfolding eachFrom row rule same continues joined among number
+all-rules = tt
+
+pub rule-is : (p c : ℕ) (r : Bool) → p ≤ 11 → c ≤ 11 → r ≡ continues p c → r ≡ joined p (stateContext p) c
+unfolding row rule
+rule-is p c r h k e =
+    e ∙ same-is (continues p c) (joined p (stateContext p) c) (each-at 12 0 c (rule p) (true-T (each-at 12 0 p row all-rules (omega arith) (omega arith))) (omega arith) (omega arith))
+
+module _ (P : Profile) where
+  -- a state stands for the class and the context: behind an even number of regional indicators they join what other scalars do
+  off-state : (s : List Scalar) → moreOf P 10 (contextOf false) s ≡ moreOf P 11 (contextOf false) s
+  unfolding moreOf joined among number
+  off-state [] = refl
+  off-state (c ∷ s) = refl
+
+  more-state : (p c : ℕ) (s : List Scalar) → moreOf P c (after (stateContext p) c) s ≡ moreOf P (stateAfter p c) (stateContext (stateAfter p c)) s
+  unfolding after among number
+  more-state p c s =
+      cases (eqb c 10)
+      (λ e. cases (eqb p 10) (λ f. rw (eqb-true c 10 e, eqb-true p 10 f) (off-state s)) (λ f. rw (eqb-true c 10 e, f) refl))
+      (λ e. rw (e, and-false (eqb p 10), e) refl)
+
+  more-further : (s : List Scalar) (p : Scalar) (ps : List Scalar) → take (further P (p ∷ ps) s) s ≡ moreOf P (classOf P p) (context P (p ∷ ps)) s
+  unfolding further moreOf joins context
+  more-further [] p ps = refl
+  more-further (c ∷ s) p ps =
+      cases (joined (classOf P p) (context P (p ∷ ps)) (classOf P c))
+      (λ e. rw e (ap (λ (l : List Scalar). c ∷ l) (more-further s c (p ∷ ps))))
+      (λ e. rw e refl)
+
+  first-more : (c : Scalar) (s : List Scalar) → firstOf (clusters P (c ∷ s)) ≡ c ∷ moreOf P (classOf P c) (after start (classOf P c)) s
+  unfolding firstOf context
+  first-more c s = rw (clusters-first P c s) (ap (λ (l : List Scalar). c ∷ l) (more-further s c []))
+
+  no-first : firstOf (clusters P []) ≡ []
+  unfolding firstOf clusters
+  no-first = refl
+
+state-le : (p c b : ℕ) → c ≤ 11 → b ≡ stateAfter p c → b ≤ 11
+state-le p c b h e = cases (eqb p 10 && eqb c 10) (λ t. rw (e, t) (omega arith)) (λ t. rw (e, t) h)
+
+-- ---- a cluster measured
+
+abbrev firstAt : Profile → List ℕ → ℕ → List Scalar
+firstAt P s at = firstOf (clusters P (textAt s at))
+
+module _ (f : code.Profile) (s : List ℕ) (at : ℕ) where
+  measured : (e x : ℕ) → at < length s → e ≡ at + size (firstAt (profileOf f) s at) → x ≡ widthOf (profileOf f) (firstAt (profileOf f) s at)
+      → Measured (profileOf f) s at (firstAt (profileOf f) s at) (record { end = place e; width = column x })
+  measured e x here h v =
+      let k = first-all (profileOf f) (textAt s at) in
+      let a : All Valid (firstAt (profileOf f) s at) = all-split (firstAt (profileOf f) s at) (rw (k .1) at (run-valid (drop at s))) .0 in
+      record {
+        end = h;
+        width = v;
+        inside = omega (arith, h, run-fits (drop at s) (firstAt (profileOf f) s at) (k .0) (k .1), length-drop at s);
+        small = omega (arith, h, v, width-size f a);
+      }
+
+  -- a printable byte before another
+  pub plain-measured : (a b : ℕ) (p q : Bool) → a ≡ getD s at 0 → b ≡ getD s (at + 1) 0 → p ≡ printable a → p ≡ true → q ≡ printable b → q ≡ true → at < length s
+      → Measured (profileOf f) s at (firstAt (profileOf f) s at) (record { end = place (at + 1); width = column 1 })
+  unfolding size widthOf profileOf profile01
+  plain-measured a b p q ea eb hp tp hq tq here =
+      let x = and-T (leb 0x20 a) (leb a 0x7E) (true-T (sym hp ∙ tp)) in
+      let y = and-T (leb 0x20 b) (leb b 0x7E) (true-T (sym hq ∙ tq)) in
+      let e : firstAt (profileOf f) s at ≡ ascii a ∷ [] = plain-cluster f s at a b ea eb (leb→le _ _ (x .0)) (leb→le _ _ (x .1)) (leb→le _ _ (y .0)) (leb→le _ _ (y .1)) in
+      measured (at + 1) 1 here (rw e (omega arith)) (rw (e, plain-width a (leb→le _ _ (x .0)) (leb→le _ _ (x .1))) (omega arith))
+
+-- ---- the loop
+
+-- at p, with w columns behind: what is left of the cluster that begins at a place
+pub record Walking (P : Profile) (s : List ℕ) (at p w state : ℕ) : Type 0 where
+  pub here : at < length s
+  pub class : state ≤ 11
+  pub inside : p ≤ length s
+  pub bound : w ≤ 2 * p
+  pub ends : at + size (firstAt P s at) ≡ p + size (moreOf P state (stateContext state) (textAt s p))
+  pub widths : widthOf P (firstAt P s at) ≡ w + widthOf P (moreOf P state (stateContext state) (textAt s p))
+
+no-both : (r : Bool) → r ≡ true → r ≡ false → ⊥
+no-both r t f = let e : _≡_ {A = ℕ} 0 1 = ap (λ (b : Bool). cond b 0 1) (sym t ∙ f) in omega (arith, e)
+
+module _ (f : code.Profile) where
+  abbrev P : Profile
+  P = profileOf f
+
+  pub width-room : (s : List ℕ) (p v : ℕ) → p < length s → v ≡ packedAt P s p → (v / 128 ≤ 2 * (v % 8)) × (p + v % 8 ≤ length s)
+  width-room s p v here read = ⊎-elim
+      (λ (n : None s p v). rw (n .zero) (omega arith, omega arith))
+      (λ (x : Some P s p v). (omega (arith, x .some, width-two f (x .c .code) (v / 128) (sym (x .columns))), x .room))
+      (view P s p v here read)
+
+  pub walk-begin : (s : List ℕ) (at u : ℕ) → NextClusterReady P s at u → Walking P s at (at + u % 8) (u / 128) (u / 8 % 16)
+  unfolding moreOf size widthOf
+  walk-begin s at u h =
+      let b = width-room s at u (h .inside) (h .scalar) in
+      ⊎-elim
+      (λ (n : None s at u). record {
+        here = h .inside;
+        class = class-le P s at u (h .inside) (h .scalar);
+        inside = b .1;
+        bound = omega (arith, b .0);
+        ends = rw (n .zero, add-zero at, n .run, no-first P) refl;
+        widths = rw (n .zero, add-zero at, n .run, no-first P) refl;
+      })
+      (λ (x : Some P s at u).
+      let rest : List Scalar = textAt s (at + u % 8) in
+      let e : firstAt P s at ≡ x .c ∷ moreOf P (u / 8 % 16) (stateContext (u / 8 % 16)) rest = ap (λ (l : List Scalar). firstOf (clusters P l)) (x .run) ∙ first-more P (x .c) rest ∙ rw (x .class, more-state P 0 (u / 8 % 16) rest) refl in
+      record {
+        here = h .inside;
+        class = class-le P s at u (h .inside) (h .scalar);
+        inside = b .1;
+        bound = omega (arith, b .0);
+        ends = rw (e, x .len) (sym (add-assoc at (u % 8) _));
+        widths = rw (e, x .columns) refl;
+      })
+      (view P s at u (h .inside) (h .scalar))
+
+  -- the end of what is left
+  walk-stop : (s : List ℕ) (at p w state v : ℕ) → Walking P s at p w state → moreOf P state (stateContext state) (textAt s p) ≡ [] → v ≡ packedAt P s p
+      → NextCluster P s at (record { part = record { end = place p; width = column w }; next = v })
+  unfolding size widthOf
+  walk-stop s at p w state v h e read =
+      record { part = measured f s at p w (h .here) (sym (rw (e, add-zero) at (h .ends))) (sym (rw (e, add-zero) at (h .widths))); next = read }
+
+  pub walk-end : (s : List ℕ) (at p w state : ℕ) → length s ≤ p → Walking P s at p w state
+      → NextCluster P s at (record { part = record { end = place p; width = column w }; next = 0 })
+  unfolding moreOf
+  walk-end s at p w state l h = walk-stop s at p w state 0 h (rw (none-past s p l) refl) (sym (packed-past P s p l))
+
+  -- the scalar v stands at p
+  module _ (s : List ℕ) (at p w state v : ℕ) (here : p < length s) (read : v ≡ packedAt P s p) (h : Walking P s at p w state) (r : Bool)
+      (rr : r ≡ joined state (stateContext state) (v / 8 % 16)) where
+    pub walk-boundary : r ≡ false → NextCluster P s at (record { part = record { end = place p; width = column w }; next = v })
+    unfolding moreOf
+    walk-boundary t =
+        walk-stop s at p w state v h
+        (⊎-elim (λ (n : None s p v). rw (n .run) refl) (λ (x : Some P s p v). rw (x .run, x .class, sym rr ∙ t) refl) (view P s p v here read))
+        read
+
+    some-at : r ≡ true → Some P s p v
+    unfolding among number
+    some-at t = ⊎-elim
+        (λ (n : None s p v). absurd (no-both r t (rr ∙ rw (n .zero) (alone-numbers state (stateContext state) 0 refl))))
+        (λ (x : Some P s p v). x)
+        (view P s p v here read)
+
+    pub walk-room : r ≡ true → (p + v % 8 ≤ length s) × (1 ≤ v % 8)
+    walk-room t = let x = some-at t in (x .room, x .some)
+
+    pub walk-turn : (b : ℕ) → r ≡ true → b ≡ stateAfter state (v / 8 % 16) → Walking P s at (p + v % 8) (w + v / 128) b
+    unfolding moreOf size widthOf
+    walk-turn b t e =
+        let x = some-at t in
+        let l = width-room s p v here read in
+        let rest : List Scalar = textAt s (p + v % 8) in
+        let m : moreOf P state (stateContext state) (textAt s p) ≡ x .c ∷ moreOf P b (stateContext b) rest = rw (x .run, x .class, sym rr ∙ t, e, more-state P state (v / 8 % 16) rest) refl in
+        record {
+          here = h .here;
+          class = state-le state (v / 8 % 16) b (class-le P s p v here read) e;
+          inside = x .room;
+          bound = omega (arith, l .0, h .bound);
+          ends = rw (m, x .len, ← add-assoc) at (h .ends);
+          widths = rw (m, x .columns, ← add-assoc) at (h .widths);
+        }
+
+  -- a printable byte before another
+  pub plain-next : (s : List ℕ) (at u b : ℕ) (q : Bool) → NextClusterReady P s at u → b ≡ getD s (at + 1) 0 → q ≡ printable b → (eqb u 217 && q) ≡ true
+      → NextCluster P s at (record { part = record { end = place (at + 1); width = column 1 }; next = u })
+  plain-next s at u b q h eb hq t =
+      let k = and-T (eqb u 217) q (true-T t) in
+      let e : u ≡ 217 = eqb→eq u 217 (k .0) in
+      let tb : printable b ≡ true = sym hq ∙ is-true q (k .1) in
+      let w = in-range 0x20 0x7E b tb in
+      let l : at + 1 < length s = cases (ltb (at + 1) (length s)) (λ t. ltb-true (at + 1) (length s) t) (λ t. absurd (omega (arith, w .0, eb ∙ List·getD-eq-default s 0 (ltb-false (at + 1) (length s) t)))) in
+      let v : 217 ≡ packedAt P s (at + 1) = first-packed P s (at + 1) b 217 l eb (omega (arith, w .1)) (printable-one f b tb) in
+      let g : Walking P s at (at + 1) 1 11 = rw e at (walk-begin s at u h) in
+      walk-boundary s at (at + 1) 1 11 u l (rw e v) g false (rw e (sym (alone-numbers 11 (stateContext 11) 11 other-alone))) refl
+
+pub ruleset rules = (rule-is, on-false, on-true, met, eq-eqb, ne-eqb)

@@ -1,0 +1,212 @@
+-- A packed scalar by its value, ranges computed whole, and by its bytes.
+use Prim.Native.Nat.{_%_, _*_, _+_, _-_, _<_, _≤_, ℕ}
+use native.Mathlib.Omega.{arith}
+use mathlib.Core.Bool.{Bool, _&&_, _||_, and-false, false, true}
+use mathlib.Core.List.{List}
+use mathlib.Core.Logic.{_≢_}
+use mathlib.Core.Path.{_∙_, _≡_, ap, refl, sym}
+use lib.Dec.{T, eqb, leb, ltb}
+use lib.ListN.{getD, length}
+use borrow.Author.Tests.{eq-eqb, eqb-true, le-leb, leb-false, leb-true, lt-leb, ne-eqb}
+use Rattle.text.specs.Class.{Profile, class01, controls, extends, number}
+use Rattle.text.specs.Code.{fourBytes, isTail, profileOf, threeBytes, twoBytes}
+use Rattle.text.specs.Segmentation.{packed, packedAs, packedAt}
+use Rattle.text.specs.Tests.{cases}
+use Rattle.text.specs.Width.{width01}
+use Rattle.text.proofs.Ascii.{ascii-sequence, clear, each-at, eachFrom, other-class, quiet-test, syllable-class, syllable-width, wide-width}
+use Rattle.text.proofs.Branch.{in-range}
+use Rattle.text.proofs.Leads.{four-at, three-at, two-at}
+use Rattle.text.specs.declared.class.Profile as code
+
+is : ℕ → ℕ → Bool
+is k x = eqb (number (class01 x) + 16 * width01 x) k
+
+leaf : (f : code.Profile) (n lo m k x : ℕ) → T (eachFrom lo m (is k)) → lo ≤ x → x < lo + m → n + 8 * k ≡ packedAs (profileOf f) n x
+unfolding profileOf is
+leaf f n lo m k x t h l = ap (λ (y : ℕ). n + 8 * y) (sym (eqb-true (number (class01 x) + 16 * width01 x) k (each-at m lo x (is k) t h l)))
+
+printables : T (eachFrom 0x20 95 (is 27))
+unfolding eachFrom is number class01 width01
+printables = tt
+
+letters : T (eachFrom 0xA0 608 (is 27))
+unfolding eachFrom is number class01 width01
+letters = tt
+
+greek : T (eachFrom 0x370 275 (is 27))
+unfolding eachFrom is number class01 width01
+greek = tt
+
+marks : T (eachFrom 0x300 112 (is 3))
+unfolding eachFrom is number class01 width01
+marks = tt
+
+leads : T (eachFrom 0x1100 96 (is 37))
+unfolding eachFrom is number class01 width01
+leads = tt
+
+vowels : T (eachFrom 0x1160 72 (is 6))
+unfolding eachFrom is number class01 width01
+vowels = tt
+
+tails : T (eachFrom 0x11A8 88 (is 7))
+unfolding eachFrom is number class01 width01
+tails = tt
+
+indicators : T (eachFrom 0x1F1E6 26 (is 26))
+unfolding eachFrom is number class01 width01
+indicators = tt
+
+pictures : T (eachFrom 0x1F300 848 (is 43))
+unfolding eachFrom is number class01 width01
+pictures = tt
+
+signs : T (eachFrom 0x1F650 688 (is 27))
+unfolding eachFrom is number class01 width01
+signs = tt
+
+-- a control below 80
+control-test : ℕ → Bool
+control-test x = (leb 0x20 x && leb x 0x7E) || (eqb x 0x0D || (eqb x 0x0A || is 2 x))
+
+all-controls : T (eachFrom 0 128 control-test)
+unfolding eachFrom control-test is number class01 width01
+all-controls = tt
+
+control-is : (x : ℕ) → x < 0x80 → (leb 0x20 x && leb x 0x7E) ≡ false → (x ≢ 0x0D) → (x ≢ 0x0A) → is 2 x ≡ true
+unfolding control-test
+control-is x l e m n = rw (e, ne-eqb x 0x0D m, ne-eqb x 0x0A n) at (each-at 128 0 x control-test all-controls (omega arith) (omega (arith, l)))
+
+module _ (f : code.Profile) (x : ℕ) where
+  abbrev P : Profile
+  P = profileOf f
+
+  pub printable-one : (leb 0x20 x && leb x 0x7E) ≡ true → 217 ≡ packedAs P 1 x
+  printable-one e = let w = in-range 0x20 0x7E x e in leaf f 1 0x20 95 27 x printables (w .0) (omega (arith, w .1))
+
+  pub letter : (leb 0xA0 x && leb x 0x2FF) ≡ true → 218 ≡ packedAs P 2 x
+  letter e = let w = in-range 0xA0 0x2FF x e in leaf f 2 0xA0 608 27 x letters (w .0) (omega (arith, w .1))
+
+  pub greek-letter : (leb 0x370 x && leb x 0x482) ≡ true → 218 ≡ packedAs P 2 x
+  greek-letter e = let w = in-range 0x370 0x482 x e in leaf f 2 0x370 275 27 x greek (w .0) (omega (arith, w .1))
+
+  pub mark : (leb 0x300 x && leb x 0x36F) ≡ true → 26 ≡ packedAs P 2 x
+  mark e = let w = in-range 0x300 0x36F x e in leaf f 2 0x300 112 3 x marks (w .0) (omega (arith, w .1))
+
+  pub lead : (leb 0x1100 x && leb x 0x115F) ≡ true → 299 ≡ packedAs P 3 x
+  lead e = let w = in-range 0x1100 0x115F x e in leaf f 3 0x1100 96 37 x leads (w .0) (omega (arith, w .1))
+
+  pub vowel : (leb 0x1160 x && leb x 0x11A7) ≡ true → 51 ≡ packedAs P 3 x
+  vowel e = let w = in-range 0x1160 0x11A7 x e in leaf f 3 0x1160 72 6 x vowels (w .0) (omega (arith, w .1))
+
+  pub final : (leb 0x11A8 x && leb x 0x11FF) ≡ true → 59 ≡ packedAs P 3 x
+  final e = let w = in-range 0x11A8 0x11FF x e in leaf f 3 0x11A8 88 7 x tails (w .0) (omega (arith, w .1))
+
+  pub indicator : (leb 0x1F1E6 x && leb x 0x1F1FF) ≡ true → 212 ≡ packedAs P 4 x
+  indicator e = let w = in-range 0x1F1E6 0x1F1FF x e in leaf f 4 0x1F1E6 26 26 x indicators (w .0) (omega (arith, w .1))
+
+  pub picture : (leb 0x1F300 x && leb x 0x1F64F) ≡ true → 348 ≡ packedAs P 4 x
+  picture e = let w = in-range 0x1F300 0x1F64F x e in leaf f 4 0x1F300 848 43 x pictures (w .0) (omega (arith, w .1))
+
+  pub sign : (leb 0x1F650 x && leb x 0x1F8FF) ≡ true → 220 ≡ packedAs P 4 x
+  sign e = let w = in-range 0x1F650 0x1F8FF x e in leaf f 4 0x1F650 688 27 x signs (w .0) (omega (arith, w .1))
+
+  pub carriage : x ≡ 0x0D → 1 ≡ packedAs P 1 x
+  unfolding profileOf number class01 width01
+  carriage e = rw e refl
+
+  pub line-feed : x ≡ 0x0A → 9 ≡ packedAs P 1 x
+  unfolding profileOf number class01 width01
+  line-feed e = rw e refl
+
+  pub lone-control : x < 0x80 → (leb 0x20 x && leb x 0x7E) ≡ false → (x ≢ 0x0D) → (x ≢ 0x0A) → 17 ≡ packedAs P 1 x
+  unfolding profileOf is
+  lone-control l e m n = ap (λ (y : ℕ). 1 + 8 * y) (sym (eqb-true (number (class01 x) + 16 * width01 x) 2 (control-is x l e m n)))
+
+  pub wide : (leb 0x3041 x && leb x 0xA4CF) ≡ true → 347 ≡ packedAs P 3 x
+  unfolding quiet-test clear controls extends
+  wide e =
+      let w = in-range 0x3041 0xA4CF x e in
+      let c : 11 ≡ number (P .class x) = other-class f 0x2100 0xA95F x tt (omega (arith, w .0)) (omega (arith, w .1)) in
+      rw (← c, ← wide-width f x (w .0) (w .1)) refl
+
+  pub open-syllable : (leb 0xAC00 x && leb x 0xD7A3) ≡ true → (x - 0xAC00) % 28 ≡ 0 → 323 ≡ packedAs P 3 x
+  unfolding number
+  open-syllable e z =
+      let w = in-range 0xAC00 0xD7A3 x e in
+      let c : 8 ≡ number (P .class x) = syllable-class f x (w .0) (w .1) 8 (rw (eq-eqb ((x - 0xAC00) % 28) 0 z) refl) in
+      rw (← c, ← syllable-width f x (w .0) (w .1)) refl
+
+  pub closed-syllable : (leb 0xAC00 x && leb x 0xD7A3) ≡ true → ((x - 0xAC00) % 28 ≢ 0) → 331 ≡ packedAs P 3 x
+  unfolding number
+  closed-syllable e z =
+      let w = in-range 0xAC00 0xD7A3 x e in
+      let c : 9 ≡ number (P .class x) = syllable-class f x (w .0) (w .1) 9 (rw (ne-eqb ((x - 0xAC00) % 28) 0 z) refl) in
+      rw (← c, ← syllable-width f x (w .0) (w .1)) refl
+
+-- ---- by the bytes
+
+module _ (P : Profile) (a b r : ℕ) (tb : isTail b ≡ true) where
+  pub two-on : 0xC2 ≤ a → r ≡ packedAs P 2 (a % 32 * 64 + b % 64) → r ≡ packed P (twoBytes a b)
+  two-on h e = rw (le-leb 0xC2 a h, tb) e
+
+  pub two-off : a < 0xC2 → 0 ≡ packed P (twoBytes a b)
+  two-off h = rw (lt-leb 0xC2 a h) refl
+
+  module _ (c : ℕ) (tc : isTail c ≡ true) where
+    abbrev x₃ : ℕ
+    x₃ = (a % 16 * 64 + b % 64) * 64 + c % 64
+
+    pub three-on : (leb 0x800 x₃ && (ltb x₃ 0xD800 || ltb 0xDFFF x₃)) ≡ true → r ≡ packedAs P 3 x₃ → r ≡ packed P (threeBytes a b c)
+    three-on h e = rw (tb, tc, h) e
+
+    pub three-off : (leb 0x800 x₃ && (ltb x₃ 0xD800 || ltb 0xDFFF x₃)) ≡ false → 0 ≡ packed P (threeBytes a b c)
+    three-off h = rw (tb, tc, h) refl
+
+    module _ (d : ℕ) (t : Bool) (td : t ≡ isTail d) where
+      abbrev x₄ : ℕ
+      x₄ = ((a % 8 * 64 + b % 64) * 64 + c % 64) * 64 + d % 64
+
+      pub four-on : ((leb a 0xF4 && t) && (leb 0x10000 x₄ && leb x₄ 0x10FFFF)) ≡ true → r ≡ packedAs P 4 x₄ → r ≡ packed P (fourBytes a b c d)
+      four-on h e = rw (tb, tc, ← td, h) e
+
+      pub four-off : ((leb a 0xF4 && t) && (leb 0x10000 x₄ && leb x₄ 0x10FFFF)) ≡ false → 0 ≡ packed P (fourBytes a b c d)
+      four-off h = rw (tb, tc, ← td, h) refl
+
+pub two-packed : (P : Profile) (s : List ℕ) (p a b r : ℕ) → p < length s → a ≡ getD s p 0 → b ≡ getD s (p + 1) 0 → r ≡ packed P (twoBytes a b) → 0x7F < a → a ≤ 0xDF → r ≡ packedAt P s p
+unfolding packedAt
+two-packed P s p a b r here ea eb e lo hi = rw (← two-at s p a b (getD s (p + 2) 0) here ea eb refl (twoBytes a b) refl lo hi) e
+
+module _ (P : Profile) (s : List ℕ) (p a b c : ℕ) (here : p < length s) (ea : a ≡ getD s p 0) (eb : b ≡ getD s (p + 1) 0) (ec : c ≡ getD s (p + 2) 0) (r : ℕ) where
+  pub three-packed : r ≡ packed P (threeBytes a b c) → 0xDF < a → a ≤ 0xEF → r ≡ packedAt P s p
+  unfolding packedAt
+  three-packed e lo hi = rw (← three-at s p a b c here ea eb ec (threeBytes a b c) refl lo hi) e
+
+  pub four-packed : (d : ℕ) → d ≡ getD s (p + 3) 0 → r ≡ packed P (fourBytes a b c d) → 0xEF < a → r ≡ packedAt P s p
+  unfolding packedAt
+  four-packed d ed e lo = rw (← four-at s p a b c here ea eb ec d (fourBytes a b c d) ed refl lo) e
+
+pub first-packed : (P : Profile) (s : List ℕ) (p a r : ℕ) → p < length s → a ≡ getD s p 0 → a ≤ 0x7F → r ≡ packedAs P 1 a → r ≡ packedAt P s p
+unfolding packedAt
+first-packed P s p a r here ea l e = rw (← ascii-sequence s p a here ea (omega (arith, l))) e
+
+-- ---- too few continuation bytes
+
+module _ (P : Profile) (s : List ℕ) (p a b : ℕ) (here : p < length s) (ea : a ≡ getD s p 0) (eb : b ≡ getD s (p + 1) 0) where
+  long-none : (c : ℕ) → c ≡ getD s (p + 2) 0 → 0xDF < a → 0 ≡ packed P (threeBytes a b c) → 0 ≡ packed P (fourBytes a b c (getD s (p + 3) 0)) → 0 ≡ packedAt P s p
+  long-none c ec lo h k =
+      cases (leb a 0xEF)
+      (λ e. three-packed P s p a b c here ea eb ec 0 h lo (leb-true a 0xEF e))
+      (λ e. four-packed P s p a b c here ea eb ec 0 (getD s (p + 3) 0) refl k (leb-false a 0xEF e))
+
+  pub no-second : (t : Bool) → 0x7F < a → t ≡ isTail b → t ≡ false → 0 ≡ packedAt P s p
+  no-second t lo h f =
+      let tb : isTail b ≡ false = sym h ∙ f in
+      cases (leb a 0xDF)
+      (λ e. two-packed P s p a b 0 here ea eb (rw (tb, and-false (leb 0xC2 a)) refl) lo (leb-true a 0xDF e))
+      (λ e. long-none (getD s (p + 2) 0) refl (leb-false a 0xDF e) (rw tb refl) (rw (tb, and-false (leb a 0xF4)) refl))
+
+  pub no-third : (c : ℕ) (t : Bool) → c ≡ getD s (p + 2) 0 → 0xDF < a → t ≡ isTail c → t ≡ false → 0 ≡ packedAt P s p
+  no-third c t ec lo h f =
+      let tc : isTail c ≡ false = sym h ∙ f in
+      long-none c ec lo (rw (tc, and-false (isTail b)) refl) (rw (tc, and-false (isTail b), and-false (leb a 0xF4)) refl)

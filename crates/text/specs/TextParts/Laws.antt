@@ -1,0 +1,40 @@
+-- A text's first cluster, and the text behind a part.
+use mathlib.Core.Path.{_≡_, refl, sym, ap, _∙_}
+use Prim.Native.Nat.{ℕ, _+_}
+use native.Mathlib.Omega.{arith}
+use mathlib.Core.List.{List, [], _∷_, _++_}
+use mathlib.Core.Logic.{_≢_}
+use lib.ListN.{drop, take}
+use lib.Seq.{drop-drop}
+use Rattle.text.specs.Each.{All, all-nil, all-cons}
+use Rattle.text.specs.Utf8.{Scalar}
+use Rattle.text.specs.Utf8.Valid.{Valid}
+use Rattle.text.specs.Class.{Profile}
+use Rattle.text.specs.Cluster.{clusters}
+use Rattle.text.specs.Cluster.Laws.{clusters-first, further}
+use Rattle.text.specs.Code.{size, firstOf}
+use Rattle.text.specs.Code.Laws.{FirstCluster, first-cluster, run-behind}
+use Rattle.text.specs.TextParts.{textAt, Measured}
+use Rattle.text.specs.declared.TextPart.{TextPart}
+
+-- a text begins with its first cluster
+pub first-all : (P : Profile) (t : List Scalar) → (rest : List Scalar) × (t ≡ firstOf (clusters P t) ++ rest)
+unfolding firstOf clusters
+first-all P [] = ([], refl)
+first-all P (c ∷ t) = let k = first-cluster P c t in (k .rest, k .text)
+
+-- a first cluster of no bytes is none
+pub first-there : (P : Profile) (s : List Scalar) → (size (firstOf (clusters P s)) ≢ 0) → FirstCluster P s
+unfolding size firstOf clusters
+first-there P [] z = absurd (z refl)
+first-there P (c ∷ s) z = first-cluster P c s
+
+pub first-none : (P : Profile) {s : List Scalar} → All Valid s → size (firstOf (clusters P s)) ≡ 0 → s ≡ []
+unfolding size firstOf
+first-none P all-nil z = refl
+first-none P (all-cons {a = c} {s = s} v a) z =
+    let e : size (c ∷ take (further P (c ∷ []) s) s) ≡ 0 = ap (λ (gs : List (List Scalar)). size (firstOf gs)) (sym (clusters-first P c s)) ∙ z in
+    absurd (omega (arith, v .some))
+
+pub behind-part : (P : Profile) (s : List ℕ) (at : ℕ) (front rest : List Scalar) (r : TextPart) → Measured P s at front r → textAt s at ≡ front ++ rest → textAt s (r .end .0) ≡ rest
+behind-part P s at front rest r m e = rw (m .end, ← drop-drop (size front) at s) (run-behind (drop at s) front rest e)
