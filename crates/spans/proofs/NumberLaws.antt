@@ -8,15 +8,15 @@ use mathlib.Core.List.{List, [], _∷_, _++_}
 use lib.ListN.{length, take, drop, getD, replicate, drop-of-length-le}
 use lib.Seq.{drop-cons, take-append-seam}
 use lib.Dec.{leb}
-use borrow.Author.Tests.{le-leb, leb-true, leb-false}
+use borrow.Author.Tests.{le-leb}
 use borrow.Table.Elements.{length-take-le}
+use Rattle.buffer.specs.Numbers.Laws.{smaller-left, smaller-right}
 use Rattle.buffer.specs.Sink.{Sink, sink, put, emit, landed, written}
 use Rattle.buffer.specs.Sink.Laws.{emit-none, emit-append, emit-room}
-use Rattle.text.specs.Tests.{cases}
 use Rattle.text.specs.declared.Answer.{Answer}
 use Rattle.spans.specs.Spans.{Record}
 use Rattle.spans.specs.Calls.{Read, noRecord}
-use Rattle.spans.specs.Contracts.{clipped, readAs, numbersOf, numbersOfAll, placesIn, ReadNumbers}
+use Rattle.spans.specs.Contracts.{readAs, numbersOf, numbersOfAll, placesIn, ReadNumbers}
 
 pub push-four : (s s₁ s₂ s₃ s₄ : Sink) (a b c d : ℕ) → s₁ ≡ put s a → s₂ ≡ put s₁ b → s₃ ≡ put s₂ c → s₄ ≡ put s₃ d → s₄ ≡ emit s (a ∷ b ∷ c ∷ d ∷ [])
 unfolding emit
@@ -60,17 +60,14 @@ numbers-end before pushed rs i n h k past p f =
 
 -- ---- the places that are lent
 
-clipped-first : (a b : ℕ) → clipped a b ≤ a
-clipped-first a b = cases (leb a b) (λ e. rw e (omega arith)) (λ e. rw e (omega (arith, leb-false a b e)))
-
 pub places-few : (m : ℕ) → placesIn m ≤ 2048
-places-few m = cases (leb (m / 4) 2048) (λ e. rw e (leb-true (m / 4) 2048 e)) (λ e. rw e (omega arith))
+places-few m = smaller-right (m / 4) 2048 (placesIn m) refl
 
 pub places-many : (m : ℕ) (rs : List Record) → length rs ≡ 2048 → length (take (placesIn m) rs) ≡ placesIn m
 places-many m rs len = length-take-le (placesIn m) rs (omega (arith, len, places-few m))
 
 pub places-wide : (m : ℕ) (rs : List Record) → length rs ≡ 2048 → 4 * length (take (placesIn m) rs) ≤ m
-places-wide m rs len = omega (arith, places-many m rs len, clipped-first (m / 4) 2048)
+places-wide m rs len = omega (arith, places-many m rs len, smaller-left (m / 4) 2048 (placesIn m) refl)
 
 -- ---- a call that was lent those places
 

@@ -7,6 +7,7 @@ use mathlib.Core.Option.{Option, none, some}
 use mathlib.Core.List.{List, [], _∷_, _++_}
 use lib.ListN.{length, take, drop, getD, replicate}
 use lib.Dec.{eqb, leb, ltb}
+use Rattle.buffer.specs.Numbers.{smallerOf}
 use Rattle.buffer.specs.Sink.{landed}
 use Rattle.text.specs.Utf8.{Scalar, decode, runOf, bytesOf}
 use Rattle.text.specs.Class.{Profile}
@@ -557,7 +558,7 @@ numbersOfAll (r ∷ rs) = numbersOf r ++ numbersOfAll rs
 
 -- the places of a list of 2,048 that n numbers have room for
 abbrev pub placesIn : ℕ → ℕ
-placesIn n = clipped (n / 4) 2048
+placesIn n = smallerOf (n / 4) 2048
 
 -- the answer is that of a call, and n numbers hold its records
 pub record ReadNumbers (c : Read) (n : ℕ) (a : Answer) (conv numbers : List ℕ) : Type 0 where

@@ -2,9 +2,9 @@
 // its records so owns a list of 2,048 places and lends the call as many of them as the numbers have room for.
 use super::Span;
 use super::read;
-use super::stretches::smaller;
 use buffer::clear_numbers;
 use buffer::push_number;
+use buffer::smaller;
 use text::Answer;
 use text::BytePlace;
 ghost use mathlib.Core.Path.{_≡_};
