@@ -8,6 +8,9 @@ ghost use Rattle.spans.specs.Calls.{readCall};
 ghost use Rattle.spans.specs.Contracts.{readAs};
 ghost use Rattle.rows.specs.Calls.{rowsCall, heightCall};
 ghost use Rattle.rows.specs.Contracts.{wrappedAs};
+ghost use Rattle.drawing.specs.Calls.{windowCall, rowCall};
+ghost use Rattle.drawing.specs.Rendering.{currentOf};
+ghost use Rattle.drawing.specs.Requests.{drawnAs};
 use spans::Span;
 use text::Answer;
 
@@ -55,4 +58,49 @@ pub extern "C" fn console_height(
     ensures { λ r. ⌜ readAs r (now (conv .exit)) (now (spans .exit)) ≡ heightCall profile01 (length (now (conv .entry))) (length (now (spans .entry))) width mode (now (line .entry)) ⌝ }
 {
     rows::height(line, width, mode, conv, spans)
+}
+
+#[no_mangle]
+pub extern "C" fn console_draw_window(
+    line: &[u8],
+    matches: &[usize],
+    current: usize,
+    start: usize,
+    end: usize,
+    conv: &mut [u8],
+    spans: &mut [Span],
+    list: &mut [u8],
+) -> Answer
+    ensures { λ r. ⌜ drawnAs r (now (conv .exit)) (now (spans .exit)) (now (list .exit)) ≡ windowCall profile01 (length (now (conv .entry))) (length (now (spans .entry))) (length (now (list .entry))) start end (currentOf current) (now (matches .entry)) (now (line .entry)) ⌝ }
+{
+    drawing::draw_window(line, matches, current, start, end, conv, spans, list)
+}
+
+#[no_mangle]
+pub extern "C" fn console_draw_row(
+    line: &[u8],
+    matches: &[usize],
+    current: usize,
+    first: usize,
+    count: usize,
+    width: usize,
+    mode: usize,
+    conv: &mut [u8],
+    spans: &mut [Span],
+    list: &mut [u8],
+) -> Answer
+    ensures { λ r. ⌜ drawnAs r (now (conv .exit)) (now (spans .exit)) (now (list .exit)) ≡ rowCall profile01 (length (now (conv .entry))) (length (now (spans .entry))) (length (now (list .entry))) first count width mode (currentOf current) (now (matches .entry)) (now (line .entry)) ⌝ }
+{
+    drawing::draw_row(
+        line,
+        matches,
+        current,
+        first,
+        count,
+        width,
+        mode,
+        conv,
+        spans,
+        list,
+    )
 }

@@ -8,7 +8,7 @@ use mathlib.Core.List.{List, [], _∷_, _++_, append-nil, append-assoc}
 use lib.ListN.{length, take, drop, replicate, set, length-append}
 use lib.Seq.{take-append-seam, length-take-le}
 use lib.Dec.{eqb, ltb}
-use borrow.Author.Tests.{eq-eqb, ne-eqb, lt-ltb, le-ltb, ltb-true, ltb-false, le-leb}
+use borrow.Author.Tests.{eq-eqb, ne-eqb, eqb-true, eqb-false, lt-ltb, le-ltb, ltb-true, ltb-false, le-leb}
 use Rattle.buffer.specs.Numbers as numbers
 use Rattle.buffer.specs.Sink.{Sink, sink, put, emit, written}
 use Rattle.buffer.specs.Sink.Laws.{emit-none, emit-append, then-emit, emit-room}
@@ -20,18 +20,19 @@ use Rattle.text.specs.Code.{runOf, size, profileOf, firstSequence, printable}
 use Rattle.text.specs.Code.Laws.{ScalarAt, scalar-at, none-at, none-past}
 use Rattle.text.specs.TextParts.{textAt}
 use Rattle.text.specs.declared.utf8.Sequence.{Sequence}
+use Rattle.text.specs.declared.class.Profile as profile
 use Rattle.drawing.specs.Clip.{spaces}
 use Rattle.drawing.specs.Marks.{hexDigit, byteMark, upperDigits, scalarMark}
 use Rattle.drawing.specs.Attributes.{control}
 use Rattle.drawing.specs.Draw.{State, Sent, sent, style, move, writeTruncated, writeMarks}
-use Rattle.drawing.specs.Contracts.{allPrintable, styleOf, stateOf, Wrote, ColumnsReady, writingColumns, eightSpaces, composedText, composedStyle, Composed, composing, ComposedWrote, scalarMarking, marking, MarksWrote}
+use Rattle.drawing.specs.Contracts.{allPrintable, styleOf, stateOf, Wrote, ColumnsReady, writingColumns, eightSpaces, composedText, composedStyle, composedColumns, Composed, composing, moved, ComposedWrote, scalarMarking, marking, MarksWrote}
 use Rattle.drawing.specs.declared.attributes.Style as code
 use Rattle.drawing.specs.declared.attributes.Style.the-variants.{File, Control}
 use Rattle.drawing.specs.declared.state.AttributeState.{AttributeState}
 use Rattle.drawing.specs.declared.state.Stepped.{Stepped}
 use Rattle.drawing.specs.declared.write.Window.{Window}
 use Rattle.drawing.proofs.Columns.{run-printable, asciis-bytes, printable-width, columns-width}
-use Rattle.drawing.proofs.Writing.{wrote-then, wrote-none, written-position}
+use Rattle.drawing.proofs.Writing.{wrote-then, wrote-none, written-position, drawn-out}
 
 emit-one : (s : Sink) (b : ℕ) → emit s (b ∷ []) ≡ put s b
 unfolding emit
@@ -274,3 +275,32 @@ module _ (out : List ℕ) (kind byte : ℕ) (t : AttributeState) (n : ℕ) (c : 
         wrote = rw (c .same, e) at h;
         near = omega (arith, written-position w l l′ at (r .at) t (r .state) (styleOf k) (textAt (take n out) 0) h, columns-width (w .profile) (take n out) (c .printable), length-take-le n out (c .fits), c .small);
       }
+
+-- ---- beside the window
+
+pub columns-tab : (kind p : ℕ) → kind ≡ 10 → 8 - p % 8 ≡ composedColumns kind p
+columns-tab kind p k = rw (eq-eqb kind 10 k) refl
+
+pub columns-mark : (kind p : ℕ) → (kind ≢ 10) → 4 ≡ composedColumns kind p
+columns-mark kind p k = rw (ne-eqb kind 10 k) refl
+
+composed-width : (f : profile.Profile) (kind byte p : ℕ) → byte < 256 → composedColumns kind p ≡ widthOf (profileOf f) (composedText kind byte p)
+composed-width f kind byte p b =
+    cases (eqb kind 10)
+    (λ e. by (composed-tab eightSpaces kind byte p refl (eqb-true kind 10 e)) (rw e refl))
+    (λ e. by (composed-mark eightSpaces kind byte p (numbers.hexDigit (byte / 16)) (numbers.hexDigit (byte % 16)) refl (eqb-false kind 10 e) b refl refl) (rw e refl))
+  where
+    by : {out : List ℕ} {n : ℕ} → Composed out kind byte p n → composedColumns kind p ≡ n → composedColumns kind p ≡ widthOf (profileOf f) (composedText kind byte p)
+    by {out} {n} c q = q ∙ sym (length-take-le n out (c .fits)) ∙ columns-width f (take n out) (c .printable) ∙ ap (widthOf (profileOf f)) (c .same)
+
+columns-small : (kind p : ℕ) → composedColumns kind p ≤ 8
+columns-small kind p = cases (eqb kind 10) (λ e. rw e (omega arith)) (λ e. rw e (omega arith))
+
+pub columns-room : (kind p n : ℕ) → n ≡ composedColumns kind p → p + 16 < 2 ^ 64 → p + n < 2 ^ 64
+columns-room kind p n e h = omega (arith, columns-small kind p)
+
+pub composed-out : (w : Window) (kind byte : ℕ) (l : List ℕ) (at : ℕ) (t u : AttributeState) (n : ℕ) (b : Bool) → byte < 256 → n ≡ composedColumns kind (t .position .0)
+    → b ≡ (ltb (w .start .0) (t .position .0 + n) && ltb (t .position .0) (w .end .0)) → b ≡ false → u ≡ moved t n false → ComposedWrote w kind byte l at t l (record { state = u; at = at })
+composed-out w kind byte l at t u n b k e m f q =
+    let wide : n ≡ widthOf (profileOf (w .profile)) (composedText kind byte (t .position .0)) = e ∙ composed-width (w .profile) kind byte (t .position .0) k in
+    record { wrote = drawn-out l at w t (composedStyle kind) (composedText kind byte (t .position .0)) n b wide m u f q; near = rw q (omega (arith, columns-small kind (t .position .0))) }

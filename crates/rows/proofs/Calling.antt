@@ -5,33 +5,32 @@ use Prim.Native.Nat.{ℕ, zero, suc, _+_, _-_, _*_, _/_, _≤_, _<_, _^_}
 use native.Mathlib.Omega.{arith}
 use mathlib.Core.Bool.{Bool, true, false, cond, _&&_}
 use mathlib.Core.List.{List, [], _++_, reverse, reverse-reverse, append-nil}
-use lib.ListN.{length, take, drop, replicate, length-append, length-reverse, length-map}
-use lib.Seq.{take-all, take-at, take-append-add}
+use lib.ListN.{length, take, drop, replicate, length-reverse}
+use lib.Seq.{take-all, take-at}
 use lib.Dec.{leb, ltb}
-use borrow.Author.Tests.{eq-eqb, ne-eqb, leb-true, leb-false, ltb-true, ltb-false, le-leb, lt-ltb}
+use borrow.Author.Tests.{eq-eqb, ne-eqb, leb-true, ltb-true, ltb-false, le-leb, lt-ltb}
 use Rattle.text.specs.Tests.{cases, and-T, true-T, is-true}
 use Rattle.text.specs.Width.{profile01}
 use Rattle.text.specs.Code.{profileOf}
 use Rattle.text.specs.Overstrike.{convert}
-use Rattle.text.specs.Overstrike.Length.{convert-size}
 use Rattle.text.specs.declared.Answer.{Answer}
-use Rattle.spans.specs.Spans.{Span, spans, Record, recordOf, records}
-use Rattle.spans.specs.Spans.Few.{few}
-use Rattle.spans.specs.Spans.ContentLaw.{content-front}
+use Rattle.spans.specs.Spans.{Span, spans, Record, records}
+use Rattle.spans.specs.Search as search
 use Rattle.spans.specs.Calls.{Read, readCall, noRecord}
 use Rattle.spans.specs.Contracts.{readAs}
 use Rattle.rows.specs.Rows.{Row, rows}
 use Rattle.rows.specs.Calls.{modeOf, modeAndWidth, numbersOf, rowsCall, heightCall}
-use Rattle.rows.specs.Calls.Laws.{read-accepted, read-refused, read-passed, height-refused, height-five, height-accepted, rows-refused, rows-five, rows-six, rows-accepted}
+use Rattle.rows.specs.Calls.Laws.{height-refused, height-five, height-accepted, rows-refused, rows-five, rows-six, rows-accepted}
 use Rattle.text.specs.TextParts.{column}
 use Rattle.rows.specs.Contracts.{Kept, kept, keeps, beginning, SpansRoom, MadeWrap, largest, lineRoom, wrappingOf, decided, outcomeOf, answerOf, cleared, Called}
-use Rattle.text.specs.TextParts.{column}
 use Rattle.rows.specs.Contracts.Laws.{rows-kept, keeps-count, keeps-numbers, numbersOf-length}
 use Rattle.rows.specs.declared.Request.{Request}
 use Rattle.rows.specs.declared.Outcome.{Outcome}
 use Rattle.rows.specs.declared.wrap.Tally.{Tally}
 use Rattle.rows.specs.declared.wrap.WrapState.{WrapState}
 use Rattle.rows.specs.declared.wrap.Wrapping.{Wrapping}
+use Rattle.rows.proofs.Reading as reading
+use Rattle.rows.proofs.Reading.{line-room}
 
 -- ---- the covered functions
 
@@ -52,16 +51,16 @@ module _ (number rows numbers : ℕ) (k : ℕ) (e : k ≡ number) where
 
 -- ---- what is kept of a list
 
-cleared-none : {A : Type 0} (blank : A) (l : List A) (n : ℕ) → length l ≡ n → cleared blank 0 l ≡ replicate n blank
+pub cleared-none : {A : Type 0} (blank : A) (l : List A) (n : ℕ) → length l ≡ n → cleared blank 0 l ≡ replicate n blank
 cleared-none blank l n e = ap (λ (k : ℕ). replicate k blank) (let z : length l - 0 ≡ n = omega arith in z)
 
-cleared-all : {A : Type 0} (blank : A) (l : List A) (n : ℕ) → length l ≤ n → cleared blank n l ≡ l
+pub cleared-all : {A : Type 0} (blank : A) (l : List A) (n : ℕ) → length l ≤ n → cleared blank n l ≡ l
 cleared-all blank l n h = let z : length l - n ≡ 0 = omega arith in rw (take-all n l h, z, append-nil l)
 
-cleared-behind : {A : Type 0} (blank : A) (l a b : List A) (m n : ℕ) → l ≡ a ++ b → length a ≡ n → length l ≡ m → cleared blank n l ≡ a ++ replicate (m - length a) blank
+pub cleared-behind : {A : Type 0} (blank : A) (l a b : List A) (m n : ℕ) → l ≡ a ++ b → length a ≡ n → length l ≡ m → cleared blank n l ≡ a ++ replicate (m - length a) blank
 cleared-behind blank l a b m n e h k = rw (k, ← h, e, take-at a b (length a) refl)
 
--- ---- what `read` leaves
+-- ---- what `read` leaves is wrapped
 
 module _ (size places : ℕ) (line found : List ℕ) (a : Answer) (cs : List ℕ) (rs : List Record) (none : found ≡ []) (read : readAs a cs rs ≡ readCall profile01 size places found line) where
   abbrev s : List ℕ
@@ -77,66 +76,15 @@ module _ (size places : ℕ) (line found : List ℕ) (a : Answer) (cs : List ℕ
   read-is = read ∙ ap (λ (m : List ℕ). readCall profile01 size places m line) none
 
   number-is : call .number ≡ a .number
-  number-is = sym (ap (λ (x : Read). x .number) read-is)
-
-  count-none : (r : ℕ) → a .number ≡ suc r → a .count ≡ 0
-  count-none r e = ap (λ (x : Read). x .count) (read-is ∙ read-refused profile01 size places line r (number-is ∙ e))
-
-  module _ (fine : a .number ≡ 0) where
-    found-is : readAs a cs rs ≡ record { number = 0; count = length ss; conv = s ++ replicate (size - length s) 0; spans = records ss ++ replicate (places - length (records ss)) noRecord }
-    found-is = read-is ∙ read-accepted profile01 size places line (number-is ∙ fine)
-
-    count-is : a .count ≡ length ss
-    count-is = ap (λ (x : Read). x .count) found-is
-
-    records-length : length (records ss) ≡ length ss
-    unfolding records
-    records-length = length-map ss recordOf
-
-    line-fits : length s ≤ lineRoom size
-    line-fits =
-        let y = read-passed profile01 size places line (number-is ∙ fine) in
-        cases (leb size 32768) (λ f. rw f (omega (arith, y .room, convert-size profile01 line))) (λ f. rw f (omega (arith, y .short, convert-size profile01 line)))
-
-    short : length s ≤ 32768
-    short = let y = read-passed profile01 size places line (number-is ∙ fine) in omega (arith, y .short, convert-size profile01 line)
-
-    abbrev after : List ℕ
-    after = take (lineRoom size - length s) (replicate (size - length s) 0)
-
-    line-part : take (lineRoom size) cs ≡ s ++ after
-    line-part =
-        let n : lineRoom size ≡ length s + (lineRoom size - length s) = omega (arith, line-fits) in
-        ap (take (lineRoom size)) (ap (λ (x : Read). x .conv) found-is)
-        ∙ ap (λ (k : ℕ). take k (s ++ replicate (size - length s) 0)) n ∙ take-append-add s (replicate (size - length s) 0) (lineRoom size - length s)
-
-    spans-part : take (a .count) rs ≡ records ss
-    spans-part =
-        ap (take (a .count)) (ap (λ (x : Read). x .spans) found-is)
-        ∙ take-at (records ss) (replicate (places - length (records ss)) noRecord) (a .count) (records-length ∙ sym count-is)
-
-    count-there : a .count ≤ length rs
-    count-there =
-        let k : length rs ≡ length (records ss) + length (replicate (places - length (records ss)) noRecord) = ap length (ap (λ (x : Read). x .spans) found-is) ∙ length-append (records ss) (replicate (places - length (records ss)) noRecord) in
-        omega (arith, count-is, records-length)
-
-    count-few : a .count ≤ 32768
-    count-few = omega (arith, count-is, few profile01 s, short)
-
-  room-by : (n : ℕ) → a .number ≡ n → (len : ℕ) → len ≡ lineRoom size → length cs ≡ size → SpansRoom rs cs len (beginning 0 0) (a .count)
-  room-by n e len f l =
-      let h : len ≤ 32768 = cases (leb size 32768) (λ g. omega (arith, rw g at f, leb-true size 32768 g)) (λ g. omega (arith, rw g at f)) in
-      let k : len ≤ length cs = cases (leb size 32768) (λ g. omega (arith, rw g at f)) (λ g. omega (arith, rw g at f, leb-false size 32768 g)) in
-      record { there = count n e .0; few = count n e .1; short = h; held = k; low = omega arith; near = omega arith; more = omega arith }
-    where
-      count : (n : ℕ) → a .number ≡ n → (a .count ≤ length rs) × (a .count ≤ 32768)
-      count zero e = (count-there e, count-few e)
-      count (suc r) e = (omega (arith, count-none r e), omega (arith, count-none r e))
+  number-is = reading.number-is size places [] line a cs rs read-is
 
   module _ (q : Request) (w : Wrapping) (w-is : w ≡ wrappingOf q size) (t : WrapState) (t-is : t ≡ beginning 0 0) where
     -- what `make_wrap` asks
     pub call-room : length cs ≡ size → SpansRoom rs cs (w .len) t (a .count)
-    call-room l = rw t-is (room-by (a .number) refl (w .len) (ap (λ (x : Wrapping). x .len) w-is) l)
+    call-room l =
+        let c = reading.count-in size places [] line a cs rs read-is (a .number) refl in
+        let h = line-room cs (w .len) (ap (λ (x : Wrapping). x .len) w-is ∙ ap lineRoom (sym l)) in
+        rw t-is (record { there = c .0; few = c .1; short = h .0; held = h .1; low = omega arith; near = omega arith; more = omega arith })
 
     module _ (l l′ : List ℕ) (tally : Tally) (made : MadeWrap (profileOf (w .profile)) (w .width .0) (w .mode) (take (w .len) cs) (take (a .count) rs) l t l′ tally)
         (o : Outcome) (o-is : o ≡ outcomeOf (decided q (a .number) (tally .count) (length l)) (tally .count) (length l))
@@ -151,12 +99,16 @@ module _ (size places : ℕ) (line found : List ℕ) (a : Answer) (cs : List ℕ
         mode-low : q .mode ≤ 2
         mode-low = leb-true (q .mode) 2 (is-true (leb (q .mode) 2) (and-T (leb (q .mode) 2) (leb (q .width) 65535) (true-T asked) .0))
 
-        made-is : MadeWrap profile01 (q .width) (q .mode) (s ++ after fine) (records ss) l (beginning 0 0) l′ tally
-        unfolding profileOf
-        made-is = rw (← line-part fine, ← spans-part fine, ← t-is) (rw w-is at made)
+        abbrev after : List ℕ
+        after = reading.after size places [] line a cs rs read-is fine
+
+        made-is : MadeWrap profile01 (q .width) (q .mode) (s ++ after) (records ss) l (beginning 0 0) l′ tally
+        unfolding profileOf search.read
+        made-is = rw (← reading.line-part size places [] line a cs rs read-is fine, ← reading.spans-part size places [] line a cs rs read-is fine, ← t-is) (rw w-is at made)
 
         kept-is : kept l′ tally ≡ keeps none-yet (reverse rowsFound)
-        kept-is = made-is .same ∙ rows-kept profile01 (q .width) (s ++ after fine) l 0 0 ss (q .mode) mode-low (content-front profile01 s (after fine))
+        unfolding search.read
+        kept-is = made-is .same ∙ rows-kept profile01 (q .width) (s ++ after) l 0 0 ss (q .mode) mode-low (reading.held-in size places [] line a cs rs read-is fine)
 
         few-rows : keeps none-yet (reverse rowsFound) .tally .count < largest
         few-rows = rw (ap (λ (k : Kept). k .tally .count) kept-is) at (made-is .more)

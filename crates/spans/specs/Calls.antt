@@ -8,6 +8,7 @@ use Rattle.text.specs.Overstrike.{convert}
 use Rattle.text.specs.Calls.{Question, ask, decide, lent, counted, question1, question2}
 use Rattle.spans.specs.Spans.{Span, Record, aRecord, records}
 use Rattle.spans.specs.Search.{read, inOrder, searchedLength}
+pub mod Laws
 
 -- the match ranges, of the converted line s
 abbrev pub question3 : List ℕ → List ℕ → Question

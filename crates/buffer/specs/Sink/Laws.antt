@@ -1,15 +1,15 @@
 -- Writers one after the other, loops that write, and what a run of writes came to by its count.
 use mathlib.Core.Path.{_≡_, refl, sym, ap, ap₂, _∙_}
-use mathlib.Core.List.{List, [], _∷_, _++_, append-nil, append-assoc}
+use mathlib.Core.List.{List, [], _∷_, _++_, append-nil}
 use mathlib.Core.Logic.{_⊎_, inl, inr, ⊎-elim}
 use Prim.Native.Nat.{ℕ, zero, suc, _+_, _-_, _≤_, _<_}
-use native.Mathlib.Nat.{not-suc-le-zero, add-zero, sub-zero, suc-sub-suc}
+use native.Mathlib.Nat.{add-zero}
 use native.Mathlib.Numerals.{add-one}
 use native.Mathlib.Omega.{arith}
-use lib.ListN.{length, set, take, drop, getD, replicate, drop-of-length-le, length-append, length-set, length-replicate, getD-replicate}
-use lib.Seq.{set-out, drop-cons, set-append-seam, take-append-seam, sets, sets-eq, paste, paste-zero, paste-suc, take-all, take-length}
-use borrow.Author.Tests.{lt-ltb, le-ltb, le-leb, lt-leb}
-use Rattle.buffer.specs.Sink.{Sink, sink, bump, put, emit, landed, written, Copied}
+use lib.ListN.{length, set, take, drop, getD, replicate, drop-of-length-le, length-set, length-replicate, getD-replicate}
+use lib.Seq.{set-out, drop-cons, sets, sets-eq, paste, paste-zero, paste-suc, take-all, take-length}
+use borrow.Author.Tests.{lt-ltb, le-ltb}
+use Rattle.buffer.specs.Sink.{Sink, sink, bump, put, emit, written, Copied}
 
 abbrev countOf : Sink → ℕ
 countOf (sink l r) = r
@@ -89,7 +89,7 @@ emit-room l xs at h = emit-sets xs l at h ∙ ap (λ (m : List ℕ). sink m (at 
 pub emit-copied : (l l′ xs : List ℕ) (at r : ℕ) → at ≤ length l → length xs ≤ length l - at → Copied l l′ at xs r → sink l′ r ≡ emit (sink l at) xs
 emit-copied l l′ xs at r h k c = rw (c .bytes, c .end) (sym (emit-room l xs at (omega arith)))
 
--- ---- what a run of writes into n zeros came to, by its count
+-- ---- what a run of writes from the front of a list came to
 
 -- a full buffer takes nothing more
 stuck : (l xs : List ℕ) → emit (sink l (length l + 1)) xs ≡ sink l (length l + 1)
@@ -97,61 +97,25 @@ unfolding emit
 stuck l [] = refl
 stuck l (x ∷ xs) = rw (← put-past l (length l + 1) x (omega arith)) (stuck l xs)
 
--- in the place of the first zero after p
-put-next : (p z : List ℕ) (x : ℕ) → put (sink (p ++ 0 ∷ z) (length p)) x ≡ sink ((p ++ x ∷ []) ++ z) (length (p ++ x ∷ []))
-put-next p z x =
-    let h : length p < length (p ++ 0 ∷ z) = rw length-append (omega arith) in
-    rw (← put-in (p ++ 0 ∷ z) (length p) x h, set-append-seam, append-assoc, length-append)
-
--- after p, into k zeros
-emit-fits : (p xs : List ℕ) (k : ℕ) → length xs ≤ k → emit (sink (p ++ replicate k 0) (length p)) xs ≡ sink (p ++ (xs ++ replicate (k - length xs) 0)) (length p + length xs)
+emit-past : (xs l : List ℕ) (at : ℕ) → at ≤ length l → length l < at + length xs → countOf (emit (sink l at) xs) ≡ length l + 1
 unfolding emit
-emit-fits p [] k h = rw (sub-zero, add-zero)
-emit-fits p (x ∷ xs) zero h = absurd (not-suc-le-zero h)
-emit-fits p (x ∷ xs) (suc k) h =
-    rw put-next
-    (emit-fits (p ++ x ∷ []) xs k (omega arith)
-    ∙ rw (append-assoc, length-append, suc-sub-suc) (ap (sink (p ++ x ∷ (xs ++ replicate (k - length xs) 0))) (omega arith)))
+emit-past [] l at h k = absurd (omega arith)
+emit-past (x ∷ xs) l at h k = ⊎-elim
+    (λ (p : length l ≤ at). rw (← put-past l at x p) (ap countOf (stuck l xs)))
+    (λ (p : at < length l). rw (← put-in l at x p) (emit-past xs (set l at x) (at + 1) (rw (length-set l at x) (omega arith)) (rw (length-set l at x) (omega arith)) ∙ ap (λ (n : ℕ). n + 1) (length-set l at x)))
+    (le-or-lt (length l) at)
 
-emit-over : (p xs : List ℕ) (k : ℕ) → k < length xs → (l : List ℕ) × (emit (sink (p ++ replicate k 0) (length p)) xs ≡ sink l (length p + k + 1))
-unfolding emit
-emit-over p [] k h = absurd (not-suc-le-zero h)
-emit-over p (x ∷ xs) zero h = (p, rw (append-nil, ← put-past p (length p) x (omega arith), add-zero) (stuck p xs))
-emit-over p (x ∷ xs) (suc k) h =
-    let w = emit-over (p ++ x ∷ []) xs k (omega arith) in
-    let e : length (p ++ x ∷ []) + k + 1 ≡ length p + suc k + 1 = rw length-append (omega arith) in
-    (w .0, rw (put-next, ← e) (w .1))
+module _ (l xs l′ : List ℕ) (r : ℕ) (e : sink l′ r ≡ emit (sink l 0) xs) where
+  -- all fitted: the count, and what stands in the list
+  pub fitted : length xs ≤ length l → (r ≡ length xs) × (l′ ≡ xs ++ drop (length xs) l)
+  fitted h =
+      let f : sink l′ r ≡ sink (written l 0 xs) (0 + length xs) = e ∙ emit-room l xs 0 (omega arith) in
+      let n : 0 + length xs ≡ length xs = omega arith in
+      (ap countOf f ∙ n, ap listOf f ∙ ap (λ (k : ℕ). xs ++ drop k l) n)
 
--- all fitted
-pub record Fitted (n : ℕ) (xs l : List ℕ) (r : ℕ) : Type 0 where
-  pub small : length xs ≤ n
-  pub count : r ≡ length xs
-  pub bytes : l ≡ landed n xs
-
-pub all-in : (n : ℕ) (xs l : List ℕ) (r : ℕ) → sink l r ≡ emit (sink (replicate n 0) 0) xs → r ≤ n → Fitted n xs l r
-unfolding landed
-all-in n xs l r e h = ⊎-elim
-    (λ (s : length xs ≤ n).
-    let f = emit-fits [] xs n s in
-    let g : sink l r ≡ sink (xs ++ replicate (n - length xs) 0) (0 + length xs) = e ∙ f in
-    record { small = s; count = omega (arith, ap countOf g); bytes = rw (le-leb (length xs) n s) (ap listOf g) })
-    (λ (o : n < length xs).
-    let f = emit-over [] xs n o in
-    absurd (omega (arith, ap countOf (e ∙ f .1))))
-    (le-or-lt (length xs) n)
-
--- or not
-pub left-over : (n : ℕ) (xs l : List ℕ) (r : ℕ) → sink l r ≡ emit (sink (replicate n 0) 0) xs → n < r → (n < length xs) × (replicate n 0 ≡ landed n xs)
-unfolding landed
-left-over n xs l r e h = ⊎-elim
-    (λ (s : length xs ≤ n). absurd (omega (arith, ap countOf (e ∙ emit-fits [] xs n s))))
-    (λ (o : n < length xs). (o, rw (lt-leb (length xs) n o)))
-    (le-or-lt (length xs) n)
-
--- what was written is the front of what landed
-pub take-landed : (n : ℕ) (xs : List ℕ) → length xs ≤ n → take (length xs) (landed n xs) ≡ xs
-unfolding landed
-take-landed n xs h = rw (le-leb (length xs) n h, take-append-seam xs (replicate (n - length xs) 0))
+  -- or not
+  pub overfull : length l < length xs → r ≡ length l + 1
+  overfull h = ap countOf e ∙ emit-past xs l 0 (omega arith) (omega arith)
 
 -- ---- a loop that copies: a turn, and the end
 

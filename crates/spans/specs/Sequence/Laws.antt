@@ -1,4 +1,4 @@
--- A sequence stays what it is, whatever follows it.
+-- A sequence stays what it is, whatever follows it; it lies inside the bytes, which tell what it says.
 use mathlib.Core.Path.{_≡_, refl, sym, ap, _∙_}
 use Prim.Native.Nat.{ℕ, suc, _+_, _-_, _*_, _≤_, _<_, zero-le, suc-le-suc}
 use native.Mathlib.Omega.{arith}
@@ -12,7 +12,7 @@ use lib.Dec.{T, eqb, ltb, eqb→eq, ltb→lt, nltb→le}
 use Rattle.text.specs.Tests.{cases, and-T, true-T}
 use Rattle.spans.specs.Sgr.{digit, parameters, allowed, orders}
 use Rattle.spans.specs.declared.sgr.Sgr.{Sgr}
-use Rattle.spans.specs.Sequence.{Sequence, Found, found, missing, leading, past, parameterByte, ifKnown, erase, final, csi, charset, uriByte, idByte, closed, osc, parse}
+use Rattle.spans.specs.Sequence.{Sequence, sgr, eraseToEnd, ignored, hyperlink, lineDrawing, Found, found, missing, leading, past, parameterByte, ifKnown, erase, final, csi, charset, uriByte, idByte, closed, osc, parse}
 
 -- ---- runs of bytes that pass a test
 
@@ -129,15 +129,16 @@ parse-stable (a ∷ s) t q n e =
     (λ h. rw (f, g, h) (osc-stable s t q n (rw (f, g, h) at e)))
     (λ h. absurd-missing missing q n refl (rw (f, g, h) at e))))
 
+-- a fact of what is found, by the test
+cond-found : (Q : Found → Type 0) (b : Bool) (x y : Found) → (b ≡ true → Q x) → (b ≡ false → Q y) → Q (cond b x y)
+cond-found Q true x y f g = f refl
+cond-found Q false x y f g = g refl
+
 -- ---- a sequence lies inside the bytes
 
 unfoldable Short : ℕ → Found → Type 0
 Short m (found q n) = n ≤ m
 Short m missing = Unit {0}
-
-cond-short : (m : ℕ) (b : Bool) (x y : Found) → (b ≡ true → Short m x) → (b ≡ false → Short m y) → Short m (cond b x y)
-cond-short m true x y f g = f refl
-cond-short m false x y f g = g refl
 
 -- a byte that is not 0 stands inside
 byte-inside : (s : List ℕ) (i v : ℕ) → T (eqb (getD s i 0) (suc v)) → i < length s
@@ -157,12 +158,12 @@ csi-short-by s h =
     let n : ℕ = leading parameterByte s in
     let ps : List ℕ = parameters 0 s in
     let k : 3 + leading parameterByte s ≤ 2 + length s = omega arith in
-    cond-short (2 + length s) (eqb (getD s n 0) 0x6D) _ _
-    (λ e. cond-short (2 + length s) (allowed ps) _ _ (λ f. known-short (2 + length s) (orders ps) n k) (λ f. tt))
-    (λ e. cond-short (2 + length s) (eqb (getD s n 0) 0x4B) _ _
-    (λ f. cond-short (2 + length s) (eqb n 0 || (eqb n 1 && eqb (getD s 0 0) 0x30)) _ _ (λ g. k)
-    (λ g. cond-short (2 + length s) (eqb n 1 && (eqb (getD s 0 0) 0x31 || eqb (getD s 0 0) 0x32)) _ _ (λ j. k) (λ j. tt)))
-    (λ f. cond-short (2 + length s) (final (getD s n 0)) _ _ (λ g. k) (λ g. tt)))
+    cond-found (Short (2 + length s)) (eqb (getD s n 0) 0x6D) _ _
+    (λ e. cond-found (Short (2 + length s)) (allowed ps) _ _ (λ f. known-short (2 + length s) (orders ps) n k) (λ f. tt))
+    (λ e. cond-found (Short (2 + length s)) (eqb (getD s n 0) 0x4B) _ _
+    (λ f. cond-found (Short (2 + length s)) (eqb n 0 || (eqb n 1 && eqb (getD s 0 0) 0x30)) _ _ (λ g. k)
+    (λ g. cond-found (Short (2 + length s)) (eqb n 1 && (eqb (getD s 0 0) 0x31 || eqb (getD s 0 0) 0x32)) _ _ (λ j. k) (λ j. tt)))
+    (λ f. cond-found (Short (2 + length s)) (final (getD s n 0)) _ _ (λ g. k) (λ g. tt)))
 
 csi-inside : (s : List ℕ) → Short (2 + length s) (csi s)
 unfolding Short
@@ -174,19 +175,19 @@ csi-inside s =
 charset-inside : (s : List ℕ) → Short (2 + length s) (charset s)
 unfolding charset Short
 charset-inside s =
-    cond-short (2 + length s) (eqb (getD s 0 0) 0x30) _ _
+    cond-found (Short (2 + length s)) (eqb (getD s 0 0) 0x30) _ _
     (λ e. omega (arith, byte-inside s 0 0x2F (true-T e)))
-    (λ e. cond-short (2 + length s) (eqb (getD s 0 0) 0x42) _ _ (λ f. omega (arith, byte-inside s 0 0x41 (true-T f))) (λ f. tt))
+    (λ e. cond-found (Short (2 + length s)) (eqb (getD s 0 0) 0x42) _ _ (λ f. omega (arith, byte-inside s 0 0x41 (true-T f))) (λ f. tt))
 
 osc-inside : (s : List ℕ) → Short (2 + length s) (osc s)
 unfolding osc closed Short
 osc-inside s =
     let i : ℕ = past idByte s 2 in
     let e : ℕ = past uriByte s (i + 1) in
-    cond-short (2 + length s) (eqb (getD s 0 0) 0x38 && (eqb (getD s 1 0) 0x3B && eqb (getD s i 0) 0x3B)) _ _
-    (λ f. cond-short (2 + length s) (eqb (getD s e 0) 0x07) _ _
+    cond-found (Short (2 + length s)) (eqb (getD s 0 0) 0x38 && (eqb (getD s 1 0) 0x3B && eqb (getD s i 0) 0x3B)) _ _
+    (λ f. cond-found (Short (2 + length s)) (eqb (getD s e 0) 0x07) _ _
     (λ g. omega (arith, byte-inside s e 0x06 (true-T g)))
-    (λ g. cond-short (2 + length s) (eqb (getD s e 0) 0x1B && eqb (getD s (e + 1) 0) 0x5C) _ _
+    (λ g. cond-found (Short (2 + length s)) (eqb (getD s e 0) 0x1B && eqb (getD s (e + 1) 0) 0x5C) _ _
     (λ h. omega (arith, byte-inside s (e + 1) 0x5B (and-T (eqb (getD s e 0) 0x1B) (eqb (getD s (e + 1) 0) 0x5C) (true-T h) .1)))
     (λ h. tt)))
     (λ f. tt)
@@ -196,11 +197,66 @@ unfolding parse Short
 parse-inside [] = tt
 parse-inside (a ∷ s) =
     let k : 2 + length s ≡ 1 + length (a ∷ s) = omega arith in
-    cond-short (1 + length (a ∷ s)) (eqb a 0x5B) _ _ (λ e. rw k at (csi-inside s))
-    (λ e. cond-short (1 + length (a ∷ s)) (eqb a 0x28) _ _ (λ f. rw k at (charset-inside s))
-    (λ f. cond-short (1 + length (a ∷ s)) (eqb a 0x5D) _ _ (λ g. rw k at (osc-inside s)) (λ g. tt)))
+    cond-found (Short (1 + length (a ∷ s))) (eqb a 0x5B) _ _ (λ e. rw k at (csi-inside s))
+    (λ e. cond-found (Short (1 + length (a ∷ s))) (eqb a 0x28) _ _ (λ f. rw k at (charset-inside s))
+    (λ f. cond-found (Short (1 + length (a ∷ s))) (eqb a 0x5D) _ _ (λ g. rw k at (osc-inside s)) (λ g. tt)))
 
 -- a sequence and its ESC
 pub parse-length : (s : List ℕ) (q : Sequence) (n : ℕ) → parse s ≡ found q n → n ≤ 1 + length s
 unfolding Short
 parse-length s q n e = rw e at (parse-inside s)
+
+-- ---- what is found is told by the bytes
+
+-- of the bytes behind ESC: the orders, and whether line drawing goes on
+unfoldable Told : List ℕ → Found → Type 0
+Told s (found (sgr os) n) = os ≡ orders (parameters 0 (drop 1 s))
+Told s (found (lineDrawing b) n) = b ≡ eqb (getD s 1 0) 0x30
+Told s (found eraseToEnd n) = Unit {0}
+Told s (found ignored n) = Unit {0}
+Told s (found (hyperlink a m) n) = Unit {0}
+Told s missing = Unit {0}
+
+known-told : (s : List ℕ) (os : List Sgr) (n : ℕ) → os ≡ orders (parameters 0 (drop 1 s)) → Told s (ifKnown os n)
+unfolding Told ifKnown
+known-told s [] n e = tt
+known-told s (o ∷ os) n e = e
+
+told : (s : List ℕ) → Told s (parse s)
+unfolding parse csi erase charset osc closed Told
+told [] = tt
+told (a ∷ s) =
+    let ps : List ℕ = parameters 0 s in
+    let n : ℕ = leading parameterByte s in
+    let i : ℕ = past idByte s 2 in
+    let e : ℕ = past uriByte s (i + 1) in
+    let Q : Found → Type 0 = Told (a ∷ s) in
+    cond-found Q (eqb a 0x5B) _ _
+    (λ f. cond-found Q (eqb (getD s n 0) 0x6D) _ _
+    (λ g. cond-found Q (allowed ps) _ _ (λ h. known-told (a ∷ s) (orders ps) n refl) (λ h. tt))
+    (λ g. cond-found Q (eqb (getD s n 0) 0x4B) _ _
+    (λ h. cond-found Q (eqb n 0 || (eqb n 1 && eqb (getD s 0 0) 0x30)) _ _ (λ j. tt) (λ j. cond-found Q (eqb n 1 && (eqb (getD s 0 0) 0x31 || eqb (getD s 0 0) 0x32)) _ _ (λ k. tt) (λ k. tt)))
+    (λ h. cond-found Q (final (getD s n 0)) _ _ (λ j. tt) (λ j. tt))))
+    (λ f. cond-found Q (eqb a 0x28) _ _
+    (λ g. cond-found Q (eqb (getD s 0 0) 0x30) _ _ (λ h. sym h) (λ h. cond-found Q (eqb (getD s 0 0) 0x42) _ _ (λ j. sym h) (λ j. tt)))
+    (λ g. cond-found Q (eqb a 0x5D) _ _
+    (λ h. cond-found Q (eqb (getD s 0 0) 0x38 && (eqb (getD s 1 0) 0x3B && eqb (getD s i 0) 0x3B)) _ _
+    (λ j. cond-found Q (eqb (getD s e 0) 0x07) _ _ (λ k. tt) (λ k. cond-found Q (eqb (getD s e 0) 0x1B && eqb (getD s (e + 1) 0) 0x5C) _ _ (λ l. tt) (λ l. tt)))
+    (λ j. tt))
+    (λ h. tt)))
+
+-- the orders of a sequence are those of its parameters
+pub parse-orders : (s : List ℕ) (os : List Sgr) (n : ℕ) → parse s ≡ found (sgr os) n → os ≡ orders (parameters 0 (drop 1 s))
+unfolding Told
+parse-orders s os n e = rw e at (told s)
+
+-- line drawing goes on where the byte behind `ESC (` is `0`
+pub parse-drawing : (s : List ℕ) (b : Bool) (n : ℕ) → parse s ≡ found (lineDrawing b) n → b ≡ eqb (getD s 1 0) 0x30
+unfolding Told
+parse-drawing s b n e = rw e at (told s)
+
+-- a sequence is found only where there are bytes
+pub parse-some : (s : List ℕ) (q : Sequence) (n : ℕ) → parse s ≡ found q n → 1 ≤ length s
+unfolding parse
+parse-some [] q n e = absurd (let z : _≡_ {A = ℕ} 0 1 = cc in omega arith)
+parse-some (b ∷ s) q n e = omega arith

@@ -1,14 +1,15 @@
 -- What a span holds is what its record says of the line: the code above has only the record and the converted line.
 use mathlib.Core.Path.{_≡_, refl, sym, ap, ap₂, _∙_}
-use Prim.Native.Nat.{ℕ, zero, suc, _+_, _-_}
+use Prim.Native.Nat.{ℕ, zero, suc, _+_, _-_, _≤_}
 use native.Mathlib.Omega.{arith}
 use mathlib.Core.Bool.{Bool, true, false, cond, _||_}
 use mathlib.Core.List.{List, [], _∷_, _++_, append-assoc, append-nil}
 use mathlib.Core.Option.{Option, none, some}
-use lib.ListN.{length, take, drop, getD, length-append, take-append-drop}
-use lib.Seq.{take-append-seam}
+use lib.ListN.{length, take, drop, getD, length-append, take-append-drop, drop-of-length-le}
+use lib.Seq.{take-append-seam, take-nil, drop-append-le}
 use lib.Dec.{T, eqb, leb, eqb→eq}
-use Rattle.text.specs.Tests.{and-T, true-T}
+use borrow.Author.Tests.{leb-true, leb-false}
+use Rattle.text.specs.Tests.{cases, and-T, true-T}
 use Rattle.text.specs.Each.{All, all-nil, all-cons, all-append, all-split, all-map}
 use Rattle.text.specs.Places.{behind, behind-byte}
 use Rattle.text.specs.Utf8.{Scalar, decode, Piece, runOf, bytesOf, sameBytes, reads}
@@ -244,28 +245,33 @@ module _ (P : Profile) (line : List ℕ) where
   spansAt-stands m p s after d =
       readPieces-stands m p after (d ∙ ap (λ (l : List ℕ). l ++ after) (sym (pieceBytes-runs (decode s) ∙ decodedBytes-decode s))) (runs-valid s)
 
-  readPart-stands : (m : Option ℕ) (a b : ℕ) → All (StandsIn line) (readPart P m a b line)
-  unfolding readPart
-  readPart-stands m a b = spansAt-stands m a (take (b - a) (drop a line)) (drop (b - a) (drop a line)) (sym (take-append-drop (b - a) (drop a line)))
+  -- a line at the front of a buffer, with matches or without
+  module _ (s after : List ℕ) (front : line ≡ s ++ after) where
+    readPart-stands : (m : Option ℕ) (a b : ℕ) → All (StandsIn line) (readPart P m a b s)
+    unfolding readPart
+    readPart-stands m a b =
+        cases (leb a (length s))
+        (λ e. spansAt-stands m a (take (b - a) (drop a s)) (drop (b - a) (drop a s) ++ after)
+        (ap (drop a) front ∙ drop-append-le a s after (leb-true a (length s) e) ∙ ap (λ (l : List ℕ). l ++ after) (sym (take-append-drop (b - a) (drop a s))) ∙ append-assoc (take (b - a) (drop a s)) (drop (b - a) (drop a s)) after))
+        (λ e. rw (drop-of-length-le s {i = a} (omega (arith, leb-false a (length s) e)), take-nil {A = ℕ} (b - a)) (spansAt-stands m a [] (drop a line) refl))
 
-  readMatches-stands : (es : List Stretch) (start k : ℕ) (ms : List ℕ) → All (StandsIn line) (readMatches P es start k ms line)
-  unfolding readMatches
-  readMatches-stands es start k [] = readPart-stands none start (length line)
-  readMatches-stands es start k (a ∷ []) = all-nil
-  readMatches-stands es start k (a ∷ b ∷ ms) =
-      all-append (all-append (readPart-stands none start (offsetFrom 0 a es)) (readPart-stands (some k) (offsetFrom 0 a es) (offsetFrom 0 b es))) (readMatches-stands es (offsetFrom 0 b es) (suc k) ms)
+    readMatches-stands : (es : List Stretch) (start k : ℕ) (ms : List ℕ) → All (StandsIn line) (readMatches P es start k ms s)
+    unfolding readMatches
+    readMatches-stands es start k [] = readPart-stands none start (length s)
+    readMatches-stands es start k (a ∷ []) = all-nil
+    readMatches-stands es start k (a ∷ b ∷ ms) =
+        all-append (all-append (readPart-stands none start (offsetFrom 0 a es)) (readPart-stands (some k) (offsetFrom 0 a es) (offsetFrom 0 b es))) (readMatches-stands es (offsetFrom 0 b es) (suc k) ms)
 
-  read-stands : (ms : List ℕ) → All (StandsIn line) (read P ms line)
-  unfolding read spans
-  read-stands [] = spansAt-stands none 0 line [] (sym (append-nil line))
-  read-stands (m ∷ ms) = readMatches-stands (escapes line) 0 0 (m ∷ ms)
+    read-stands : (ms : List ℕ) → All (StandsIn line) (read P ms s)
+    unfolding read spans
+    read-stands [] = spansAt-stands none 0 s after front
+    read-stands (m ∷ ms) = readMatches-stands (escapes s) 0 0 (m ∷ ms)
 
--- what each span of a converted line holds, read with or without matches, is what its record says of the line
-pub content : (P : Profile) (matches line : List ℕ) → All (λ (s : Span). contentOf line (recordOf s) ≡ s .content) (read P matches line)
+-- what each span of a converted line holds, read with or without matches, is what its record says of a buffer that the line stands at the front of
+pub content-front : (P : Profile) (matches s after : List ℕ) → All (λ (x : Span). contentOf (s ++ after) (recordOf x) ≡ x .content) (read P matches s)
 unfolding recordOf
-content P matches line = all-map (λ s h. stands-content line (s .place) (s .len) (s .content) h) (read-stands P line matches)
+content-front P matches s after = all-map (λ x h. stands-content (s ++ after) (x .place) (x .len) (x .content) h) (read-stands P (s ++ after) s after refl matches)
 
--- the same of a line at the front of a buffer
-pub content-front : (P : Profile) (s after : List ℕ) → All (λ (x : Span). contentOf (s ++ after) (recordOf x) ≡ x .content) (spans P s)
-unfolding recordOf spans
-content-front P s after = all-map (λ x h. stands-content (s ++ after) (x .place) (x .len) (x .content) h) (spansAt-stands P (s ++ after) none 0 s after refl)
+-- and of the line itself
+pub content : (P : Profile) (matches line : List ℕ) → All (λ (s : Span). contentOf line (recordOf s) ≡ s .content) (read P matches line)
+content P matches line = rw (append-nil line) at (content-front P matches line [])

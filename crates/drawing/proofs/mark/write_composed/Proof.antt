@@ -1,37 +1,37 @@
+use Rattle.drawing.proofs.Marks.{columns-room, composed-out}
 use borrow.Author.Needs.{needs}
-use Rattle.drawing.proofs.Marks.{composed-ready, composed-wrote, composed-fits, composed-slice}
 use Rattle.drawing.proofs.mark.write_composed.Statement.{statement}
 use Rattle.drawing.proofs.mark.write_composed.Tie as tie
 
-compose-requires : tie.Need-compose-requires
-compose-requires c κs = search needs
+composed-columns-requires : tie.Need-composed-columns-requires
+composed-columns-requires c κs = search needs
 
-array-share-prefix-composed : tie.Need-array-share-prefix-composed
-array-share-prefix-composed c = search composed-fits
+meets-requires : tie.Need-meets-requires
+meets-requires c κs = search columns-room
 
-slice-aggregate-write-columns : tie.Need-slice-aggregate-write-columns
-slice-aggregate-write-columns c = search composed-slice
-
-composed-style-requires : tie.Need-composed-style-requires
-composed-style-requires c κs = search needs
-
-write-columns-requires : tie.Need-write-columns-requires
-write-columns-requires c κs = search composed-ready
+draw-composed-requires : tie.Need-draw-composed-requires
+draw-composed-requires c κs = search needs
 
 same-length : tie.Need-same-length
 same-length c = search needs
 
 returns : tie.Need-returns
-returns c = search composed-wrote
+returns c = search needs
+
+advance-requires : tie.Need-advance-requires
+advance-requires c κs = search columns-room
+
+returns-2 : tie.Need-returns-2
+returns-2 c = search composed-out
 
 pub write-composed-spec : {M : Type 1} → statement M
 write-composed-spec =
     tie.close
     (tie.spec
-    compose-requires
-    array-share-prefix-composed
-    slice-aggregate-write-columns
-    composed-style-requires
-    write-columns-requires
+    composed-columns-requires
+    meets-requires
+    draw-composed-requires
     same-length
-    returns)
+    returns
+    advance-requires
+    returns-2)
