@@ -174,7 +174,7 @@ fn same(a: &[u8], b: &[u8]) -> bool {
 
 // Are these the hexadecimal bytes from `at` to `end`, with zeros after them?
 pub(crate) fn shows(s: &[u8], at: usize, end: usize, bytes: &[u8]) -> bool {
-    let mut want = [0u8; 32776];
+    let mut want = [0u8; 163984];
     hex_bytes(s, at, end, &mut want);
     same(bytes, &want)
 }

@@ -100,6 +100,8 @@ pub(crate) fn all(buf: &mut [u8]) -> Counts {
         read: 0,
         rows: 0,
         height: 0,
+        draw_window: 0,
+        draw_row: 0,
         scalars: 0,
         clusters: 0,
         different: 0,

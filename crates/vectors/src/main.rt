@@ -8,14 +8,16 @@ ghost use Prim.Native.Nat.{_≤_};
 ghost use lib.ListN.{length};
 use libc::STDOUT_FILENO;
 use recorded::CONVERT;
+use recorded::DRAW_ROW;
+use recorded::DRAW_WINDOW;
 use recorded::HEIGHT;
 use recorded::READ;
 use recorded::ROWS;
 
 // The kinds of published vectors, behind the calls.
-const SCALARS: usize = 5;
+const SCALARS: usize = 7;
 
-const CLUSTERS: usize = 6;
+const CLUSTERS: usize = 8;
 
 // How many cases of each kind were replayed, and how many were not answered as recorded.
 pub struct Counts {
@@ -23,6 +25,8 @@ pub struct Counts {
     pub read: u64,
     pub rows: u64,
     pub height: u64,
+    pub draw_window: u64,
+    pub draw_row: u64,
     pub scalars: u64,
     pub clusters: u64,
     pub different: u64,
@@ -56,6 +60,12 @@ fn kind_of(s: &[u8], at: usize) -> usize
     }
     if fields::is_word(s, at, b"height ") {
         return HEIGHT;
+    }
+    if fields::is_word(s, at, b"draw_window ") {
+        return DRAW_WINDOW;
+    }
+    if fields::is_word(s, at, b"draw_row ") {
+        return DRAW_ROW;
     }
     if fields::is_word(s, at, b"scalars ") {
         return SCALARS;
@@ -91,6 +101,8 @@ fn with_case(counts: Counts, kind: usize, met: bool) -> Counts {
         read: with_one(counts.read, kind == READ),
         rows: with_one(counts.rows, kind == ROWS),
         height: with_one(counts.height, kind == HEIGHT),
+        draw_window: with_one(counts.draw_window, kind == DRAW_WINDOW),
+        draw_row: with_one(counts.draw_row, kind == DRAW_ROW),
         scalars: with_one(counts.scalars, kind == SCALARS),
         clusters: with_one(counts.clusters, kind == CLUSTERS),
         different: with_one(counts.different, !met),
@@ -136,6 +148,8 @@ fn main() {
     print(b"read ", counts.read);
     print(b"rows ", counts.rows);
     print(b"height ", counts.height);
+    print(b"draw_window ", counts.draw_window);
+    print(b"draw_row ", counts.draw_row);
     print(b"scalars ", counts.scalars);
     print(b"clusters ", counts.clusters);
     print(b"different ", counts.different);

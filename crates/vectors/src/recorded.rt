@@ -2,6 +2,11 @@
 ghost use Prim.Native.Nat.{_≤_};
 ghost use lib.ListN.{length};
 use super::fields;
+use drawing::numbers::draw_row_numbers;
+use drawing::numbers::draw_window_numbers;
+use rows::numbers::height_numbers;
+use rows::numbers::rows_numbers;
+use spans::numbers::read_numbers;
 use text::Answer;
 
 // The calls.
@@ -13,11 +18,16 @@ pub const ROWS: usize = 3;
 
 pub const HEIGHT: usize = 4;
 
-// What a case lends: bytes for the converted line, places of the span list, numbers for the rows.
+pub const DRAW_WINDOW: usize = 5;
+
+pub const DRAW_ROW: usize = 6;
+
+// What a case lends: bytes for the converted line, places of the span list, numbers for the rows, bytes for the changes.
 pub struct Lent {
     pub conv: usize,
     pub places: usize,
     pub rows: usize,
+    pub list: usize,
 }
 
 // The number that stands n fields behind `at`.
@@ -35,6 +45,12 @@ fn first_size(call: usize) -> usize {
     if call == READ {
         return 2;
     }
+    if call == DRAW_WINDOW {
+        return 5;
+    }
+    if call == DRAW_ROW {
+        return 7;
+    }
     3
 }
 
@@ -49,7 +65,20 @@ fn answer_field(call: usize) -> usize {
     if call == ROWS {
         return 7;
     }
+    if call == DRAW_WINDOW {
+        return 9;
+    }
+    if call == DRAW_ROW {
+        return 11;
+    }
     6
+}
+
+fn where_asked(size: usize, asked: bool) -> usize {
+    if asked {
+        return size;
+    }
+    0
 }
 
 // What the case at `at` lends; nothing where its call asks for none.
@@ -58,26 +87,59 @@ fn lent_by(call: usize, s: &[u8], at: usize) -> Lent
 {
     let first = fields::field(s, at, first_size(call));
     let conv = fields::number_at(s, first);
-    if call == CONVERT {
-        return Lent {
-            conv: conv,
-            places: 0,
-            rows: 0,
-        };
-    }
     let places = nth(s, first, 1);
-    if call == ROWS {
-        return Lent {
-            conv: conv,
-            places: places,
-            rows: nth(s, first, 2),
-        };
-    }
+    let last = nth(s, first, 2);
     Lent {
         conv: conv,
-        places: places,
-        rows: 0,
+        places: where_asked(places, CONVERT < call),
+        rows: where_asked(last, call == ROWS),
+        list: where_asked(last, DRAW_WINDOW <= call),
     }
+}
+
+// The current match's number; `-` is none.
+fn current(s: &[u8], at: usize) -> usize
+    requires { ⌜ at ≤ length (now s) ⌝ }
+{
+    if fields::is_word(s, at, b"-") {
+        return usize::MAX;
+    }
+    fields::number_at(s, at)
+}
+
+// The drawing of the case at `at`.
+fn drawn(
+    call: usize,
+    s: &[u8],
+    at: usize,
+    line: &[u8],
+    matches: &[usize],
+    conv: &mut [u8],
+    numbers: &mut [usize],
+    list: &mut [u8],
+) -> Answer
+    requires { ⌜ at ≤ length (now s) ⌝ }
+{
+    let match_number = current(s, fields::field(s, at, 2));
+    let a = nth(s, at, 3);
+    let b = nth(s, at, 4);
+    if call == DRAW_WINDOW {
+        return draw_window_numbers(line, matches, match_number, a, b, conv, numbers, list);
+    }
+    let width = nth(s, at, 5);
+    let mode = nth(s, at, 6);
+    draw_row_numbers(
+        line,
+        matches,
+        match_number,
+        a,
+        b,
+        width,
+        mode,
+        conv,
+        numbers,
+        list,
+    )
 }
 
 // The call of the case at `at`.
@@ -90,6 +152,7 @@ fn called(
     conv: &mut [u8],
     numbers: &mut [usize],
     rows: &mut [usize],
+    list: &mut [u8],
 ) -> Answer
     requires { ⌜ at ≤ length (now s) ⌝ }
 {
@@ -97,14 +160,17 @@ fn called(
         return text::convert(line, conv);
     }
     if call == READ {
-        return spans::numbers::read_numbers(line, matches, conv, numbers);
+        return read_numbers(line, matches, conv, numbers);
+    }
+    if DRAW_WINDOW <= call {
+        return drawn(call, s, at, line, matches, conv, numbers, list);
     }
     let width = nth(s, at, 1);
     let mode = nth(s, at, 2);
     if call == ROWS {
-        return rows::numbers::rows_numbers(line, width, mode, conv, numbers, rows);
+        return rows_numbers(line, width, mode, conv, numbers, rows);
     }
-    rows::numbers::height_numbers(line, width, mode, conv, numbers)
+    height_numbers(line, width, mode, conv, numbers)
 }
 
 // Do number, count and every lent buffer stand at `at`, each with zeros behind what is recorded?
@@ -113,6 +179,7 @@ fn is_recorded(
     conv: &[u8],
     numbers: &[usize],
     rows: &[usize],
+    list: &[u8],
     s: &[u8],
     at: usize,
 ) -> bool
@@ -131,7 +198,11 @@ fn is_recorded(
     if !fields::shows_numbers(s, fields::field(s, at, 3), numbers) {
         return false;
     }
-    fields::shows_numbers(s, fields::field(s, at, 4), rows)
+    let last = fields::field(s, at, 4);
+    if !fields::shows_numbers(s, last, rows) {
+        return false;
+    }
+    fields::shows(s, last, fields::past(s, last, b' '), list)
 }
 
 // Is the case at `at` met, of a line and its matches, lent all of these?
@@ -144,12 +215,13 @@ fn is_answered(
     conv: &mut [u8],
     numbers: &mut [usize],
     rows: &mut [usize],
+    list: &mut [u8],
 ) -> bool
     requires { ⌜ at ≤ length (now s) ⌝ }
 {
-    let a = called(call, s, at, line, matches, conv, numbers, rows);
+    let a = called(call, s, at, line, matches, conv, numbers, rows, list);
     let recorded = fields::field(s, at, answer_field(call));
-    is_recorded(a, conv, numbers, rows, s, recorded)
+    is_recorded(a, conv, numbers, rows, list, s, recorded)
 }
 
 // The same, lent what it names.
@@ -159,10 +231,12 @@ fn is_replayed(call: usize, s: &[u8], at: usize, line: &[u8], matches: &[usize])
     let mut conv = [170u8; 32776];
     let mut numbers = [170usize; 8192];
     let mut rows = [170usize; 8192];
+    let mut list = [170u8; 163984];
     let lent = lent_by(call, s, at);
     let c = lent.conv;
     let p = lent.places;
     let r = lent.rows;
+    let b = lent.list;
     if 32776 < c {
         return false;
     }
@@ -170,6 +244,9 @@ fn is_replayed(call: usize, s: &[u8], at: usize, line: &[u8], matches: &[usize])
         return false;
     }
     if 8192 < r {
+        return false;
+    }
+    if 163984 < b {
         return false;
     }
     is_answered(
@@ -181,6 +258,7 @@ fn is_replayed(call: usize, s: &[u8], at: usize, line: &[u8], matches: &[usize])
         &mut conv[..c],
         &mut numbers[..4 * p],
         &mut rows[..r],
+        &mut list[..b],
     )
 }
 
