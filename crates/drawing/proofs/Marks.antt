@@ -260,9 +260,6 @@ pub mark-style : (kind : ℕ) → (kind ≢ 10) → Control ≡ composedStyle ki
 mark-style kind k = rw (ne-eqb kind 10 k) refl
 
 module _ (out : List ℕ) (kind byte : ℕ) (t : AttributeState) (n : ℕ) (c : Composed out kind byte (t .position .0) n) where
-  pub composed-fits : n ≤ 8
-  composed-fits = c .small
-
   pub composed-slice : n ≡ length (take n out)
   composed-slice = sym (length-take-le n out (c .fits))
 

@@ -1,5 +1,5 @@
 use borrow.Author.Needs.{needs}
-use Rattle.drawing.proofs.Marks.{composed-ready, composed-wrote, composed-fits, composed-slice}
+use Rattle.drawing.proofs.Marks.{composed-ready, composed-wrote, composed-slice}
 use Rattle.drawing.proofs.mark.draw_composed.Statement.{statement}
 use Rattle.drawing.proofs.mark.draw_composed.Tie as tie
 
@@ -7,7 +7,7 @@ compose-requires : tie.Need-compose-requires
 compose-requires c κs = search needs
 
 array-share-prefix-composed : tie.Need-array-share-prefix-composed
-array-share-prefix-composed c = search composed-fits
+array-share-prefix-composed c = search needs
 
 slice-aggregate-write-columns : tie.Need-slice-aggregate-write-columns
 slice-aggregate-write-columns c = search composed-slice

@@ -34,23 +34,23 @@ returns c = search link-told
 
 returns-2 : tie.Need-returns-2
 unfolding linkedBy
-returns-2 c = search (link-told, on-link)
+returns-2 c = search on-link
 
 returns-3 : tie.Need-returns-3
 unfolding linkedBy
-returns-3 c = search (link-told, on-link)
+returns-3 c = search on-link
 
 returns-4 : tie.Need-returns-4
 unfolding linkedBy
-returns-4 c = search (link-told, on-link)
+returns-4 c = search on-link
 
 returns-5 : tie.Need-returns-5
 unfolding linkedBy
-returns-5 c = search (link-told, on-link)
+returns-5 c = search on-link
 
 returns-6 : tie.Need-returns-6
 unfolding linkedBy
-returns-6 c = search (link-told, on-link)
+returns-6 c = search on-link
 
 pub apply-hyperlink-spec : {M : Type 1} → statement M
 apply-hyperlink-spec =

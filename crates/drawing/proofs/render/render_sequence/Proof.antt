@@ -31,16 +31,16 @@ erase-to-end-requires : tie.Need-erase-to-end-requires
 erase-to-end-requires c κs = search needs
 
 returns-2 : tie.Need-returns-2
-returns-2 c = search (sequence-past, sequence-sgr, sequence-link, sequence-drawing, sequence-erase, sequence-other)
+returns-2 c = search (sequence-sgr, sequence-link, sequence-drawing, sequence-erase)
 
 returns-3 : tie.Need-returns-3
-returns-3 c = search (sequence-past, sequence-sgr, sequence-link, sequence-drawing, sequence-erase, sequence-other)
+returns-3 c = search (sequence-sgr, sequence-link, sequence-drawing, sequence-erase)
 
 returns-4 : tie.Need-returns-4
-returns-4 c = search (sequence-past, sequence-sgr, sequence-link, sequence-drawing, sequence-erase, sequence-other)
+returns-4 c = search (sequence-sgr, sequence-link, sequence-drawing, sequence-erase)
 
 returns-5 : tie.Need-returns-5
-returns-5 c = search (sequence-past, sequence-sgr, sequence-link, sequence-drawing, sequence-erase, sequence-other)
+returns-5 c = search (sequence-sgr, sequence-link, sequence-drawing, sequence-erase)
 
 returns-6 : tie.Need-returns-6
 returns-6 c = search (sequence-past, sequence-sgr, sequence-link, sequence-drawing, sequence-erase, sequence-other)
