@@ -2,6 +2,7 @@ pub mod Branch
 pub mod Units
 pub mod Tails
 pub mod Runs
+pub mod AsciiRuns
 pub mod Ascii
 pub mod Leads
 pub mod Walks

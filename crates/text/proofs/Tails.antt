@@ -12,55 +12,10 @@ use Rattle.text.specs.Code.{back, isTail}
 use Rattle.text.specs.Tests.{and-T, cases, true-T}
 use Rattle.text.specs.Utf8.{Range, fits, lengthIn, sequence, table}
 use Rattle.text.specs.Utf8.Laws.{continuation-bad, sequence-le}
-
-tailRanges : List Range → Bool
-tailRanges [] = true
-tailRanges (r ∷ rs) = (leb 0x80 (r .low) && leb (r .high) 0xBF) && tailRanges rs
-
-tailRow : List Range → Bool
-unfolding tailRanges
-tailRow [] = true
-tailRow (r ∷ rs) = tailRanges rs
-
-tailRows : List (List Range) → Bool
-unfolding tailRow
-tailRows [] = true
-tailRows (row ∷ rows) = _&&_ (tailRow row) (tailRows rows)
-
-fits-tails : (rs : List Range) (s : List ℕ) (i : ℕ) → T (tailRanges rs) → T (fits rs s) → i < length rs → isTail (getD s i 0) ≡ true
-unfolding tailRanges fits
-fits-tails [] s i t f h = absurd (omega arith)
-fits-tails (r ∷ rs) [] i t f h = absurd f
-fits-tails (r ∷ rs) (b ∷ s) zero t f h =
-    let w = and-T (leb (r .low) b) (leb b (r .high)) (and-T (_&&_ (leb (r .low) b) (leb b (r .high))) (fits rs s) f .0) in
-    let x = and-T (leb 0x80 (r .low)) (leb (r .high) 0xBF) (and-T (_&&_ (leb 0x80 (r .low)) (leb (r .high) 0xBF)) (tailRanges rs) t .0) in
-    let h₁ : r .low ≤ b = leb→le _ _ (w .0) in
-    let h₂ : b ≤ r .high = leb→le _ _ (w .1) in
-    let h₃ : 0x80 ≤ r .low = leb→le _ _ (x .0) in
-    let h₄ : r .high ≤ 0xBF = leb→le _ _ (x .1) in
-    let l : 0x80 ≤ b = omega arith in
-    let m : b ≤ 0xBF = omega arith in
-    rw (le-leb 0x80 b l, le-leb b 0xBF m) refl
-fits-tails (r ∷ rs) (b ∷ s) (suc i) t f h =
-    fits-tails rs s i (and-T (_&&_ (leb 0x80 (r .low)) (leb (r .high) 0xBF)) (tailRanges rs) t .1) (and-T (_&&_ (leb (r .low) b) (leb b (r .high))) (fits rs s) f .1) (omega arith)
-
-row-tails : (row : List Range) (s : List ℕ) (i : ℕ) → T (tailRow row) → T (fits row s) → suc i < length row → isTail (getD s (suc i) 0) ≡ true
-unfolding tailRow fits
-row-tails [] s i t f h = absurd (omega arith)
-row-tails (r ∷ rs) [] i t f h = absurd f
-row-tails (r ∷ rs) (b ∷ s) i t f h = fits-tails rs s i t (and-T (_&&_ (leb (r .low) b) (leb b (r .high))) (fits rs s) f .1) (omega arith)
-
-rows-tails : (rows : List (List Range)) (s : List ℕ) (i n : ℕ) → T (tailRows rows) → lengthIn rows s ≡ n → suc i < n → isTail (getD s (suc i) 0) ≡ true
-unfolding tailRows lengthIn
-rows-tails [] s i n t e h = absurd (omega arith)
-rows-tails (row ∷ rows) s i n t e h =
-    cases (fits row s)
-    (λ f. row-tails row s i (and-T (tailRow row) (tailRows rows) t .0) (true-T f) (let l : length row ≡ n = rw f at e in omega arith))
-    (λ f. rows-tails rows s i n (and-T (tailRow row) (tailRows rows) t .1) (rw f at e) h)
+use Rattle.text.specs.Utf8.Ascii.{sequence-tails}
 
 pub seq-tails : (s : List ℕ) (i n : ℕ) → sequence s ≡ n → suc i < n → isTail (getD s (suc i) 0) ≡ true
-unfolding sequence tailRows table
-seq-tails s i n e h = rows-tails table s i n tt e h
+seq-tails s i n e h = let t = sequence-tails s i n e h in rw (le-leb 0x80 (getD s (suc i) 0) (t .0), le-leb (getD s (suc i) 0) 0xBF (t .1)) refl
 
 pub seq-lead : (s : List ℕ) (n : ℕ) → sequence s ≡ suc n → isTail (getD s 0 0) ≡ false
 seq-lead [] n e = let h : sequence [] ≤ 0 = sequence-le [] in absurd (omega arith)

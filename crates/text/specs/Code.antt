@@ -26,11 +26,23 @@ use Rattle.text.specs.declared.overstrike.Progress.{Progress}
 use Rattle.text.specs.declared.utf8.Sequence.{Sequence}
 use Rattle.text.specs.declared.class.Profile as code
 pub mod Laws
+pub mod Boundaries
 
 -- document 01's profile, whatever the version: other versions join it as cases
 unfoldable pub profileOf : code.Profile → Profile
 unfolding profile01
 profileOf p = profile01
+
+-- ---- bytes below 80
+
+-- how many bytes below 80 stand first
+unfoldable pub asciiLength : List ℕ → ℕ
+asciiLength [] = 0
+asciiLength (b ∷ s) = cond (ltb b 0x80) (suc (asciiLength s)) 0
+
+-- four of them stand at a place
+abbrev pub asciiFour : List ℕ → ℕ → Bool
+asciiFour s p = leb 4 (length s - p) && (ltb (getD s p 0) 0x80 && (ltb (getD s (p + 1) 0) 0x80 && (ltb (getD s (p + 2) 0) 0x80 && ltb (getD s (p + 3) 0) 0x80)))
 
 -- ---- decoding
 

@@ -8,6 +8,7 @@ pub mod Laws
 pub mod Noise
 pub mod Valid
 pub mod Runs
+pub mod Ascii
 
 -- ---- the table of well-formed sequences
 

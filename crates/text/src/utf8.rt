@@ -3,7 +3,7 @@ ghost use mathlib.Core.Path.{_≡_};
 ghost use Prim.Native.Nat.{_+_, _<_, _≤_};
 ghost use lib.ListN.{length, getD, drop};
 ghost use Rattle.text.specs.Utf8.{decode};
-ghost use Rattle.text.specs.Code.{isTail, twoBytes, threeBytes, fourBytes, firstSequence, runOf, size};
+ghost use Rattle.text.specs.Code.{asciiLength, asciiFour, isTail, twoBytes, threeBytes, fourBytes, firstSequence, runOf, size};
 
 // A well-formed sequence: its scalar and the number of its bytes. Where none begins the length is 0.
 pub struct Sequence {
@@ -91,18 +91,48 @@ pub fn decode(s: &[u8], at: usize) -> Sequence
     decode_long(s, at)
 }
 
+// Do four bytes below 80 stand at a place?
+fn is_ascii4(s: &[u8], at: usize) -> bool
+    requires { ⌜ at ≤ length (now s) ⌝ }
+    ensures { λ r. ⌜ r ≡ asciiFour (now (s .entry)) at ⌝ }
+{
+    if s.len() - at < 4 {
+        return false;
+    }
+    (s[at] < 0x80) & ((s[at + 1] < 0x80) & ((s[at + 2] < 0x80) & (s[at + 3] < 0x80)))
+}
+
+// Past the bytes below 80, four at a time.
+fn ascii_end(s: &[u8], at: usize) -> usize
+    requires { ⌜ at ≤ length (now s) ⌝ }
+    ensures { λ r. ⌜ r ≡ at + asciiLength (drop at (now (s .entry))) ⌝ }
+{
+    let mut p = at;
+    while p < s.len() {
+        if is_ascii4(s, p) {
+            p += 4;
+        } else {
+            if 0x80 <= s[p] {
+                return p;
+            }
+            p += 1;
+        }
+    }
+    p
+}
+
 // The end of the run of valid text that begins at a place.
 pub fn run_end(s: &[u8], at: usize) -> usize
     requires { ⌜ at ≤ length (now s) ⌝ }
     ensures { λ r. ⌜ r ≡ at + size (runOf (decode (drop at (now (s .entry))))) ⌝ }
 {
-    let mut p = at;
+    let mut p = ascii_end(s, at);
     while p < s.len() {
         let u = decode(s, p);
         if u.len == 0 {
             return p;
         }
-        p += u.len;
+        p = ascii_end(s, p + u.len);
     }
     p
 }

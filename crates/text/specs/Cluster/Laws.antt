@@ -93,3 +93,37 @@ module _ (P : Profile) where
   pub clusters-first : (c : Scalar) (s : List Scalar) → clusters P (c ∷ s) ≡ (c ∷ take (further (c ∷ []) s) s) ∷ clusters P (drop (further (c ∷ []) s) s)
   unfolding clusters
   clusters-first c s = first-after [] c s
+
+  -- ---- a scalar that joins nothing before it begins a cluster
+
+  add-behind : (w v : Bool) (d e : Scalar) (gs hs : List (List Scalar)) → addToCluster P w d (addToCluster P v e gs ++ hs) ≡ addToCluster P w d (addToCluster P v e gs) ++ hs
+  unfolding addToCluster
+  add-behind false v d e gs hs = refl
+  add-behind true false d e gs hs = refl
+  add-behind true true d e [] hs = refl
+  add-behind true true d e (g ∷ gs) hs = refl
+
+  clusters-is : (s : List Scalar) → clusters P s ≡ clustersAfter P [] s
+  unfolding clusters
+  clusters-is s = refl
+
+  module _ (c : Scalar) (y : List Scalar) (alone : (before : List Scalar) → joins P before c ≡ false) where
+    split-more : (before : List Scalar) (d : Scalar) (x : List Scalar) → clustersAfter P (d ∷ before) (x ++ (c ∷ y)) ≡ clustersAfter P (d ∷ before) x ++ clusters P (c ∷ y)
+        → clustersAfter P before (d ∷ (x ++ (c ∷ y))) ≡ clustersAfter P before (d ∷ x) ++ clusters P (c ∷ y)
+    unfolding clustersAfter joinsNext addToCluster
+    split-more before d [] r = rw (alone (d ∷ before)) (ap (λ (gs : List (List Scalar)). (d ∷ []) ∷ gs) r)
+    split-more before d (e ∷ x) r =
+        ap (addToCluster P (joins P (d ∷ before) e) d) r
+        ∙ add-behind (joins P (d ∷ before) e) (joinsNext P (e ∷ d ∷ before) x) d e (clustersAfter P (e ∷ d ∷ before) x) (clusters P (c ∷ y))
+
+    split-none : (before : List Scalar) → clusters P (c ∷ y) ≡ clustersAfter P before [] ++ clusters P (c ∷ y)
+    unfolding clustersAfter
+    split-none before = refl
+
+    split-after : (before x : List Scalar) → clustersAfter P before (x ++ (c ∷ y)) ≡ clustersAfter P before x ++ clusters P (c ∷ y)
+    split-after before [] = restart before c y (alone before) ∙ split-none before
+    split-after before (d ∷ x) = split-more before d x (split-after (d ∷ before) x)
+
+    -- the clusters before it, and those from it on
+    pub clusters-split : (x : List Scalar) → clusters P (x ++ (c ∷ y)) ≡ clusters P x ++ clusters P (c ∷ y)
+    clusters-split x = clusters-is (x ++ (c ∷ y)) ∙ split-after [] x ∙ ap (λ (gs : List (List Scalar)). gs ++ clusters P (c ∷ y)) (sym (clusters-is x))

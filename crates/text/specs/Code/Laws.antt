@@ -192,11 +192,11 @@ first-cluster P c s =
 -- ---- printable ASCII, 20 to 7E
 
 -- n numbers from a on pass a test
-every : (ℕ → Bool) → ℕ → ℕ → Bool
+unfoldable pub every : (ℕ → Bool) → ℕ → ℕ → Bool
 every f a zero = true
 every f a (suc n) = f a && every f (suc a) n
 
-every-one : (f : ℕ → Bool) (n a v : ℕ) → T (every f a n) → a ≤ v → v < a + n → T (f v)
+pub every-one : (f : ℕ → Bool) (n a v : ℕ) → T (every f a n) → a ≤ v → v < a + n → T (f v)
 unfolding every
 every-one f zero a v t h k = absurd (omega arith)
 every-one f (suc n) a v t h k =

@@ -1,40 +1,44 @@
-use Prim.Native.Nat.{_+_, _-_, _≤_}
+use Prim.Native.Nat.{_-_}
+use lib.ListN.{length}
 use native.Mathlib.Omega.{arith}
-use mathlib.Core.Path.{_≡_}
-use lib.ListN.{drop, length}
+use Rattle.text.proofs.Units.{run-room}
 use borrow.Author.Needs.{needs}
-use Rattle.text.specs.Code.{runOf, size}
-use Rattle.text.specs.Utf8.{decode}
-use Rattle.text.proofs.Units.{run-room, size-end, size-on, size-stop}
+use Rattle.text.proofs.AsciiRuns.{RunLoop, run-begins, run-stops, run-place, run-falls, run-again, run-ends}
 use Rattle.text.proofs.utf8.run_end.Statement.{statement}
 use Rattle.text.proofs.utf8.run_end.Tie as tie
 
 abbrev Inv-loop : tie.InvT-loop
-Inv-loop s at p₀ p = (p ≤ length s) × (at + size (runOf (decode (drop at s))) ≡ p + size (runOf (decode (drop p s))))
+Inv-loop s at p₀ p = RunLoop s at p
 
 abbrev μ-loop : tie.MeasureT-loop
 μ-loop s at p₀ p = length s - p
 
+ascii-end-requires : tie.Need-ascii-end-requires Inv-loop μ-loop
+ascii-end-requires c κs = search needs
+
 loop-holds : tie.Need-loop-holds Inv-loop μ-loop
-loop-holds c = search needs
+loop-holds c = search run-begins
 
 decode-requires : tie.Need-decode-requires Inv-loop μ-loop
 decode-requires c κs = search needs
 
 returns : tie.Need-returns Inv-loop μ-loop
-returns c = search size-stop
+returns c = search run-stops
 
-add-p : tie.Need-add-p Inv-loop μ-loop
-add-p c = omega (arith, run-room (c .before .before .before .before .before .before .before .args .s .now) (c .before .before .before .before .before .loop .p) (c .before .before .before .decode .result) (c .before .before .before .before .loop-test .taken) (c .before .before .before .decode .ensures) (c .before .if1 .left))
+add-ascii-end : tie.Need-add-ascii-end Inv-loop μ-loop
+add-ascii-end c = omega (arith, run-room _ _ _ (c .before .before .before .before .loop-test .taken) (c .before .before .before .decode .ensures) (c .before .if1 .left))
+
+ascii-end-requires-2 : tie.Need-ascii-end-requires-2 Inv-loop μ-loop
+ascii-end-requires-2 c κs = search run-place
 
 loop-less : tie.Need-loop-less Inv-loop μ-loop
-loop-less c = omega (arith, run-room (c .before .before .before .before .before .before .before .args .s .now) (c .before .before .before .before .before .loop .p) (c .before .before .before .decode .result) (c .before .before .before .before .loop-test .taken) (c .before .before .before .decode .ensures) (c .before .if1 .left))
+loop-less c = search run-falls
 
 loop-again : tie.Need-loop-again Inv-loop μ-loop
-loop-again c = (search run-room, search size-on)
+loop-again c = search run-again
 
 returns-2 : tie.Need-returns-2 Inv-loop μ-loop
-returns-2 c = search size-end
+returns-2 c = search run-ends
 
 pub run-end-spec : {M : Type 1} → statement M
 run-end-spec =
@@ -42,10 +46,12 @@ run-end-spec =
     (tie.spec
     Inv-loop
     μ-loop
+    ascii-end-requires
     loop-holds
     decode-requires
     returns
-    add-p
+    add-ascii-end
+    ascii-end-requires-2
     loop-less
     loop-again
     returns-2)
