@@ -5,30 +5,32 @@ use native.Mathlib.Nat.{add-zero}
 use native.Mathlib.Numerals.{add-one}
 use native.Mathlib.Omega.{arith}
 use mathlib.Core.Bool.{Bool, true, false, true≢false, not, cond, _&&_, _||_}
-use mathlib.Core.List.{List, [], _∷_, map}
+use mathlib.Core.List.{List, [], _∷_, _++_, map}
 use mathlib.Core.Logic.{_≢_}
-use lib.ListN.{length, take, drop, getD, length-drop, drop-of-length-le, List·getD-eq-default}
-use lib.Seq.{drop-cons, drop-drop, getD-drop, slice, slice-empty, length-slice}
-use borrow.Author.Tests.{eqb-true, ne-eqb, ltb-true}
+use lib.ListN.{length, take, drop, getD, length-append, length-drop, drop-of-length-le, List·getD-eq-default}
+use lib.Seq.{drop-cons, drop-drop, getD-drop, getD-take, slice, slice-empty, length-slice}
+use borrow.Author.Tests.{eqb-true, eqb-false, ne-eqb, ltb-true}
 use lib.Dec.{eqb, leb, ltb, eqb→eq, nltb→le}
 use Rattle.text.specs.Tests.{cases, and-T, true-T}
 use Rattle.text.specs.Utf8.{Scalar, ascii, decode, decodeFrom, runOf, bytesOf}
+use Rattle.text.specs.Utf8.Laws.{bytesOf-append}
 use Rattle.text.specs.Utf8.Runs.{run-fits}
 use Rattle.text.specs.Class.{Profile}
 use Rattle.text.specs.Width.{profile01, widthOf}
 use Rattle.text.specs.Cluster.{clusters, clustersAfter, joinAll}
 use Rattle.text.specs.Cluster.Laws.{clusters-all}
 use Rattle.text.specs.Cluster.Walk.{size-is, first-size, first-none, cluster-run, cluster-some, cluster-behind, cluster-length, next-clusters}
-use Rattle.text.specs.Code.{profileOf, size, firstSize, firstSequence}
+use Rattle.text.specs.Code.{profileOf, size, firstSize, firstSequence, loneByte}
+use Rattle.text.specs.Code.Boundaries.{Boundary, lone-boundary}
 use Rattle.text.specs.Code.Laws.{scalar-at, none-at}
 use Rattle.text.specs.declared.utf8.Sequence.{Sequence}
 use Rattle.text.specs.declared.class.Profile as code
 use Rattle.spans.specs.Sequence as found
 use Rattle.spans.specs.Sequence.{sgr, eraseToEnd, ignored, hyperlink, lineDrawing, Found, found, missing, parse}
-use Rattle.spans.specs.Sequence.Laws.{parse-length}
+use Rattle.spans.specs.Sequence.Laws.{parse-length, parse-last}
 use Rattle.spans.specs.Spans.{Content, Span, span, Seen, plain, special, seen, spansAt, text, control, invalid, unprintable, escape, tab, crlf, lf, Record, aRecord, kindOf, matchOf, recordOf, records}
 use Rattle.spans.specs.Spans.Steps.{extent, isPlain, plainCluster, plain-same, plainSize, plainText, skipped, step-text, step-special, step-invalid, NoText, seen-noText}
-use Rattle.spans.specs.Contracts.{alone, plainBytes, plainFirst, clustersAt, PlainTo, runAt, Part, Within, Ahead, Skip, told, escapeLook, lookBytes, aLook, Fresh, Ready, isMatch, matchIn, textRecord, recordsFrom, invalidAt, Stepped, ControlReady, Escaping, Mark, SpecialStep}
+use Rattle.spans.specs.Contracts.{alone, plainBytes, plainFirst, clustersAt, PlainTo, runAt, Part, Within, Ahead, SkipReady, Skip, told, escapeLook, lookBytes, aLook, Fresh, Ready, isMatch, matchIn, textRecord, recordsFrom, invalidAt, Stepped, ControlReady, Escaping, Mark, SpecialStep}
 use Rattle.spans.specs.declared.sequence.Sequence as sequence
 use Rattle.spans.specs.declared.reader.Look.{Look}
 use Rattle.spans.specs.declared.reader.Place.{Place}
@@ -265,11 +267,11 @@ pub record SkipLoop (P : Profile) (t : List ℕ) (at stop i : ℕ) : Type 0 wher
   pub run : runAt t i ≡ runAt t at
   pub ahead : stop ≤ runAt t i
 
-pub skip-begin : (P : Profile) (t : List ℕ) (at stop : ℕ) → Ahead t at stop → SkipLoop P t at stop at
+skip-begin : (P : Profile) (t : List ℕ) (at stop : ℕ) → Ahead t at stop → SkipLoop P t at stop at
 skip-begin P t at stop h = record { same = refl; run = refl; ahead = h }
 
 module _ (P : Profile) (t : List ℕ) (at stop i : ℕ) (z : SkipLoop P t at stop i) where
-  pub skip-here : i < stop → i < length t
+  skip-here : i < stop → i < length t
   skip-here h = omega (arith, z .ahead, run-inside t i)
 
   module _ (e : ℕ) (h : i < stop) (f : e ≡ i + firstSize P (runOf (decode (drop i t)))) where
@@ -290,14 +292,50 @@ module _ (P : Profile) (t : List ℕ) (at stop i : ℕ) (z : SkipLoop P t at sto
           omega (arith, k, cluster-some P (drop i t) g gs q),
         ))
 
-    pub skip-again : SkipLoop P t at stop e
-    skip-again = skip-step .0
-
-    pub skip-falls : stop - e < stop - i
-    skip-falls = omega (arith, skip-step .1)
-
-  pub skip-done : stop ≤ i → Skip P t at stop i
+  skip-done : stop ≤ i → Skip P t at stop i
   skip-done h = let k : stop - i ≡ 0 = omega arith in record { same = omega (arith, z .same, skip-none P (stop - i) (clustersAt P (drop i t)) k); run = z .run }
+
+-- clusters that are skipped whole
+skip-over : (P : Profile) (gs hs : List (List Scalar)) (j : ℕ) → skipped P (extent (joinAll gs) + j) (gs ++ hs) ≡ extent (joinAll gs) + skipped P j hs
+unfolding joinAll bytesOf
+skip-over P [] hs j = let e : 0 + j ≡ j = omega arith in rw e (omega arith)
+skip-over P (g ∷ gs) hs j =
+    let l : extent (g ++ joinAll gs) ≡ extent g + extent (joinAll gs) = ap length (bytesOf-append g (joinAll gs)) ∙ length-append (bytesOf g) (bytesOf (joinAll gs)) in
+    let r = skip-over P gs hs j in
+    let n : ℕ = extent g + extent (joinAll gs) + j in
+    rw l (cases (eqb n 0)
+    (λ e.
+    let z : n ≡ 0 = eqb-true n 0 e in
+    omega (arith, skip-none P n (g ∷ (gs ++ hs)) z, skip-none P (extent (joinAll gs) + j) (gs ++ hs) (omega arith), r))
+    (λ e.
+    let z : n ≢ 0 = eqb-false n 0 e in
+    let a : n - extent g ≡ extent (joinAll gs) + j = omega arith in
+    omega (arith, rw a at (skip-first P n g (gs ++ hs) (omega arith)), r)))
+
+module _ (p : code.Profile) (t : List ℕ) (at stop : ℕ) (z : SkipReady t at stop) where
+  skip-jump : at < stop → SkipLoop (profileOf p) t at stop (stop - 1)
+  skip-jump h =
+      let n : ℕ = stop - 1 - at in
+      let k : at + n ≡ stop - 1 = omega arith in
+      let b : Boundary p (drop at t) n = lone-boundary p (drop at t) n (omega (arith, z .ahead, size-is (runOf (decode (drop at t))))) (rw (getD-drop at t n 0, k) (z .begins h)) in
+      let d : drop n (drop at t) ≡ drop (stop - 1) t = drop-drop n at t ∙ ap (λ (i : ℕ). drop i t) k in
+      let c : clustersAt (profileOf p) (drop at t) ≡ b .before ++ clustersAt (profileOf p) (drop (stop - 1) t) = rw d at (b .clusters) in
+      let r : size (runOf (decode (drop at t))) ≡ n + size (runOf (decode (drop (stop - 1) t))) = size-is (runOf (decode (drop at t))) ∙ rw (d, ← size-is (runOf (decode (drop (stop - 1) t)))) at (b .run) in
+      let u : stop - at ≡ n + (stop - (stop - 1)) = omega arith in
+      let s : skipped (profileOf p) (stop - at) (clustersAt (profileOf p) (drop at t)) ≡ n + skipped (profileOf p) (stop - (stop - 1)) (clustersAt (profileOf p) (drop (stop - 1) t)) =
+      rw (c, u) (rw (b .size) at (skip-over (profileOf p) (b .before) (clustersAt (profileOf p) (drop (stop - 1) t)) (stop - (stop - 1)))) in
+      record { same = omega (arith, s, k); run = omega (arith, r, k); ahead = omega (arith, r, k, z .ahead) }
+
+  pub skip-inside : at < stop → stop - 1 < length t
+  skip-inside h = skip-here (profileOf p) t at stop (stop - 1) (skip-jump h) (omega arith)
+
+  pub skip-nothing : stop ≤ at → Skip (profileOf p) t at stop at
+  skip-nothing h = skip-done (profileOf p) t at stop at (skip-begin (profileOf p) t at stop (z .ahead)) h
+
+  pub skip-last : (e : ℕ) → at < stop → e ≡ stop - 1 + firstSize (profileOf p) (runOf (decode (drop (stop - 1) t))) → Skip (profileOf p) t at stop e
+  skip-last e h f =
+      let w = skip-step (profileOf p) t at stop (stop - 1) (skip-jump h) e (omega arith) f in
+      skip-done (profileOf p) t at stop e (w .0) (omega (arith, w .1))
 
 behind-skipped : (P : Profile) (t : List ℕ) (at : ℕ) (g : List Scalar) (gs : List (List Scalar)) → clustersAt P (drop at t) ≡ g ∷ gs → (end k : ℕ) → end ≡ at + extent g
     → end + skipped P (at + k - end) (clustersAt P (drop end t)) ≡ at + (extent g + skipped P (k - extent g) gs)
@@ -307,14 +345,18 @@ behind-skipped P t at g gs e end k f =
 
 -- ---- a cluster that is no part of a text
 
-escape-fits : (f : Found) (m : ℕ) → 1 ≤ m → ((q : found.Sequence) (n : ℕ) → f ≡ found q n → n ≤ m) → escapeLook (told f) .len ≤ m
+slice-byte : (t : List ℕ) (a b i : ℕ) → i < b - a → getD (slice a b t) i 0 ≡ getD t (a + i) 0
+slice-byte t a b i h = ap (λ (l : List ℕ). getD l i 0) (sym (part-slice t a b)) ∙ getD-take (b - a) (drop a t) i 0 h ∙ getD-drop a t i 0
+
+-- what holds of 1, and of the length of what is found
+escape-len : (Q : ℕ → Type 0) (f : Found) → Q 1 → ((q : found.Sequence) (n : ℕ) → f ≡ found q n → Q n) → Q (escapeLook (told f) .len)
 unfolding escapeLook told
-escape-fits missing m h k = h
-escape-fits (found (sgr os) n) m h k = k (sgr os) n refl
-escape-fits (found eraseToEnd n) m h k = k eraseToEnd n refl
-escape-fits (found ignored n) m h k = k ignored n refl
-escape-fits (found (hyperlink a b) n) m h k = k (hyperlink a b) n refl
-escape-fits (found (lineDrawing b) n) m h k = k (lineDrawing b) n refl
+escape-len Q missing h k = h
+escape-len Q (found (sgr os) n) h k = k (sgr os) n refl
+escape-len Q (found eraseToEnd n) h k = k eraseToEnd n refl
+escape-len Q (found ignored n) h k = k ignored n refl
+escape-len Q (found (hyperlink a b) n) h k = k (hyperlink a b) n refl
+escape-len Q (found (lineDrawing b) n) h k = k (lineDrawing b) n refl
 
 cond-len : (b : Bool) (x y : Look) (m : ℕ) → (b ≡ true → x .len ≤ m) → (b ≡ false → y .len ≤ m) → cond b x y .len ≤ m
 cond-len true x y m f g = f refl
@@ -324,7 +366,7 @@ look-fits : (n a y : ℕ) (s : List ℕ) (m : ℕ) → 1 ≤ m → n ≤ m → 1
 unfolding lookBytes
 look-fits n a y s m h k l =
     cond-len (eqb n 1) _ _ m
-    (λ e. cond-len (eqb a 0x1B) _ _ m (λ f. escape-fits (parse s) m h (λ q i r. omega (arith, parse-length s q i r)))
+    (λ e. cond-len (eqb a 0x1B) _ _ m (λ f. escape-len (λ (n : ℕ). n ≤ m) (parse s) h (λ q i r. omega (arith, parse-length s q i r)))
     (λ f. cond-len (eqb a 0x0A) _ _ m (λ g. h) (λ g. cond-len (eqb a 0x09) _ _ m (λ p. h) (λ p. cond-len (leb a 0x1F || eqb a 0x7F) _ _ m (λ q. h) (λ q. h)))))
     (λ e. cond-len (eqb n 2 && (eqb a 0x0D && eqb y 0x0A)) _ _ m (λ f. omega (arith, eqb→eq n 2 (and-T (eqb n 2) _ (true-T f) .0))) (λ f. k))
 
@@ -450,14 +492,29 @@ module _ (t : List ℕ) (c : Place) (z : Escaping t c) where
       escape-length : l .len ≤ run - c .at
       escape-length =
           let w = escape-within in
-          rw (e, g) (escape-fits (parse (slice (c .at + 1) run t)) (run - c .at) (omega (arith, w .first))
+          rw (e, g) (escape-len (λ (n : ℕ). n ≤ run - c .at) (parse (slice (c .at + 1) run t)) (omega (arith, w .first))
           (λ q i u. omega (arith, parse-length (slice (c .at + 1) run t) q i u, length-slice (c .at + 1) run t (w .last), w .first)))
 
       pub escape-fit : c .at + l .len ≤ length t
       escape-fit = omega (arith, escape-length, escape-within .first, escape-within .last)
 
-      pub escape-ahead : Ahead t (c .at + 1) (c .at + l .len)
+      escape-ahead : Ahead t (c .at + 1) (c .at + l .len)
       escape-ahead = omega (arith, escape-room .0, escape-length, escape-within .first)
+
+      abbrev Begins : ℕ → Type 0
+      Begins n = c .at + 1 < c .at + n → loneByte (getD t (c .at + n - 1) 0) ≡ true
+
+      escape-begins : Begins (l .len)
+      escape-begins =
+          rw (e, g) (escape-len Begins (parse (slice (c .at + 1) run t)) (λ h. absurd (omega arith))
+          (λ q n u h.
+          let w = escape-within in
+          let k : c .at + 1 + (n - 2) ≡ c .at + n - 1 = omega arith in
+          let i : n - 2 < run - (c .at + 1) = omega (arith, parse-length (slice (c .at + 1) run t) q n u, length-slice (c .at + 1) run t (w .last)) in
+          rw (slice-byte t (c .at + 1) run (n - 2) i, k) at (parse-last (slice (c .at + 1) run t) q n u)))
+
+      pub escape-ready : SkipReady t (c .at + 1) (c .at + l .len)
+      escape-ready = record { ahead = escape-ahead; begins = escape-begins }
 
       pub escape-step : (p : code.Profile) (next : ℕ) (r : Record) → Skip (profileOf p) t (c .at + 1) (c .at + l .len) next → r ≡ aRecord (l .kind) (c .at) (l .len) 0
           → SpecialStep (profileOf p) t (c .at) (record { span = r; place = record { at = next; run = run } })

@@ -12,7 +12,7 @@ use Rattle.buffer.specs.Sink.{landed}
 use Rattle.text.specs.Utf8.{Scalar, decode, runOf, bytesOf}
 use Rattle.text.specs.Class.{Profile}
 use Rattle.text.specs.Cluster.{clusters}
-use Rattle.text.specs.Code.{size, firstSize}
+use Rattle.text.specs.Code.{size, firstSize, loneByte}
 use Rattle.text.specs.Width.{profile01}
 use Rattle.text.specs.Overstrike.{convert}
 use Rattle.text.specs.Calls.{decide, counted, question1, question2}
@@ -220,6 +220,10 @@ runAt t at = at + size (runOf (decode (drop at t)))
 
 abbrev pub Ahead : List ℕ → ℕ → ℕ → Type 0
 Ahead t at stop = stop ≤ runAt t at
+
+pub record SkipReady (t : List ℕ) (at stop : ℕ) : Type 0 where
+  pub ahead : Ahead t at stop
+  pub begins : at < stop → loneByte (getD t (stop - 1) 0) ≡ true
 
 pub record Skip (P : Profile) (t : List ℕ) (at stop r : ℕ) : Type 0 where
   pub same : r ≡ at + skipped P (stop - at) (clustersAt P (drop at t))

@@ -24,7 +24,7 @@ ghost use Rattle.text.specs.Code.{profileOf};
 ghost use Rattle.spans.specs.Sequence.{missing};
 ghost use Rattle.spans.specs.Spans.{aRecord};
 ghost use Rattle.spans.specs.Spans.Steps.{plainSize};
-ghost use Rattle.spans.specs.Contracts.{alone, base, plainBytes, clustersAt, plainFirst, PlainTo, escapeLook, lookBytes, Part, Ahead, Skip, runAt, textRecord, invalidAt, Escaping, Mark, ControlReady, SpecialStep, Ready, Stepped};
+ghost use Rattle.spans.specs.Contracts.{alone, base, plainBytes, clustersAt, plainFirst, PlainTo, escapeLook, lookBytes, Part, SkipReady, Skip, runAt, textRecord, invalidAt, Escaping, Mark, ControlReady, SpecialStep, Ready, Stepped};
 
 // What a cluster that is no part of a text is: a kind of span, and its length.
 pub struct Look {
@@ -207,16 +207,15 @@ fn look_at(t: &[u8], at: usize, end: usize) -> Look
     Look { kind: 5, len: n }
 }
 
-// Past the clusters that begin before `stop`, which lies in the run.
+// Past the clusters that begin before `stop`, where the byte before it begins one, as the last byte of every sequence does.
 fn skip_to(profile: Profile, t: &[u8], at: usize, stop: usize) -> usize
-    requires { ⌜ Ahead (now t) at stop ⌝ }
+    requires { ⌜ SkipReady (now t) at stop ⌝ }
     ensures { λ r. ⌜ Skip (profileOf profile) (now (t .entry)) at stop r ⌝ }
 {
-    let mut i = at;
-    while i < stop {
-        i = first_end(profile, t, i);
+    if stop <= at {
+        return at;
     }
-    i
+    first_end(profile, t, stop - 1)
 }
 
 // The end of the run at the place.

@@ -4,12 +4,15 @@ use Prim.Native.Nat.{ℕ, suc, _+_, _-_, _*_, _≤_, _<_, zero-le, suc-le-suc}
 use native.Mathlib.Omega.{arith}
 use native.Mathlib.Nat.{le-of-suc-le-suc, not-suc-le-zero}
 use mathlib.Core.Logic.{_⊎_, inl, inr}
-use mathlib.Core.Bool.{Bool, true, false, not, cond, _&&_, _||_}
+use mathlib.Core.Bool.{Bool, true, false, true≢false, not, cond, _&&_, _||_, and-false}
 use mathlib.Core.List.{List, [], _∷_, _++_}
 use lib.ListN.{length, drop, getD, length-drop, List·getD-append, List·getD-eq-default}
 use lib.Seq.{drop-append-le}
-use lib.Dec.{T, eqb, ltb, eqb→eq, ltb→lt, nltb→le}
-use Rattle.text.specs.Tests.{cases, and-T, true-T}
+use lib.Dec.{T, eqb, leb, ltb, eqb→eq, ltb→lt, nltb→le}
+use borrow.Author.Tests.{ltb-false, lt-leb, ne-eqb}
+use Rattle.text.specs.Tests.{cases, and-T, is-true, true-T}
+use Rattle.text.specs.Code.{loneByte}
+use Rattle.text.specs.Code.Laws.{every, every-one}
 use Rattle.spans.specs.Sgr.{digit, parameters, allowed, orders}
 use Rattle.spans.specs.declared.sgr.Sgr.{Sgr}
 use Rattle.spans.specs.Sequence.{Sequence, sgr, eraseToEnd, ignored, hyperlink, lineDrawing, Found, found, missing, leading, past, parameterByte, ifKnown, erase, final, csi, charset, uriByte, idByte, closed, osc, parse}
@@ -205,6 +208,71 @@ parse-inside (a ∷ s) =
 pub parse-length : (s : List ℕ) (q : Sequence) (n : ℕ) → parse s ≡ found q n → n ≤ 1 + length s
 unfolding Short
 parse-length s q n e = rw e at (parse-inside s)
+
+-- ---- its last byte is below 80, and no LF
+
+unfoldable Ends : List ℕ → Found → Type 0
+Ends s (found q n) = loneByte (getD s (n - 2) 0) ≡ true
+Ends s missing = Unit {0}
+
+lone-as : (b v : ℕ) → eqb b v ≡ true → loneByte v ≡ true → loneByte b ≡ true
+lone-as b v e h = rw (eqb→eq b v (true-T e)) h
+
+final-lone-each : T (every (λ (b : ℕ). not (final b) || loneByte b) 0 128)
+unfolding every
+final-lone-each = tt
+
+final-low : (b : ℕ) → final b ≡ true → b < 128
+final-low b e =
+    cases (ltb b 128)
+    (λ l. ltb→lt _ _ (true-T l))
+    (λ l. let h : 128 ≤ b = ltb-false b 128 l in
+    let z : final b ≡ false = rw (lt-leb b 0x48 (omega arith), and-false (leb 0x40 b), ne-eqb b 0x4A (λ q. omega arith), ne-eqb b 0x4C (λ q. omega arith), ne-eqb b 0x4D (λ q. omega arith), ne-eqb b 0x50 (λ q. omega arith), ne-eqb b 0x53 (λ q. omega arith), ne-eqb b 0x54 (λ q. omega arith), ne-eqb b 0x58 (λ q. omega arith), ne-eqb b 0x5A (λ q. omega arith), ne-eqb b 0x64 (λ q. omega arith), ne-eqb b 0x66 (λ q. omega arith)) in
+    absurd (true≢false (sym e ∙ z)))
+
+final-lone : (b : ℕ) → final b ≡ true → loneByte b ≡ true
+final-lone b e = let t = is-true (not (final b) || loneByte b) (every-one (λ (b : ℕ). not (final b) || loneByte b) 128 0 b final-lone-each (omega arith) (omega (arith, final-low b e))) in rw e at t
+
+-- the byte at k behind the first
+ends-at : (a : ℕ) (s : List ℕ) (n k : ℕ) → n ≡ 3 + k → loneByte (getD s k 0) ≡ true → loneByte (getD (a ∷ s) (n - 2) 0) ≡ true
+ends-at a s n k e h = let m : n - 2 ≡ suc k = omega arith in rw m h
+
+known-ends : (a : ℕ) (s : List ℕ) (os : List Sgr) (k : ℕ) → loneByte (getD s k 0) ≡ true → Ends (a ∷ s) (ifKnown os k)
+unfolding Ends ifKnown
+known-ends a s [] k h = tt
+known-ends a s (o ∷ os) k h = ends-at a s (3 + k) k refl h
+
+ends : (s : List ℕ) → Ends s (parse s)
+unfolding parse csi erase charset osc closed Ends
+ends [] = tt
+ends (a ∷ s) =
+    let ps : List ℕ = parameters 0 s in
+    let n : ℕ = leading parameterByte s in
+    let i : ℕ = past idByte s 2 in
+    let e : ℕ = past uriByte s (i + 1) in
+    let Q : Found → Type 0 = Ends (a ∷ s) in
+    cond-found Q (eqb a 0x5B) _ _
+    (λ f. cond-found Q (eqb (getD s n 0) 0x6D) _ _
+    (λ g. cond-found Q (allowed ps) _ _ (λ h. known-ends a s (orders ps) n (lone-as (getD s n 0) 0x6D g refl)) (λ h. tt))
+    (λ g. cond-found Q (eqb (getD s n 0) 0x4B) _ _
+    (λ h. cond-found Q (eqb n 0 || (eqb n 1 && eqb (getD s 0 0) 0x30)) _ _ (λ j. ends-at a s (3 + n) n refl (lone-as (getD s n 0) 0x4B h refl))
+    (λ j. cond-found Q (eqb n 1 && (eqb (getD s 0 0) 0x31 || eqb (getD s 0 0) 0x32)) _ _ (λ k. ends-at a s (3 + n) n refl (lone-as (getD s n 0) 0x4B h refl)) (λ k. tt)))
+    (λ h. cond-found Q (final (getD s n 0)) _ _ (λ j. ends-at a s (3 + n) n refl (final-lone (getD s n 0) j)) (λ j. tt))))
+    (λ f. cond-found Q (eqb a 0x28) _ _
+    (λ g. cond-found Q (eqb (getD s 0 0) 0x30) _ _ (λ h. ends-at a s 3 0 refl (lone-as (getD s 0 0) 0x30 h refl))
+    (λ h. cond-found Q (eqb (getD s 0 0) 0x42) _ _ (λ j. ends-at a s 3 0 refl (lone-as (getD s 0 0) 0x42 j refl)) (λ j. tt)))
+    (λ g. cond-found Q (eqb a 0x5D) _ _
+    (λ h. cond-found Q (eqb (getD s 0 0) 0x38 && (eqb (getD s 1 0) 0x3B && eqb (getD s i 0) 0x3B)) _ _
+    (λ j. cond-found Q (eqb (getD s e 0) 0x07) _ _ (λ k. ends-at a s (3 + e) e refl (lone-as (getD s e 0) 0x07 k refl))
+    (λ k. cond-found Q (eqb (getD s e 0) 0x1B && eqb (getD s (e + 1) 0) 0x5C) _ _
+    (λ l. ends-at a s (4 + e) (e + 1) (omega arith) (lone-as (getD s (e + 1) 0) 0x5C (is-true _ (and-T (eqb (getD s e 0) 0x1B) (eqb (getD s (e + 1) 0) 0x5C) (true-T l) .1)) refl))
+    (λ l. tt)))
+    (λ j. tt))
+    (λ h. tt)))
+
+pub parse-last : (s : List ℕ) (q : Sequence) (n : ℕ) → parse s ≡ found q n → loneByte (getD s (n - 2) 0) ≡ true
+unfolding Ends
+parse-last s q n e = rw e at (ends s)
 
 -- ---- what is found is told by the bytes
 

@@ -1,4 +1,4 @@
-use Rattle.spans.proofs.ReaderLaws.{escape-within, escape-fit, escape-ahead, escape-step}
+use Rattle.spans.proofs.ReaderLaws.{escape-within, escape-fit, escape-ready, escape-step}
 use borrow.Author.Needs.{needs}
 use Rattle.spans.proofs.reader.escape_span.Statement.{statement}
 use Rattle.spans.proofs.reader.escape_span.Tie as tie
@@ -19,7 +19,7 @@ add-skip-to-2 : tie.Need-add-skip-to-2
 add-skip-to-2 c = let h = escape-fit _ _ (c .before .before .before .before .before .pre) _ (c .before .before .before .run-at .ensures) _ (c .before .before .sequence-at .ensures) _ (c .before .escape-look .ensures) in search needs
 
 skip-to-requires : tie.Need-skip-to-requires
-skip-to-requires c κs = search escape-ahead
+skip-to-requires c κs = search escape-ready
 
 span-of-requires : tie.Need-span-of-requires
 span-of-requires c κs = search needs

@@ -1,30 +1,19 @@
-use Prim.Native.Nat.{_-_}
-use Rattle.text.specs.Code.{profileOf}
-use Rattle.spans.proofs.ReaderLaws.{SkipLoop, skip-begin, skip-here, skip-again, skip-falls, skip-done}
+use Rattle.spans.proofs.ReaderLaws.{skip-nothing, skip-inside, skip-last}
+use borrow.Author.Needs.{needs}
 use Rattle.spans.proofs.reader.skip_to.Statement.{statement}
 use Rattle.spans.proofs.reader.skip_to.Tie as tie
 
-abbrev Inv-loop : tie.InvT-loop
-Inv-loop profile t at stop i₀ i = SkipLoop (profileOf profile) t at stop i
+returns : tie.Need-returns
+returns c = search skip-nothing
 
-abbrev μ-loop : tie.MeasureT-loop
-μ-loop profile t at stop i₀ i = stop - i
+sub-first-end : tie.Need-sub-first-end
+sub-first-end c = search needs
 
-loop-holds : tie.Need-loop-holds Inv-loop μ-loop
-loop-holds c = search skip-begin
+first-end-requires : tie.Need-first-end-requires
+first-end-requires c κs = search skip-inside
 
-first-end-requires : tie.Need-first-end-requires Inv-loop μ-loop
-first-end-requires c κs = search skip-here
-
-loop-less : tie.Need-loop-less Inv-loop μ-loop
-loop-less c = search skip-falls
-
-loop-again : tie.Need-loop-again Inv-loop μ-loop
-loop-again c = search skip-again
-
-returns : tie.Need-returns Inv-loop μ-loop
-returns c = search skip-done
+returns-2 : tie.Need-returns-2
+returns-2 c = search skip-last
 
 pub skip-to-spec : {M : Type 1} → statement M
-skip-to-spec =
-    tie.close (tie.spec Inv-loop μ-loop loop-holds first-end-requires loop-less loop-again returns)
+skip-to-spec = tie.close (tie.spec returns sub-first-end first-end-requires returns-2)
