@@ -1,6 +1,6 @@
 pub mod Branch
 pub mod Parameters
-pub mod Table
+pub mod KnownParameters
 pub mod Sequences
 pub mod Clusters
 pub mod Single

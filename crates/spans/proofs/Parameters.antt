@@ -23,7 +23,7 @@ use Rattle.spans.specs.declared.sgr.Step.{Step}
 use Rattle.spans.specs.declared.sgr.Step.the-variants as step
 use Rattle.spans.specs.declared.sgr.Wait.{Wait}
 use Rattle.spans.specs.declared.sgr.Wait.the-variants.{Ready, WantKind, WantIndex, WantRed, WantGreen, WantBlue}
-use Rattle.spans.proofs.Table.{said-out}
+use Rattle.spans.proofs.KnownParameters.{said-out}
 
 -- ---- numbers above 65,535 are alike
 

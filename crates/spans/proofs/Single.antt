@@ -1,7 +1,7 @@
 -- Scalars that are clusters by themselves, by document 01's profile: controls, and those of class LV, LVT and other that no mark follows.
 use mathlib.Core.Path.{_≡_, refl, sym, ap, ap₂, _∙_}
-use Prim.Native.Nat.{ℕ, _+_, _-_, _≤_, _<_}
-use native.Mathlib.Nat.{add-zero}
+use Prim.Native.Nat.{ℕ, zero, suc, _+_, _-_, _≤_, _<_}
+use native.Mathlib.Nat.{add-zero, not-suc-le-zero}
 use native.Mathlib.Numerals.{add-one}
 use native.Mathlib.Omega.{arith}
 use mathlib.Core.Bool.{Bool, true, false, not, cond, _&&_, _||_, and-false, true≢false}
@@ -24,8 +24,17 @@ use Rattle.text.specs.declared.class.Profile as code
 use Rattle.text.specs.declared.utf8.Sequence.{Sequence}
 use Rattle.spans.specs.Spans.Steps.{plainCluster, plainSize}
 use Rattle.spans.specs.Contracts.{alone, base, plainBytes, clustersAt, PlainTo}
-use Rattle.spans.proofs.Table.{upFrom, upFrom-at}
 use Rattle.spans.proofs.Clusters.{plain-bytes}
+
+unfoldable upFrom : ℕ → ℕ → List ℕ
+upFrom i zero = []
+upFrom i (suc n) = i ∷ upFrom (suc i) n
+
+upFrom-at : (n i k d : ℕ) → k < n → getD (upFrom i n) k d ≡ i + k
+unfolding upFrom
+upFrom-at zero i k d h = absurd (not-suc-le-zero h)
+upFrom-at (suc n) i zero d h = sym (add-zero i)
+upFrom-at (suc n) i (suc k) d h = upFrom-at n (suc i) k d (omega arith) ∙ omega arith
 
 -- ---- a value that all of n numbers have, by one computed test
 

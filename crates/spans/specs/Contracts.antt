@@ -17,7 +17,7 @@ use Rattle.text.specs.Width.{profile01}
 use Rattle.text.specs.Overstrike.{convert}
 use Rattle.text.specs.Calls.{decide, counted, question1, question2}
 use Rattle.text.specs.declared.Answer.{Answer}
-use Rattle.spans.specs.Sgr.{digit, parameters, allowed, coloured, orders}
+use Rattle.spans.specs.Sgr.{digit, parameters, allowed, Known, eight, orders}
 use Rattle.spans.specs.Sequence.{Sequence, sgr, eraseToEnd, ignored, hyperlink, lineDrawing, Found, found, missing, leading, past, parameterByte, uriByte, closed}
 use Rattle.spans.specs.Search.{Stretch, stretch, escapeMatch, escapesFrom, trimmed, escapes, lengthOf, searchedLength, inOrder, offsetFrom, readPart, readMatches, read}
 use Rattle.spans.specs.Spans.{Span, spansAt, Record, aRecord, records}
@@ -34,14 +34,9 @@ use Rattle.spans.specs.declared.stretches.NextRecord.{NextRecord}
 use Rattle.spans.specs.declared.search.Escape.{Escape}
 use Rattle.spans.specs.declared.search.Offsets.{Offsets}
 use Rattle.spans.specs.declared.search.Offset.{Offset}
-use Rattle.spans.specs.declared.sgr.Color.the-variants.{Default, Palette}
+use Rattle.spans.specs.declared.sgr.Color.the-variants.{Palette}
 use Rattle.spans.specs.declared.sgr.Sgr.{Sgr}
-use Rattle.spans.specs.declared.sgr.Sgr.the-variants.{Reset, Intensity, Underline, Blink, Italic, Inverse, Invisible, StrikeThrough, Overline, Foreground, Background}
-use Rattle.spans.specs.declared.sgr.Target.{Target}
-use Rattle.spans.specs.declared.sgr.Target.the-variants as target
-use Rattle.spans.specs.declared.sgr.Wait.the-variants.{WantKind}
-use Rattle.spans.specs.declared.sgr.Step.{Step}
-use Rattle.spans.specs.declared.sgr.Step.the-variants as step
+use Rattle.spans.specs.declared.sgr.Sgr.the-variants.{Foreground, Background}
 use Rattle.spans.specs.declared.sgr.Scan.{Scan}
 use Rattle.spans.specs.declared.sgr.Parameter.{Parameter}
 use Rattle.spans.specs.declared.sgr.Orders.{Orders}
@@ -88,30 +83,9 @@ pub record ParameterAt (s : List ℕ) (i : ℕ) (r : Parameter) : Type 0 where
 
 -- ---- what the parameters say
 
--- the entries of the code's table
-unfoldable pub targetOf : ℕ → Target
-targetOf x = cond (eqb x 0) target.Foreground (cond (eqb x 1) target.Background target.Underline)
-
-unfoldable pub unpack : ℕ → ℕ → Step
-unfolding targetOf coloured
-unpack kind x =
-    cond (eqb kind 1) (step.Order Reset)
-    (cond (eqb kind 2) (step.Order (Intensity x))
-    (cond (eqb kind 3) (step.Order (Underline x))
-    (cond (eqb kind 4) (step.Order (Blink x))
-    (cond (eqb kind 5) (step.Order (Italic (eqb x 1)))
-    (cond (eqb kind 6) (step.Order (Inverse (eqb x 1)))
-    (cond (eqb kind 7) (step.Order (Invisible (eqb x 1)))
-    (cond (eqb kind 8) (step.Order (StrikeThrough (eqb x 1)))
-    (cond (eqb kind 9) (step.Order (Overline (eqb x 1)))
-    (cond (eqb kind 10) (step.Order (Foreground (Palette x)))
-    (cond (eqb kind 11) (step.Order (Background (Palette x)))
-    (cond (eqb kind 12) (step.Order (coloured (targetOf x) Default))
-    (cond (eqb kind 13) (step.Hold (WantKind (targetOf x))) step.Stop))))))))))))
-
-unfoldable pub unpacked : ℕ → Step
-unfolding unpack
-unpacked e = unpack (e / 16) (e % 16)
+-- the rows of eight colours each
+unfoldable pub eights : List Known
+eights = eight 30 (λ k. Foreground (Palette k)) ∷ eight 40 (λ k. Background (Palette k)) ∷ eight 90 (λ k. Foreground (Palette (8 + k))) ∷ eight 100 (λ k. Background (Palette (8 + k))) ∷ []
 
 -- the orders that a reading has before it
 unfoldable pub parametersAt : List ℕ → Orders → List ℕ

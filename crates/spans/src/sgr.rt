@@ -1,7 +1,7 @@
 // Style orders: the parameters behind `ESC [`, and what the known ones say (ECMA-48, SGR, as document 01 cuts it).
 ghost use mathlib.Core.Path.{_≡_};
 ghost use Rattle.spans.specs.Sgr.{digit, known, saidBy, coloured, stepOf};
-ghost use Rattle.spans.specs.Contracts.{more, targetOf, unpacked, Scanned, ParameterAt, ordersAt, ordersOf};
+ghost use Rattle.spans.specs.Contracts.{more, eights, Scanned, ParameterAt, ordersAt, ordersOf};
 
 pub enum Color {
     Default,
@@ -158,118 +158,6 @@ fn parameter_at(s: &[u8], at: usize) -> Parameter
     }
 }
 
-// What each parameter below 108 says: the kind in the upper half, a value in the lower; 0 where it is unknown.
-const TABLE: [u8; 108] = [
-    16,
-    33,
-    34,
-    81,
-    49,
-    65,
-    66,
-    97,
-    113,
-    129,
-    0,
-    0,
-    0,
-    0,
-    0,
-    0,
-    0,
-    0,
-    0,
-    0,
-    0,
-    50,
-    32,
-    80,
-    48,
-    64,
-    0,
-    96,
-    112,
-    128,
-    160,
-    161,
-    162,
-    163,
-    164,
-    165,
-    166,
-    167,
-    208,
-    192,
-    176,
-    177,
-    178,
-    179,
-    180,
-    181,
-    182,
-    183,
-    209,
-    193,
-    0,
-    0,
-    0,
-    145,
-    0,
-    144,
-    0,
-    0,
-    210,
-    194,
-    0,
-    0,
-    0,
-    0,
-    0,
-    0,
-    0,
-    0,
-    0,
-    0,
-    0,
-    0,
-    0,
-    0,
-    0,
-    0,
-    0,
-    0,
-    0,
-    0,
-    0,
-    0,
-    0,
-    0,
-    0,
-    0,
-    0,
-    0,
-    0,
-    0,
-    168,
-    169,
-    170,
-    171,
-    172,
-    173,
-    174,
-    175,
-    0,
-    0,
-    184,
-    185,
-    186,
-    187,
-    188,
-    189,
-    190,
-    191,
-];
-
 fn coloured(t: Target, c: Color) -> Sgr
     ensures { λ r. ⌜ r ≡ coloured t c ⌝ }
 {
@@ -280,50 +168,58 @@ fn coloured(t: Target, c: Color) -> Sgr
     }
 }
 
-// An entry of the table.
-fn unpacked(e: u8) -> Step
-    ensures { λ r. ⌜ r ≡ unpacked e ⌝ }
+// The sixteen colours of the palette.
+fn palette_order(p: usize) -> Step
+    ensures { λ r. ⌜ r ≡ saidBy eights p ⌝ }
 {
-    let kind = e / 16;
-    let x = e % 16;
-    match kind {
-        1 => Step::Order(Sgr::Reset),
-        2 => Step::Order(Sgr::Intensity(x)),
-        3 => Step::Order(Sgr::Underline(x)),
-        4 => Step::Order(Sgr::Blink(x)),
-        5 => Step::Order(Sgr::Italic(x == 1)),
-        6 => Step::Order(Sgr::Inverse(x == 1)),
-        7 => Step::Order(Sgr::Invisible(x == 1)),
-        8 => Step::Order(Sgr::StrikeThrough(x == 1)),
-        9 => Step::Order(Sgr::Overline(x == 1)),
-        10 => Step::Order(Sgr::Foreground(Color::Palette(x))),
-        11 => Step::Order(Sgr::Background(Color::Palette(x))),
-        12 => Step::Order(coloured(target_of(x), Color::Default)),
-        13 => Step::Hold(Wait::WantKind(target_of(x))),
-        _ => Step::Stop,
+    if (30 <= p) & (p <= 37) {
+        return Step::Order(Sgr::Foreground(Color::Palette((p - 30) as u8)));
     }
-}
-
-fn target_of(x: u8) -> Target
-    ensures { λ r. ⌜ r ≡ targetOf x ⌝ }
-{
-    if x == 0 {
-        return Target::Foreground;
+    if (40 <= p) & (p <= 47) {
+        return Step::Order(Sgr::Background(Color::Palette((p - 40) as u8)));
     }
-    if x == 1 {
-        return Target::Background;
+    if (90 <= p) & (p <= 97) {
+        return Step::Order(Sgr::Foreground(Color::Palette((p - 82) as u8)));
     }
-    Target::Underline
+    if (100 <= p) & (p <= 107) {
+        return Step::Order(Sgr::Background(Color::Palette((p - 92) as u8)));
+    }
+    Step::Stop
 }
 
 // What a parameter says that is in no group.
 fn said_by(p: usize) -> Step
     ensures { λ r. ⌜ r ≡ saidBy known p ⌝ }
 {
-    if p < 108 {
-        return unpacked(TABLE[p]);
+    match p {
+        0 => Step::Order(Sgr::Reset),
+        1 => Step::Order(Sgr::Intensity(1)),
+        2 => Step::Order(Sgr::Intensity(2)),
+        3 => Step::Order(Sgr::Italic(true)),
+        4 => Step::Order(Sgr::Underline(1)),
+        5 => Step::Order(Sgr::Blink(1)),
+        6 => Step::Order(Sgr::Blink(2)),
+        7 => Step::Order(Sgr::Inverse(true)),
+        8 => Step::Order(Sgr::Invisible(true)),
+        9 => Step::Order(Sgr::StrikeThrough(true)),
+        21 => Step::Order(Sgr::Underline(2)),
+        22 => Step::Order(Sgr::Intensity(0)),
+        23 => Step::Order(Sgr::Italic(false)),
+        24 => Step::Order(Sgr::Underline(0)),
+        25 => Step::Order(Sgr::Blink(0)),
+        27 => Step::Order(Sgr::Inverse(false)),
+        28 => Step::Order(Sgr::Invisible(false)),
+        29 => Step::Order(Sgr::StrikeThrough(false)),
+        38 => Step::Hold(Wait::WantKind(Target::Foreground)),
+        39 => Step::Order(Sgr::Foreground(Color::Default)),
+        48 => Step::Hold(Wait::WantKind(Target::Background)),
+        49 => Step::Order(Sgr::Background(Color::Default)),
+        53 => Step::Order(Sgr::Overline(true)),
+        55 => Step::Order(Sgr::Overline(false)),
+        58 => Step::Hold(Wait::WantKind(Target::Underline)),
+        59 => Step::Order(Sgr::UnderlineColor(Color::Default)),
+        _ => palette_order(p),
     }
-    Step::Stop
 }
 
 // What a parameter says after those before it.

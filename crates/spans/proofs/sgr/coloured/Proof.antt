@@ -1,4 +1,4 @@
-use Rattle.spans.proofs.Table.{on-target}
+use Rattle.spans.proofs.KnownParameters.{on-target}
 use Rattle.spans.specs.Sgr.{coloured}
 use borrow.Author.Needs.{needs}
 use Rattle.spans.proofs.sgr.coloured.Statement.{statement}

@@ -1,4 +1,4 @@
-use Rattle.spans.proofs.Table.{on-wait}
+use Rattle.spans.proofs.KnownParameters.{on-wait}
 use Rattle.spans.specs.Sgr.{stepOf}
 use Rattle.spans.proofs.Branch.{branch}
 use borrow.Author.Needs.{needs}
