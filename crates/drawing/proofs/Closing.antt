@@ -25,7 +25,7 @@ use Rattle.drawing.proofs.Writing.{encode-append}
 -- ---- before them
 
 pub state-begun : (a : Attributes) (n : ℕ) → a ≡ plain
-    → _≡_ {A = Stepped} (record { state = record { attrs = a; drawing = false; changed = false; style = File; fill = Default; position = record { 0 = 0 }; torn = false }; at = n }) (newStep n)
+    → _≡_ {A = Stepped} (record { state = record { attrs = a; drawing = false; changed = false; style = File; fill = Default; torn = false; position = record { 0 = 0 } }; at = n }) (newStep n)
 state-begun a n e = rw e refl
 
 module _ (d : Rendering) (l : List ℕ) where

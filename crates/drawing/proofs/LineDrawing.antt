@@ -2,30 +2,33 @@
 use mathlib.Core.Path.{_≡_, refl, sym, ap, ap₂, _∙_, subst}
 use mathlib.Core.Logic.{_≢_}
 use Prim.Native.Nat.{ℕ, zero, suc, _+_, _-_, _*_, _/_, _%_, _≤_, _<_}
+use native.Mathlib.Numerals.{add-one}
 use native.Mathlib.Omega.{arith}
-use mathlib.Core.Bool.{Bool, true, false, cond, _&&_}
+use mathlib.Core.Bool.{Bool, true, false, cond, _&&_, _||_, and-false, true≢false}
 use mathlib.Core.List.{List, [], _∷_, _++_, map, append-nil}
-use lib.ListN.{length, take, drop, getD, List·getD-map, length-append}
-use lib.Seq.{take-append-seam, length-take-le}
+use lib.ListN.{length, take, drop, getD, List·getD-map, length-append, drop-of-length-le, take-append-drop}
+use lib.Seq.{take-append-seam, length-take-le, drop-cons}
 use lib.Dec.{T, eqb, leb, ltb, eqb→eq, leb→le}
-use borrow.Author.Tests.{le-leb, lt-leb, leb-true, lt-ltb, le-ltb}
+use borrow.Author.Tests.{le-leb, lt-leb, leb-true, leb-false, lt-ltb, le-ltb}
 use Rattle.buffer.specs.Sink.{Sink, sink, put, emit, written}
 use Rattle.buffer.specs.Sink.Laws.{emit-append, emit-none, emit-room}
 use Rattle.text.specs.Tests.{cases, and-T, true-T, is-true}
 use Rattle.text.specs.Each.{All, all-nil, all-cons}
-use Rattle.text.specs.Utf8.{Scalar, scalar, to, within, decode, bytesOf}
+use Rattle.text.specs.Utf8.{Scalar, wellFormed, scalar, to, within, decode, bytesOf}
 use Rattle.text.specs.Utf8.Valid.{Valid, run-text}
 use Rattle.text.specs.Class.{Profile}
 use Rattle.text.specs.Width.{width01, widthOf, profile01}
 use Rattle.text.specs.Cluster.Walk.{size-is}
-use Rattle.text.specs.Code.{runOf, size, profileOf, firstSequence}
+use Rattle.text.specs.Code.{runOf, size, profileOf, sequenceOf, firstSequence, isTail, twoBytes, threeBytes, fourBytes}
 use Rattle.text.specs.Code.Laws.{ScalarAt, scalar-at, none-at, none-past, run-valid, run-front, run-fits, plain-width}
+use Rattle.text.proofs.Ascii.{ascii-first}
+use Rattle.text.proofs.Leads.{two-at, three-at, four-at}
 use Rattle.text.proofs.Texts.{whole-prefix}
 use Rattle.text.specs.TextParts.{textAt}
 use Rattle.text.specs.declared.class.Profile as code
 use Rattle.text.specs.declared.utf8.Sequence.{Sequence}
 use Rattle.drawing.specs.Marks.{replacements, lineDrawn}
-use Rattle.drawing.specs.Contracts.{packedBytes, Replaceable, CopyRoom, CopyOf}
+use Rattle.drawing.specs.Contracts.{packedBytes, Replaceable, hasReplacements, CopyRoom, CopyOf}
 
 -- ---- the table
 
@@ -212,6 +215,93 @@ module _ {s l₀ l : List ℕ} {p a : ℕ} (k : Converting s l₀ p a l) where
 
 pub replaceable : (c : ℕ) → (leb 0x5F c && leb c 0x7E) ≡ true → Replaceable c
 replaceable c e = let r = in-range c e in record { low = r .0; high = r .1 }
+
+-- ---- the bytes that are replaced
+
+module _ (s : List ℕ) (i : ℕ) (h : i < length s) (k : hasReplacements (drop i s) ≡ hasReplacements s) where
+  pub replacement-met : (leb 0x5F (getD s i 0) && leb (getD s i 0) 0x7E) ≡ true → true ≡ hasReplacements s
+  unfolding hasReplacements
+  replacement-met t = rw (drop-cons s i 0 h, t) at k
+
+  pub replacement-not : (leb 0x5F (getD s i 0) && leb (getD s i 0) 0x7E) ≡ false → hasReplacements (drop (i + 1) s) ≡ hasReplacements s
+  unfolding hasReplacements
+  replacement-not t = rw add-one (rw (drop-cons s i 0 h, t) at k)
+
+pub replacements-end : (s : List ℕ) (i : ℕ) → length s ≤ i → hasReplacements (drop i s) ≡ hasReplacements s → false ≡ hasReplacements s
+unfolding hasReplacements
+replacements-end s i h k = rw (drop-of-length-le s h) at k
+
+neither : (a b : Bool) → (a || b) ≡ false → (a ≡ false) × (b ≡ false)
+neither true b e = absurd (true≢false e)
+neither false b e = (refl, e)
+
+has-append : (a b : List ℕ) → hasReplacements (a ++ b) ≡ false → (hasReplacements a ≡ false) × (hasReplacements b ≡ false)
+unfolding hasReplacements
+has-append [] b e = (refl, e)
+has-append (x ∷ a) b e =
+    let w = neither (within (to 0x5F 0x7E) x) (hasReplacements (a ++ b)) e in
+    let r = has-append a b (w .1) in
+    (rw (w .0, r .0) refl, r .1)
+
+-- ---- a text without them is shown as it is
+
+kept-code : (t : Bool) (x n : ℕ) → (T t → 0x80 ≤ x) → within (to 0x5F 0x7E) (cond t (sequenceOf x n) (sequenceOf 0 0) .code) ≡ false
+kept-code true x n h = rw (lt-leb x 0x7E (omega (arith, h tt))) (and-false (leb 0x5F x))
+kept-code false x n h = refl
+
+-- a byte that is kept begins no scalar that is replaced
+first-kept : (s : List ℕ) (p : ℕ) → p < length s → within (to 0x5F 0x7E) (getD s p 0) ≡ false → within (to 0x5F 0x7E) (firstSequence (decode (drop p s)) .code) ≡ false
+first-kept s p here e =
+    let a : ℕ = getD s p 0 in
+    let b : ℕ = getD s (p + 1) 0 in
+    let c : ℕ = getD s (p + 2) 0 in
+    let d : ℕ = getD s (p + 3) 0 in
+    let three : ℕ = (a % 16 * 64 + b % 64) * 64 + c % 64 in
+    let four : ℕ = ((a % 8 * 64 + b % 64) * 64 + c % 64) * 64 + d % 64 in
+    cases (leb a 0x7F)
+    (λ l. rw (← ascii-first s p a here refl (leb-true a 0x7F l)) e)
+    (λ l. let lo : 0x7F < a = leb-false a 0x7F l in
+    cases (leb a 0xDF)
+    (λ m.
+    let hi : a ≤ 0xDF = leb-true a 0xDF m in
+    rw (← two-at s p a b c here refl refl refl (twoBytes a b) refl lo hi)
+    (kept-code (leb 0xC2 a && isTail b) (a % 32 * 64 + b % 64) 2 (λ t. let k : 0xC2 ≤ a = leb→le _ _ (and-T (leb 0xC2 a) (isTail b) t .0) in omega (arith, k, hi))))
+    (λ m. let mid : 0xDF < a = leb-false a 0xDF m in
+    cases (leb a 0xEF)
+    (λ n.
+    rw (← three-at s p a b c here refl refl refl (threeBytes a b c) refl mid (leb-true a 0xEF n))
+    (kept-code ((isTail b && isTail c) && (leb 0x800 three && (ltb three 0xD800 || ltb 0xDFFF three))) three 3
+    (λ t. let k : 0x800 ≤ three = leb→le _ _ (and-T (leb 0x800 three) _ (and-T (isTail b && isTail c) _ t .1) .0) in omega (arith, k))))
+    (λ n.
+    rw (← four-at s p a b c here refl refl refl d (fourBytes a b c d) refl refl (leb-false a 0xEF n))
+    (kept-code ((leb a 0xF4 && (isTail b && (isTail c && isTail d))) && (leb 0x10000 four && leb four 0x10FFFF)) four 4
+    (λ t. let k : 0x10000 ≤ four = leb→le _ _ (and-T (leb 0x10000 four) _ (and-T (leb a 0xF4 && (isTail b && (isTail c && isTail d))) _ t .1) .0) in omega (arith, k))))))
+
+byte-kept : (s : List ℕ) → 1 ≤ length s → hasReplacements s ≡ false → within (to 0x5F 0x7E) (getD s 0 0) ≡ false
+unfolding hasReplacements
+byte-kept [] h e = absurd (omega arith)
+byte-kept (b ∷ s) h e = neither (within (to 0x5F 0x7E) b) (hasReplacements s) e .0
+
+scalar-kept : (c : Scalar) → Valid c → hasReplacements (c .bytes) ≡ false → within (to 0x5F 0x7E) (c .code) ≡ false
+unfolding firstSequence
+scalar-kept c v e =
+    let d : decode (c .bytes) ≡ wellFormed c ∷ decode [] = rw append-nil at (v .decodes []) in
+    rw d at (first-kept (c .bytes) 0 (v .some) (byte-kept (c .bytes) (v .some) e))
+
+kept-same : {x : List Scalar} → All Valid x → hasReplacements (bytesOf x) ≡ false → lineDrawn x ≡ x
+unfolding lineDrawn bytesOf
+kept-same all-nil e = refl
+kept-same (all-cons {a = c} {s = s} v a) e =
+    let w = has-append (c .bytes) (bytesOf s) e in
+    rw (scalar-kept c v (w .0)) (ap (λ (l : List Scalar). c ∷ l) (kept-same a (w .1)))
+
+pub lineDrawn-kept : (s : List ℕ) → hasReplacements s ≡ false → lineDrawn (textAt s 0) ≡ textAt s 0
+lineDrawn-kept s e =
+    let t : List Scalar = textAt s 0 in
+    let a : t ≡ t ++ [] = sym (append-nil t) in
+    let b : bytesOf t ≡ take (size t) s = ap bytesOf (sym (run-front (drop 0 s) t [] a)) ∙ whole-prefix t [] (drop 0 s) a in
+    let f : hasReplacements (take (size t) s ++ drop (size t) s) ≡ false = rw (take-append-drop (size t) s) e in
+    kept-same (run-valid s) (rw b (has-append (take (size t) s) (drop (size t) s) f .0))
 
 -- ---- the copy
 

@@ -112,7 +112,7 @@ pub link-fits : (place : ℕ) (q : sequence.Sequence) (p n k : ℕ) → Linkable
 link-fits place q p n k l e = omega (arith, l .near, l .from p n k e)
 
 pub link-told : (t : AttributeState) (place : ℕ) (q : sequence.Sequence) (a : Attributes) (p n k : ℕ) → q ≡ sequences.Hyperlink p n k → a ≡ linked (t .attrs) (place + p) n
-    → record { attrs = a; drawing = t .drawing; changed = true; style = t .style; fill = t .fill; position = t .position; torn = t .torn } ≡ linkedBy t place q
+    → record { attrs = a; drawing = t .drawing; changed = true; style = t .style; fill = t .fill; torn = t .torn; position = t .position } ≡ linkedBy t place q
 unfolding linkedBy
 link-told t place q a p n k e f = rw (e, f) refl
 

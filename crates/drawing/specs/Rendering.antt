@@ -47,7 +47,7 @@ pub record Linkable (place : ℕ) (q : sequence.Sequence) : Type 0 where
 
 unfoldable pub linkedBy : AttributeState → ℕ → sequence.Sequence → AttributeState
 linkedBy t place (sequences.Hyperlink p n k) =
-    record { attrs = linked (t .attrs) (place + p) n; drawing = t .drawing; changed = true; style = t .style; fill = t .fill; position = t .position; torn = t .torn }
+    record { attrs = linked (t .attrs) (place + p) n; drawing = t .drawing; changed = true; style = t .style; fill = t .fill; torn = t .torn; position = t .position }
 linkedBy t place sequences.Missing = t
 linkedBy t place (sequences.Sgr n) = t
 linkedBy t place (sequences.EraseToEnd n) = t
@@ -56,11 +56,11 @@ linkedBy t place (sequences.LineDrawing b n) = t
 
 abbrev pub withLineDrawing : AttributeState → Bool → AttributeState
 withLineDrawing t b =
-    record { attrs = t .attrs; drawing = b; changed = t .changed; style = t .style; fill = t .fill; position = t .position; torn = t .torn }
+    record { attrs = t .attrs; drawing = b; changed = t .changed; style = t .style; fill = t .fill; torn = t .torn; position = t .position }
 
 abbrev pub erasedToEnd : AttributeState → AttributeState
 erasedToEnd t =
-    record { attrs = t .attrs; drawing = t .drawing; changed = t .changed; style = t .style; fill = t .attrs .colors .background; position = t .position; torn = t .torn }
+    record { attrs = t .attrs; drawing = t .drawing; changed = t .changed; style = t .style; fill = t .attrs .colors .background; torn = t .torn; position = t .position }
 
 -- the sequence that a record of a kind at a place of the line stands for
 unfoldable pub linkIn : Found → Sequence

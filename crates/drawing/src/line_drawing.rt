@@ -11,7 +11,7 @@ ghost use Rattle.buffer.specs.Sink.{sink, emit};
 ghost use Rattle.text.specs.Utf8.{bytesOf};
 ghost use Rattle.text.specs.TextParts.{textAt};
 ghost use Rattle.drawing.specs.Marks.{replacements, lineDrawn};
-ghost use Rattle.drawing.specs.Contracts.{packedBytes, Replaceable, CopyRoom, CopyOf};
+ghost use Rattle.drawing.specs.Contracts.{packedBytes, Replaceable, hasReplacements, CopyRoom, CopyOf};
 
 // What replaces 5F to 7E: the two or three bytes of each as one number.
 const REPLACEMENTS: [u32; 32] = [
@@ -93,23 +93,37 @@ fn convert_line_drawing(out: &mut [u8], text: &[u8]) -> usize
     a
 }
 
-// The copy that is shown while line drawing is on, three bytes a byte at most; none while it is off.
-pub fn line_drawn(copy: &mut [u8], text: &[u8], drawing: bool) -> usize
-    requires { ⌜ CopyRoom (now copy) (now text) drawing ⌝ }
-    ensures { λ r. ⌜ CopyOf (now (copy .exit)) (now (text .entry)) drawing r ⌝ }
+// Does line drawing replace any byte of the text?
+pub fn has_replacements(text: &[u8]) -> bool
+    ensures { λ r. ⌜ r ≡ hasReplacements (now (text .entry)) ⌝ }
 {
-    if drawing {
+    let mut i = 0;
+    while i < text.len() {
+        if (0x5F <= text[i]) & (text[i] <= 0x7E) {
+            return true;
+        }
+        i += 1;
+    }
+    false
+}
+
+// The copy that is shown where bytes are replaced, three bytes a byte at most; none where none is.
+pub fn line_drawn(copy: &mut [u8], text: &[u8], replaced: bool) -> usize
+    requires { ⌜ CopyRoom (now copy) (now text) replaced ⌝ }
+    ensures { λ r. ⌜ CopyOf (now (copy .exit)) (now (text .entry)) replaced r ⌝ }
+{
+    if replaced {
         return convert_line_drawing(copy, text);
     }
     0
 }
 
 // What is handed to clipping: the text, or so many bytes of its line-drawn copy.
-pub fn shown<'a>(text: &'a [u8], copy: &'a [u8], drawing: bool, len: usize) -> &'a [u8]
+pub fn shown<'a>(text: &'a [u8], copy: &'a [u8], replaced: bool, len: usize) -> &'a [u8]
     requires { ⌜ len ≤ length (now copy) ⌝ }
-    ensures { λ r. ⌜ now r ≡ cond drawing (take len (now (copy .entry))) (now (text .entry)) ⌝ }
+    ensures { λ r. ⌜ now r ≡ cond replaced (take len (now (copy .entry))) (now (text .entry)) ⌝ }
 {
-    if drawing {
+    if replaced {
         return &copy[..len];
     }
     text

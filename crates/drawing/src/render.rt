@@ -71,8 +71,8 @@ fn apply_hyperlink(state: AttributeState, place: BytePlace, sequence: Sequence) 
             changed: true,
             style: own,
             fill: fill,
-            position: position,
             torn: state.torn,
+            position: position,
         },
         Sequence::Missing => state,
         Sequence::Sgr(n) => state,
@@ -95,8 +95,8 @@ fn with_line_drawing(state: AttributeState, on: bool) -> AttributeState
         changed: state.changed,
         style: own,
         fill: fill,
-        position: position,
         torn: state.torn,
+        position: position,
     }
 }
 
@@ -114,8 +114,8 @@ fn erase_to_end(state: AttributeState) -> AttributeState
         changed: state.changed,
         style: own,
         fill: background,
-        position: position,
         torn: state.torn,
+        position: position,
     }
 }
 

@@ -2,9 +2,7 @@ use Prim.Native.Nat.{_-_}
 use native.Mathlib.Omega.{arith}
 use lib.ListN.{length}
 use Rattle.text.specs.Code.{profileOf}
-use Rattle.text.specs.Code.Laws.{scalar-at}
-use Rattle.text.specs.Code.Laws.{width-two}
-use Rattle.drawing.proofs.Clipping.{Measuring, measure-begin, measure-byte, measure-on, measure-bad, measure-end}
+use Rattle.drawing.proofs.Clipping.{Measuring, measure-begin, measure-byte, measure-room, measure-on, measure-bad, measure-end}
 use borrow.Author.Needs.{needs}
 use Rattle.drawing.proofs.clip.measure_scalars.Statement.{statement}
 use Rattle.drawing.proofs.clip.measure_scalars.Tie as tie
@@ -36,23 +34,20 @@ loop-less c = search needs
 loop-again : tie.Need-loop-again Inv-loop μ-loop
 loop-again c = search measure-byte
 
-decode-requires : tie.Need-decode-requires Inv-loop μ-loop
-decode-requires c κs = search needs
+scalar-at-requires : tie.Need-scalar-at-requires Inv-loop μ-loop
+scalar-at-requires c κs = search needs
 
 returns : tie.Need-returns Inv-loop μ-loop
 returns c = search measure-bad
 
-width-requires : tie.Need-width-requires Inv-loop μ-loop
-width-requires c κs = search needs
-
 add-t14 : tie.Need-add-t14 Inv-loop μ-loop
-add-t14 c = omega (arith, width-two _ _ _ (c .before .width .ensures))
+add-t14 c = omega (arith, measure-room _ _ _ _ (c .before .before .scalar-at .ensures) (c .before .if3 .left) .1 .1)
 
-add-t13 : tie.Need-add-t13 Inv-loop μ-loop
-add-t13 c = omega (arith, scalar-at _ _ _ (c .before .before .before .before .before .before .before .before .before .before .if1 .taken) (c .before .before .before .before .before .before .decode .ensures) (c .before .before .before .before .if3 .left) .fits)
+add-t14-2 : tie.Need-add-t14-2 Inv-loop μ-loop
+add-t14-2 c = omega (arith, measure-room _ _ _ _ (c .before .before .before .scalar-at .ensures) (c .before .before .if3 .left) .1 .0)
 
 loop-less-2 : tie.Need-loop-less-2 Inv-loop μ-loop
-loop-less-2 c = let a = scalar-at _ _ _ (c .before .before .before .before .before .before .before .before .before .before .if1 .taken) (c .before .before .before .before .before .before .decode .ensures) (c .before .before .before .before .if3 .left) in omega (arith, a .fits, a .some)
+loop-less-2 c = let a = measure-room _ _ _ _ (c .before .before .before .scalar-at .ensures) (c .before .before .if3 .left) in omega (arith, a .0, a .1 .0)
 
 loop-again-2 : tie.Need-loop-again-2 Inv-loop μ-loop
 loop-again-2 c = search measure-on
@@ -73,11 +68,10 @@ measure-scalars-spec =
     add-t11-2
     loop-less
     loop-again
-    decode-requires
+    scalar-at-requires
     returns
-    width-requires
     add-t14
-    add-t13
+    add-t14-2
     loop-less-2
     loop-again-2
     returns-2)

@@ -1,5 +1,5 @@
 use borrow.Author.Needs.{needs}
-use Rattle.drawing.proofs.Writing.{long-ready}
+use Rattle.drawing.proofs.Writing.{long-room}
 use Rattle.drawing.proofs.write.push_long.Statement.{statement}
 use Rattle.drawing.proofs.write.push_long.Tie as tie
 
@@ -7,7 +7,7 @@ slice-aggregate-push-shown : tie.Need-slice-aggregate-push-shown
 slice-aggregate-push-shown c = search needs
 
 push-shown-requires : tie.Need-push-shown-requires
-push-shown-requires c κs = search long-ready
+push-shown-requires c κs = search long-room
 
 same-length : tie.Need-same-length
 same-length c = search needs
