@@ -94,7 +94,7 @@ fn convert_line_drawing(out: &mut [u8], text: &[u8]) -> usize
 }
 
 // Does line drawing replace any byte of the text?
-pub fn has_replacements(text: &[u8]) -> bool
+pub(crate) fn has_replacements(text: &[u8]) -> bool
     ensures { λ r. ⌜ r ≡ hasReplacements (now (text .entry)) ⌝ }
 {
     let mut i = 0;
@@ -108,7 +108,7 @@ pub fn has_replacements(text: &[u8]) -> bool
 }
 
 // The copy that is shown where bytes are replaced, three bytes a byte at most; none where none is.
-pub fn line_drawn(copy: &mut [u8], text: &[u8], replaced: bool) -> usize
+pub(crate) fn line_drawn(copy: &mut [u8], text: &[u8], replaced: bool) -> usize
     requires { ⌜ CopyRoom (now copy) (now text) replaced ⌝ }
     ensures { λ r. ⌜ CopyOf (now (copy .exit)) (now (text .entry)) replaced r ⌝ }
 {
@@ -119,7 +119,7 @@ pub fn line_drawn(copy: &mut [u8], text: &[u8], replaced: bool) -> usize
 }
 
 // What is handed to clipping: the text, or so many bytes of its line-drawn copy.
-pub fn shown<'a>(text: &'a [u8], copy: &'a [u8], replaced: bool, len: usize) -> &'a [u8]
+pub(crate) fn shown<'a>(text: &'a [u8], copy: &'a [u8], replaced: bool, len: usize) -> &'a [u8]
     requires { ⌜ len ≤ length (now copy) ⌝ }
     ensures { λ r. ⌜ now r ≡ cond replaced (take len (now (copy .entry))) (now (text .entry)) ⌝ }
 {

@@ -187,7 +187,7 @@ fn render_span(
 }
 
 // What stands before the spans: the arrow at the left edge, or nothing.
-pub fn open(list: &mut [u8], rendering: Rendering) -> Stepped
+pub(crate) fn open(list: &mut [u8], rendering: Rendering) -> Stepped
     ensures { λ r. ⌜ Opened rendering (now (list .entry)) (now (list .exit)) r ⌝ }
 {
     if rendering.arrow {
@@ -248,7 +248,7 @@ fn close(list: &mut [u8], rendering: Rendering, t: Stepped) -> Drawn
 }
 
 // Line::render: the first `count` spans of a line, and what stands behind them.
-pub fn render(
+pub(crate) fn render(
     spans: &[Span],
     line: &[u8],
     list: &mut [u8],
