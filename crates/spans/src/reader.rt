@@ -10,7 +10,7 @@ use text::class::OTHER;
 use text::class::Profile;
 use text::class::class;
 use text::class::is_printable;
-use text::cluster::first_end;
+use text::segmentation::cluster_end;
 use text::utf8::decode;
 use text::utf8::run_end;
 use text::width::text_width;
@@ -142,7 +142,7 @@ fn plain_end(profile: Profile, t: &[u8], at: usize) -> usize
     if is_alone(byte_at(t, at)) {
         return at;
     }
-    let end = first_end(profile, t, at);
+    let end = cluster_end(profile, t, at);
     if is_plain(profile, t, at, end) {
         return end;
     }
@@ -214,7 +214,7 @@ fn skip_to(profile: Profile, t: &[u8], at: usize, stop: usize) -> usize
 {
     let mut i = at;
     while i < stop {
-        i = first_end(profile, t, i);
+        i = cluster_end(profile, t, i);
     }
     i
 }
@@ -337,5 +337,5 @@ pub fn next_span(profile: Profile, t: &[u8], c: Place, m: Matched) -> NextSpan
             },
         };
     }
-    mark_span(profile, t, c, first_end(profile, t, at))
+    mark_span(profile, t, c, cluster_end(profile, t, at))
 }

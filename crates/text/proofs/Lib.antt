@@ -7,12 +7,11 @@ pub mod Leads
 pub mod Walks
 pub mod PackedScalars
 pub mod ForwardWalk
-pub mod Backward
+pub mod BackwardWalk
 pub mod Texts
 pub mod Even
 pub mod Erasing
 pub mod Pushing
-pub mod Quick
 pub mod Steps
 pub mod Converting
 pub mod Calling

@@ -2,7 +2,7 @@
 ghost use mathlib.Core.Path.{_≡_};
 ghost use Prim.Native.Nat.{_≤_, _<_};
 ghost use Rattle.text.specs.Class.{number, inAny, controls, extends, whitespace, isControl};
-ghost use Rattle.text.specs.Code.{profileOf, jamo, syllable, printable};
+ghost use Rattle.text.specs.Code.{jamo, printable, profileOf, syllable};
 
 // The version of the text profile that classes and widths are taken from: 0 is document 01's.
 pub struct Profile {
@@ -59,7 +59,7 @@ fn in_extends(x: u32) -> bool
 }
 
 // The number of a Hangul syllable's class: LV, or LVT where it ends in a consonant.
-pub(crate) fn syllable_class(x: u32) -> u8
+fn syllable_class(x: u32) -> u8
     requires { ⌜ 0xAC00 ≤ x ⌝ }
     ensures { λ r. ⌜ r ≡ number (syllable x) ⌝ }
 {
@@ -70,7 +70,7 @@ pub(crate) fn syllable_class(x: u32) -> u8
 }
 
 // The number of the class of one of U+1100 to U+11FF.
-pub(crate) fn jamo_class(x: u32) -> u8
+fn jamo_class(x: u32) -> u8
     ensures { λ r. ⌜ r ≡ number (jamo x) ⌝ }
 {
     if x <= 0x115F {
@@ -188,7 +188,7 @@ pub fn is_printable(x: u32) -> bool
 }
 
 // char::is_control
-pub fn is_control(x: u32) -> bool
+pub(crate) fn is_control(x: u32) -> bool
     ensures { λ r. ⌜ r ≡ isControl x ⌝ }
 {
     (x <= 0x1F) | ((0x7F <= x) & (x <= 0x9F))

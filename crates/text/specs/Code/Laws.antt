@@ -22,7 +22,7 @@ use Rattle.text.specs.Cluster.Laws.{clusters-first, further}
 use Rattle.text.specs.Cluster.Walk.{size-is}
 use Rattle.text.specs.declared.class.Profile as code
 use Rattle.text.specs.declared.utf8.Sequence.{Sequence}
-use Rattle.text.specs.Code.{runOf, size, firstOf, profileOf, sequenceOf, firstSequence}
+use Rattle.text.specs.Code.{firstOf, firstSequence, profileOf, runOf, sequenceOf, size}
 
 pub size-append : (a b : List Scalar) → size (a ++ b) ≡ size a + size b
 unfolding size

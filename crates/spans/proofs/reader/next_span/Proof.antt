@@ -33,11 +33,11 @@ text-span-requires c κs = search needs
 returns-3 : tie.Need-returns-3
 returns-3 c = search text-step
 
-first-end-requires : tie.Need-first-end-requires
-first-end-requires c κs = search needs
+cluster-end-requires : tie.Need-cluster-end-requires
+cluster-end-requires c κs = search needs
 
 mark-span-requires : tie.Need-mark-span-requires
-mark-span-requires c κs = mark-ready _ _ _ (c .before .before .before .before .before .before .before .before .before .before .pre) _ (c .before .before .before .before .before .decode .ensures) _ _ _ _ (c .before .before .before .before .before .before .before .before .byte-at .ensures) (c .before .before .before .before .before .before .before .is-alone .ensures) (c .before .before .before .before .before .before .if1 .left) (c .before .before .before .if2 .left) (c .before .before .text-end .ensures) (c .before .if3 .left) (c .first-end .ensures)
+mark-span-requires c κs = mark-ready _ _ _ (c .before .before .before .before .before .before .before .before .before .before .pre) _ (c .before .before .before .before .before .decode .ensures) _ _ _ _ (c .before .before .before .before .before .before .before .before .byte-at .ensures) (c .before .before .before .before .before .before .before .is-alone .ensures) (c .before .before .before .before .before .before .if1 .left) (c .before .before .before .if2 .left) (c .before .before .text-end .ensures) (c .before .if3 .left) (c .cluster-end .ensures)
 
 returns-4 : tie.Need-returns-4
 returns-4 c = search special-done
@@ -56,6 +56,6 @@ next-span-spec =
     text-end-requires
     text-span-requires
     returns-3
-    first-end-requires
+    cluster-end-requires
     mark-span-requires
     returns-4)

@@ -12,8 +12,8 @@ is-alone-requires c κs = search needs
 returns : tie.Need-returns
 returns c = search control-first
 
-first-end-requires : tie.Need-first-end-requires
-first-end-requires c κs = search other-here
+cluster-end-requires : tie.Need-cluster-end-requires
+cluster-end-requires c κs = search other-here
 
 is-plain-requires : tie.Need-is-plain-requires
 is-plain-requires c κs = search (other-here, plain-part)
@@ -31,7 +31,7 @@ plain-end-spec =
     byte-at-requires
     is-alone-requires
     returns
-    first-end-requires
+    cluster-end-requires
     is-plain-requires
     returns-2
     returns-3)

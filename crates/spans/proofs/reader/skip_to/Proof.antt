@@ -13,8 +13,8 @@ abbrev μ-loop : tie.MeasureT-loop
 loop-holds : tie.Need-loop-holds Inv-loop μ-loop
 loop-holds c = search skip-begin
 
-first-end-requires : tie.Need-first-end-requires Inv-loop μ-loop
-first-end-requires c κs = search skip-here
+cluster-end-requires : tie.Need-cluster-end-requires Inv-loop μ-loop
+cluster-end-requires c κs = search skip-here
 
 loop-less : tie.Need-loop-less Inv-loop μ-loop
 loop-less c = search skip-falls
@@ -27,4 +27,4 @@ returns c = search skip-done
 
 pub skip-to-spec : {M : Type 1} → statement M
 skip-to-spec =
-    tie.close (tie.spec Inv-loop μ-loop loop-holds first-end-requires loop-less loop-again returns)
+    tie.close (tie.spec Inv-loop μ-loop loop-holds cluster-end-requires loop-less loop-again returns)
