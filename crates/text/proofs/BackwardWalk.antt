@@ -15,14 +15,14 @@ use Rattle.text.specs.Cluster.Walk.{size-is}
 use Rattle.text.specs.Code.{firstSequence, isTail, profileOf, sequenceOf, size, whole}
 use Rattle.text.specs.Rules.{contextOf, stateContext}
 use Rattle.text.specs.Scalar.{packedAt}
-use Rattle.text.specs.Scalar.Laws.{packed-past}
+use Rattle.text.specs.Scalar.Laws.{NoScalar, PackedScalar, packed-past, packed-view}
 use Rattle.text.specs.Segmentation.{neverJoinsBefore}
 use Rattle.text.specs.Tests.{and-T, cases, true-T}
 use Rattle.text.specs.TextParts.{textAt}
 use Rattle.text.specs.Utf8.{Scalar, decode, decodeFrom, runOf}
 use Rattle.text.specs.declared.utf8.Sequence.{Sequence}
 use Rattle.text.proofs.Ascii.{alone, alone-numbers, ascii-sequence, lone, lone-low, low-tail}
-use Rattle.text.proofs.ForwardWalk.{None, Some, class-le, view}
+use Rattle.text.proofs.ForwardWalk.{class-le}
 use Rattle.text.proofs.Runs.{back-scalar, no-head, run-drop, run-head, run-inside, size-pos, size-reverse}
 use Rattle.text.proofs.Tails.{back-here}
 use Rattle.text.specs.declared.class.Profile as code
@@ -80,9 +80,9 @@ module _ (P : Profile) where
       let r : textAt t j ≡ d ∷ es = ap (λ (i : ℕ). runOf (decode (drop i t))) p ∙ run-drop rest (d ∷ es) t e in
       let h : j < length t = rw p (run-inside d rest es t e) in
       ⊎-elim
-      (λ (n : None t j (packedAt P t j)). absurd (no-head d es (sym (n .run) ∙ r)))
-      (λ (x : Some P t j (packedAt P t j)). f ∙ sym (x .class) ∙ ap (λ (y : Scalar). number (P .class (y .code))) (ap (headOf d) (sym (x .run) ∙ r)))
-      (view P t j (packedAt P t j) h refl)
+      (λ (n : NoScalar t j (packedAt P t j)). absurd (no-head d es (sym (n .run) ∙ r)))
+      (λ (x : PackedScalar P t j (packedAt P t j)). f ∙ sym (x .class) ∙ ap (λ (y : Scalar). number (P .class (y .code))) (ap (headOf d) (sym (x .run) ∙ r)))
+      (packed-view P t j (packedAt P t j) h refl)
 
   pub class-bound : (t : List ℕ) (j k : ℕ) → k ≡ packedAt P t j / 8 % 16 → k ≤ 11
   class-bound t j k e =

@@ -16,13 +16,12 @@ use Rattle.text.specs.Cluster.{Context, classOf, context, joined, joins}
 use Rattle.text.specs.Code.{firstSequence, profileOf, size}
 use Rattle.text.specs.Overstrike.{push}
 use Rattle.text.specs.Scalar.{packedAt}
-use Rattle.text.specs.Scalar.Laws.{packed-inside}
+use Rattle.text.specs.Scalar.Laws.{NoScalar, PackedScalar, packed-inside, packed-view}
 use Rattle.text.specs.Tests.{cases}
 use Rattle.text.specs.TextParts.{textAt}
 use Rattle.text.specs.Utf8.{Scalar, bytesOf, decode, runOf, sequence, to}
 use Rattle.text.proofs.Ascii.{clear, clear-any, each-at, eachFrom}
 use Rattle.text.proofs.BackwardWalk.{Left, class-of, flip, flip-false, joined-indicators, odd-ri}
-use Rattle.text.proofs.ForwardWalk.{None, Some, view}
 use Rattle.text.proofs.Runs.{Head, back-scalar, run-head, size-reverse}
 use Rattle.text.proofs.Tails.{back-to, seq-lead, seq-tails}
 use Rattle.text.proofs.Texts.{run-append, run-prefix}
@@ -54,11 +53,11 @@ module _ (P : Profile) (t : List ℕ) (j : ℕ) (e : indicatorAt P t j ≡ true)
   reads : 212 ≡ packedAt P t j
   reads = sym (eqb-true (packedAt P t j) 212 e)
 
-  there : Some P t j 212
+  there : PackedScalar P t j 212
   there = ⊎-elim
-      (λ (n : None t j 212). absurd (omega (arith, n .zero)))
-      (λ (x : Some P t j 212). x)
-      (view P t j 212 (packed-inside P t j 212 reads (λ z. omega (arith, z))) reads)
+      (λ (n : NoScalar t j 212). absurd (omega (arith, n .zero)))
+      (λ (x : PackedScalar P t j 212). x)
+      (packed-view P t j 212 (packed-inside P t j 212 reads (λ z. omega (arith, z))) reads)
 
   head : Head (drop j t) (there .c) (textAt t (j + 212 % 8))
   head = run-head (drop j t) (there .c) (textAt t (j + 212 % 8)) (there .run)

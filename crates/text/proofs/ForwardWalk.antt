@@ -19,7 +19,7 @@ use Rattle.text.specs.Each.{All, all-split}
 use Rattle.text.specs.Rules.{stateAfter, stateContext}
 use Rattle.text.specs.Scalar.{packedAt}
 use Rattle.text.specs.Segmentation.{NextCluster, NextClusterReady, moreOf, neverJoinsBefore, oneByteCluster}
-use Rattle.text.specs.Scalar.Laws.{packed-past}
+use Rattle.text.specs.Scalar.Laws.{NoScalar, PackedScalar, number-le, packed-past, packed-view}
 use Rattle.text.specs.Tests.{and-T, cases, is-true, or-T, true-T}
 use Rattle.text.specs.TextParts.{Measured, column, place, textAt}
 use Rattle.text.specs.TextParts.Laws.{first-all}
@@ -34,96 +34,16 @@ use Rattle.text.specs.declared.segmentation.ClusterStep.{ClusterStep}
 use Rattle.text.specs.declared.class.Profile as code
 use Rattle.text.specs.declared.utf8.Sequence.{Sequence}
 
--- ---- bounds
-
-short : List (List Range) → Bool
-short [] = true
-short (r ∷ rs) = leb (length r) 4 && short rs
-
-short-table : T (short table)
-unfolding short table
-short-table = tt
-
-in-short : (rows : List (List Range)) (s : List ℕ) → T (short rows) → lengthIn rows s ≤ 4
-unfolding short lengthIn
-in-short [] s t = omega arith
-in-short (r ∷ rs) s t =
-    let q = and-T (leb (length r) 4) (short rs) t in
-    cases (fits r s) (λ e. rw e (leb→le _ _ (q .0))) (λ e. rw e (in-short rs s (q .1)))
-
-len-le : (s : List ℕ) → firstSequence (decode s) .len ≤ 4
-unfolding firstSequence decode decodeFrom sequence
-len-le [] = omega arith
-len-le (b ∷ s) = rw (first-by b s (sequence (b ∷ s)) refl) (in-short table (b ∷ s) short-table)
-
-number-le : (c : Class) → number c ≤ 11
-unfolding number
-number-le cr = omega arith
-number-le lf = omega arith
-number-le control = omega arith
-number-le extend = omega arith
-number-le zwj = omega arith
-number-le classL = omega arith
-number-le classV = omega arith
-number-le classT = omega arith
-number-le classLV = omega arith
-number-le classLVT = omega arith
-number-le regionalIndicator = omega arith
-number-le other = omega arith
+-- ---- a packed scalar
 
 pub class-small : (P : Profile) (x k : ℕ) → k ≡ number (P .class x) → k ≤ 11
 class-small P x k e = rw e (number-le (P .class x))
 
--- ---- a packed scalar
-
-pub record Some (P : Profile) (s : List ℕ) (p v : ℕ) : Type 0 where
-  pub c : Scalar
-  pub run : textAt s p ≡ c ∷ textAt s (p + v % 8)
-  pub class : classOf P c ≡ v / 8 % 16
-  pub len : length (c .bytes) ≡ v % 8
-  pub columns : P .width (c .code) ≡ v / 128
-  pub some : 1 ≤ v % 8
-  pub room : p + v % 8 ≤ length s
-
-pub record None (s : List ℕ) (p v : ℕ) : Type 0 where
-  pub run : textAt s p ≡ []
-  pub zero : v ≡ 0
-
-rest-of : (k w : ℕ) → k ≤ 11 → (k + 16 * w) % 16 ≡ k
-rest-of k w g = omega (arith, g)
-
-pub view : (P : Profile) (s : List ℕ) (p v : ℕ) → p < length s → v ≡ packedAt P s p → None s p v ⊎ Some P s p v
-unfolding packedAt
-view P s p v here read =
-    let q : Sequence = firstSequence (decode (drop p s)) in
-    let k : ℕ = number (P .class (q .code)) in
-    let w : ℕ = P .width (q .code) in
-    let h : q .len ≤ 4 = len-le (drop p s) in
-    let g : k ≤ 11 = number-le (P .class (q .code)) in
-    cases (eqb (q .len) 0)
-    (λ e. inl (record { run = none-at s p q here refl (eqb-true (q .len) 0 e); zero = rw e at read }))
-    (λ e.
-    let z = scalar-at s p q here refl (eqb-false (q .len) 0 e) in
-    let r : v ≡ q .len + 8 * (k + 16 * w) = rw e at read in
-    let n : v % 8 ≡ q .len = omega (arith, r, h) in
-    let y : v / 8 ≡ k + 16 * w = omega (arith, r, h) in
-    let d : v / 8 % 16 ≡ k = rw y (rest-of k w g) in
-    let x : v / 128 ≡ w = omega (arith, r, h, g) in
-    inr (record {
-      c = z .scalar;
-      run = rw n (z .run);
-      class = ap (λ (y : ℕ). number (P .class y)) (z .code) ∙ sym d;
-      len = z .len ∙ sym n;
-      columns = ap (P .width) (z .code) ∙ sym x;
-      some = rw n (z .some);
-      room = rw n (z .fits);
-    }))
-
 pub class-le : (P : Profile) (s : List ℕ) (p v : ℕ) → p < length s → v ≡ packedAt P s p → v / 8 % 16 ≤ 11
 class-le P s p v here read = ⊎-elim
-    (λ (n : None s p v). rw (n .zero) (omega arith))
-    (λ (x : Some P s p v). rw (← x .class) (number-le (P .class (x .c .code))))
-    (view P s p v here read)
+    (λ (n : NoScalar s p v). rw (n .zero) (omega arith))
+    (λ (x : PackedScalar P s p v). rw (← x .class) (number-le (P .class (x .c .code))))
+    (packed-view P s p v here read)
 
 -- ---- the rules, by the class of the next scalar
 
@@ -242,16 +162,16 @@ module _ (f : code.Profile) where
 
   pub width-room : (s : List ℕ) (p v : ℕ) → p < length s → v ≡ packedAt P s p → (v / 128 ≤ 2 * (v % 8)) × (p + v % 8 ≤ length s)
   width-room s p v here read = ⊎-elim
-      (λ (n : None s p v). rw (n .zero) (omega arith, omega arith))
-      (λ (x : Some P s p v). (omega (arith, x .some, width-two f (x .c .code) (v / 128) (sym (x .columns))), x .room))
-      (view P s p v here read)
+      (λ (n : NoScalar s p v). rw (n .zero) (omega arith, omega arith))
+      (λ (x : PackedScalar P s p v). (omega (arith, x .some, width-two f (x .c .code) (v / 128) (sym (x .columns))), x .room))
+      (packed-view P s p v here read)
 
   pub walk-begin : (s : List ℕ) (at u : ℕ) → NextClusterReady P s at u → Walking P s at (at + u % 8) (u / 128) (u / 8 % 16)
   unfolding moreOf size widthOf
   walk-begin s at u h =
       let b = width-room s at u (h .inside) (h .scalar) in
       ⊎-elim
-      (λ (n : None s at u). record {
+      (λ (n : NoScalar s at u). record {
         here = h .inside;
         class = class-le P s at u (h .inside) (h .scalar);
         inside = b .1;
@@ -259,7 +179,7 @@ module _ (f : code.Profile) where
         ends = rw (n .zero, add-zero at, n .run, no-first P) refl;
         widths = rw (n .zero, add-zero at, n .run, no-first P) refl;
       })
-      (λ (x : Some P s at u).
+      (λ (x : PackedScalar P s at u).
       let rest : List Scalar = textAt s (at + u % 8) in
       let e : firstAt P s at ≡ x .c ∷ moreOf P (u / 8 % 16) (stateContext (u / 8 % 16)) rest = ap (λ (l : List Scalar). firstOf (clusters P l)) (x .run) ∙ first-more P (x .c) rest ∙ rw (x .class, more-state P 0 (u / 8 % 16) rest) refl in
       record {
@@ -270,7 +190,7 @@ module _ (f : code.Profile) where
         ends = rw (e, x .len) (sym (add-assoc at (u % 8) _));
         widths = rw (e, x .columns) refl;
       })
-      (view P s at u (h .inside) (h .scalar))
+      (packed-view P s at u (h .inside) (h .scalar))
 
   -- the end of what is left
   walk-stop : (s : List ℕ) (at p w state v : ℕ) → Walking P s at p w state → moreOf P state (stateContext state) (textAt s p) ≡ [] → v ≡ packedAt P s p
@@ -291,15 +211,15 @@ module _ (f : code.Profile) where
     unfolding moreOf
     walk-boundary t =
         walk-stop s at p w state v h
-        (⊎-elim (λ (n : None s p v). rw (n .run) refl) (λ (x : Some P s p v). rw (x .run, x .class, sym rr ∙ t) refl) (view P s p v here read))
+        (⊎-elim (λ (n : NoScalar s p v). rw (n .run) refl) (λ (x : PackedScalar P s p v). rw (x .run, x .class, sym rr ∙ t) refl) (packed-view P s p v here read))
         read
 
-    some-at : r ≡ true → Some P s p v
+    some-at : r ≡ true → PackedScalar P s p v
     unfolding among number
     some-at t = ⊎-elim
-        (λ (n : None s p v). absurd (no-both r t (rr ∙ rw (n .zero) (alone-numbers state (stateContext state) 0 refl))))
-        (λ (x : Some P s p v). x)
-        (view P s p v here read)
+        (λ (n : NoScalar s p v). absurd (no-both r t (rr ∙ rw (n .zero) (alone-numbers state (stateContext state) 0 refl))))
+        (λ (x : PackedScalar P s p v). x)
+        (packed-view P s p v here read)
 
     pub walk-room : r ≡ true → (p + v % 8 ≤ length s) × (1 ≤ v % 8)
     walk-room t = let x = some-at t in (x .room, x .some)

@@ -4,7 +4,6 @@ pub mod Tails
 pub mod Runs
 pub mod Ascii
 pub mod Leads
-pub mod Walks
 pub mod PackedScalars
 pub mod ForwardWalk
 pub mod BackwardWalk

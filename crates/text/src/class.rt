@@ -10,27 +10,27 @@ pub struct Profile {
 }
 
 // The numbers of UAX #29's classes.
-pub const CR: u8 = 0;
+pub(crate) const CR: u8 = 0;
 
-pub const LF: u8 = 1;
+pub(crate) const LF: u8 = 1;
 
-pub const CONTROL: u8 = 2;
+pub(crate) const CONTROL: u8 = 2;
 
-pub const EXTEND: u8 = 3;
+pub(crate) const EXTEND: u8 = 3;
 
-pub const ZWJ: u8 = 4;
+pub(crate) const ZWJ: u8 = 4;
 
-pub const L: u8 = 5;
+pub(crate) const L: u8 = 5;
 
-pub const V: u8 = 6;
+pub(crate) const V: u8 = 6;
 
-pub const T: u8 = 7;
+pub(crate) const T: u8 = 7;
 
 pub const LV: u8 = 8;
 
 pub const LVT: u8 = 9;
 
-pub const REGIONAL_INDICATOR: u8 = 10;
+pub(crate) const REGIONAL_INDICATOR: u8 = 10;
 
 pub const OTHER: u8 = 11;
 
@@ -137,7 +137,7 @@ fn low_class(profile: Profile, x: u32) -> u8
 }
 
 // The number of a scalar's class, the common ones found first.
-pub fn class(profile: Profile, x: u32) -> u8
+pub(crate) fn class(profile: Profile, x: u32) -> u8
     ensures { λ r. ⌜ r ≡ number (profileOf profile .class x) ⌝ }
 {
     if x < 0x300 {
