@@ -21,8 +21,9 @@ use Rattle.text.specs.declared.TextPart.{TextPart}
 use Rattle.text.specs.declared.segmentation.ClusterStep.{ClusterStep}
 use Rattle.text.specs.TextParts.{place, column, textAt}
 use Rattle.text.specs.TextParts.Laws.{first-there, behind-part}
-use Rattle.text.specs.Segmentation.{packedAt, NextClusterReady, NextCluster}
-use Rattle.text.specs.Segmentation.Laws.{packed-inside, packed-none, first-some}
+use Rattle.text.specs.Scalar.{packedAt}
+use Rattle.text.specs.Segmentation.{NextClusterReady, NextCluster}
+use Rattle.text.specs.Scalar.Laws.{packed-inside, packed-none, first-some}
 use Rattle.rows.specs.Words.{Word, words}
 use Rattle.rows.specs.Words.Laws.{firstWord, restWords, first-word-all, first-word-some, words-first}
 use Rattle.rows.specs.Rows.{Row, Wrap, wrap, pushed, unit, byClusters, byWords, longWord, oneWord, splitText}

@@ -1,23 +1,27 @@
 -- What a cluster is, by its bytes.
 use mathlib.Core.Path.{_≡_, refl, sym, ap, _∙_}
-use Prim.Native.Nat.{ℕ, suc, _-_, _<_}
+use Prim.Native.Nat.{ℕ, suc, _-_, _≤_, _<_}
 use native.Mathlib.Omega.{arith}
-use mathlib.Core.Bool.{false, not, cond, _&&_, _||_, and-true, and-false}
+use mathlib.Core.Bool.{Bool, true, false, not, cond, _&&_, _||_, and-true, and-false}
 use mathlib.Core.List.{List, [], _∷_}
-use lib.ListN.{length, getD}
+use lib.ListN.{length, take, getD}
 use lib.Seq.{getD-take}
-use lib.Dec.{eqb, leb}
+use lib.Dec.{eqb, leb, eqb→eq}
 use borrow.Author.Tests.{ne-eqb, le-leb, eqb-true}
-use Rattle.text.specs.Tests.{cases}
+use Rattle.text.specs.Tests.{and-T, cases, is-true, true-T}
 use Rattle.text.specs.Utf8.{Scalar, decode, runOf, bytesOf, sameBytes, reads}
 use Rattle.text.specs.Class.{Profile}
 use Rattle.text.specs.Width.{widthOf}
 use Rattle.text.specs.Cluster.{clusters}
-use Rattle.text.specs.Cluster.Walk.{cluster-bytes, cluster-some}
+use Rattle.text.specs.Cluster.Walk.{cluster-bytes, cluster-length, cluster-run, cluster-some}
+use Rattle.text.specs.Code.{profileOf}
+use Rattle.text.specs.Code.Laws.{control-width, newline-width}
+use Rattle.text.specs.Utf8.Runs.{run-fits}
+use Rattle.text.specs.declared.class.Profile as code
 use Rattle.spans.specs.Sequence.{sgr, eraseToEnd, ignored, hyperlink, lineDrawing, Found, found, missing, parse}
 use Rattle.spans.specs.Spans.{control, unprintable, tab, crlf, lf, Seen, plain, special, escapeSeen, controlSeen, seen, kindOf}
 use Rattle.spans.specs.Spans.Steps.{isPlain, escape-special, plainCluster, plain-same}
-use Rattle.spans.specs.Contracts.{plainBytes, aLook, told, escapeLook, lookBytes}
+use Rattle.spans.specs.Contracts.{aLook, told, escapeLook, lookBytes}
 use Rattle.spans.specs.declared.reader.Look.{Look}
 
 no-one : (n : ℕ) → eqb (suc (suc n)) 1 ≡ false
@@ -46,6 +50,10 @@ module _ (P : Profile) (g : List Scalar) (y : ℕ) (s : List ℕ) where
   seen-by (x ∷ z ∷ w ∷ b) e f = rw e (simp (and-false, no-one, no-two))
 
 -- ---- plain
+
+-- a cluster of n bytes, the first of them a and b, that is w columns wide is a part of a text
+plainBytes : ℕ → ℕ → ℕ → ℕ → Bool
+plainBytes n a b w = cond (eqb n 1 && (leb a 0x1F || eqb a 0x7F)) false (cond (eqb n 2 && (eqb a 0x0D && eqb b 0x0A)) false (not (eqb w 0)))
 
 last-plain : (g : List Scalar) (n w : ℕ) → isPlain (lastSeen g n w) ≡ not (eqb w 0)
 unfolding isPlain lastSeen
@@ -118,7 +126,7 @@ module _ (P : Profile) (s : List ℕ) (g : List Scalar) (gs : List (List Scalar)
   by-seen : (t : List ℕ) → seen P g t ≡ seenOf g (length (bytesOf g)) (getD s 0 0) (getD s 1 0) (widthOf P g) (parse t)
   by-seen t = rw (← a-first) (seen-by P g (getD s 1 0) t (bytesOf g) refl second)
 
-  pub plain-bytes : plainCluster P g ≡ plainBytes (length (bytesOf g)) (getD s 0 0) (getD s 1 0) (widthOf P g)
+  plain-bytes : plainCluster P g ≡ plainBytes (length (bytesOf g)) (getD s 0 0) (getD s 1 0) (widthOf P g)
   unfolding plainCluster
   plain-bytes = ap isPlain (by-seen []) ∙ seen-plain g (length (bytesOf g)) (getD s 0 0) (getD s 1 0) (widthOf P g) (parse [])
 
@@ -126,3 +134,42 @@ module _ (P : Profile) (s : List ℕ) (g : List Scalar) (gs : List (List Scalar)
   look-bytes t h =
       ap lookOf (by-seen t)
       ∙ seen-look g (length (bytesOf g)) (getD s 0 0) (getD s 1 0) (widthOf P g) (parse t) (ap isPlain (sym (by-seen t)) ∙ plain-same P g t ∙ h)
+
+-- a control and CR LF have no width, so that the width alone says whether a cluster is plain
+module _ (p : code.Profile) (s : List ℕ) (g : List Scalar) (gs : List (List Scalar)) (e : clusters (profileOf p) (runOf (decode s)) ≡ g ∷ gs) where
+  one : (s : List ℕ) → 1 ≤ length s → take 1 s ≡ getD s 0 0 ∷ []
+  one [] h = absurd (omega arith)
+  one (a ∷ s) h = refl
+
+  two : (s : List ℕ) → 2 ≤ length s → take 2 s ≡ getD s 0 0 ∷ getD s 1 0 ∷ []
+  two [] h = absurd (omega arith)
+  two (a ∷ []) h = absurd (omega arith)
+  two (a ∷ b ∷ s) h = refl
+
+  room : length (bytesOf g) ≤ length s
+  room = omega (arith, cluster-length (profileOf p) s g gs e, run-fits s)
+
+  control-none : (eqb (length (bytesOf g)) 1 && (leb (getD s 0 0) 0x1F || eqb (getD s 0 0) 0x7F)) ≡ true → widthOf (profileOf p) g ≡ 0
+  control-none h =
+      let q = and-T (eqb (length (bytesOf g)) 1) _ (true-T h) in
+      let n : length (bytesOf g) ≡ 1 = eqb→eq _ _ (q .0) in
+      let r : runOf (decode (getD s 0 0 ∷ [])) ≡ g = ap (λ (l : List ℕ). runOf (decode l)) (sym (one s (omega (arith, n, room))) ∙ ap (λ (k : ℕ). take k s) (sym n)) ∙ cluster-run (profileOf p) s g gs e in
+      ap (widthOf (profileOf p)) (sym r) ∙ control-width p (getD s 0 0) (is-true _ (q .1))
+
+  newline-none : (eqb (length (bytesOf g)) 2 && (eqb (getD s 0 0) 0x0D && eqb (getD s 1 0) 0x0A)) ≡ true → widthOf (profileOf p) g ≡ 0
+  newline-none h =
+      let q = and-T (eqb (length (bytesOf g)) 2) _ (true-T h) in
+      let w = and-T (eqb (getD s 0 0) 0x0D) _ (q .1) in
+      let n : length (bytesOf g) ≡ 2 = eqb→eq _ _ (q .0) in
+      let r : runOf (decode (getD s 0 0 ∷ getD s 1 0 ∷ [])) ≡ g = ap (λ (l : List ℕ). runOf (decode l)) (sym (two s (omega (arith, n, room))) ∙ ap (λ (k : ℕ). take k s) (sym n)) ∙ cluster-run (profileOf p) s g gs e in
+      ap (widthOf (profileOf p)) (sym r) ∙ rw (eqb→eq (getD s 0 0) 0x0D (w .0), eqb→eq (getD s 1 0) 0x0A (w .1)) (newline-width p)
+
+  pub plain-width : plainCluster (profileOf p) g ≡ not (eqb (widthOf (profileOf p) g) 0)
+  unfolding plainBytes
+  plain-width =
+      plain-bytes (profileOf p) s g gs e
+      ∙ cases (eqb (length (bytesOf g)) 1 && (leb (getD s 0 0) 0x1F || eqb (getD s 0 0) 0x7F))
+      (λ h. rw (h, control-none h))
+      (λ h. cases (eqb (length (bytesOf g)) 2 && (eqb (getD s 0 0) 0x0D && eqb (getD s 1 0) 0x0A))
+      (λ k. rw (h, k, newline-none k))
+      (λ k. rw (h, k)))

@@ -8,7 +8,7 @@ use mathlib.Core.Bool.{Bool, true, false, true≢false, not, cond, _&&_, _||_}
 use mathlib.Core.List.{List, [], _∷_, _++_, map}
 use mathlib.Core.Logic.{_≢_}
 use lib.ListN.{length, take, drop, getD, length-append, length-drop, drop-of-length-le, List·getD-eq-default}
-use lib.Seq.{drop-cons, drop-drop, getD-drop, getD-take, slice, slice-empty, length-slice}
+use lib.Seq.{drop-cons, drop-drop, getD-drop, getD-take, slice, length-slice}
 use borrow.Author.Tests.{eqb-true, eqb-false, ne-eqb, ltb-true}
 use lib.Dec.{eqb, leb, ltb, eqb→eq, nltb→le}
 use Rattle.text.specs.Tests.{cases, and-T, true-T}
@@ -18,26 +18,31 @@ use Rattle.text.specs.Utf8.Runs.{run-fits}
 use Rattle.text.specs.Class.{Profile}
 use Rattle.text.specs.Width.{profile01, widthOf}
 use Rattle.text.specs.Cluster.{clusters, clustersAfter, joinAll}
-use Rattle.text.specs.Cluster.Laws.{clusters-all}
-use Rattle.text.specs.Cluster.Walk.{size-is, first-size, first-none, cluster-run, cluster-some, cluster-behind, cluster-length, next-clusters}
-use Rattle.text.specs.Code.{profileOf, size, firstSize, firstSequence, loneByte}
+use Rattle.text.specs.Cluster.Laws.{clusters-all, clusters-first}
+use Rattle.text.specs.Cluster.Walk.{size-is, first-size, first-none, cluster-some, cluster-behind, cluster-length, next-clusters}
+use Rattle.text.specs.Code.{profileOf, size, firstSize, firstOf, printable}
+use Rattle.text.specs.Segmentation.{neverJoinsBefore}
 use Rattle.text.specs.Code.Boundaries.{Boundary, lone-boundary}
-use Rattle.text.specs.Code.Laws.{scalar-at, none-at}
-use Rattle.text.specs.declared.utf8.Sequence.{Sequence}
+use Rattle.text.specs.Code.Laws.{plain-width as plain-columns}
+use Rattle.text.specs.Scalar.{packedAt}
+use Rattle.text.specs.Scalar.Laws.{first-some, packed-inside, packed-none, packed-some}
+use Rattle.text.specs.Segmentation.{NextCluster, NextClusterReady}
+use Rattle.text.specs.TextParts.{textAt}
+use Rattle.text.specs.declared.segmentation.ClusterStep.{ClusterStep}
 use Rattle.text.specs.declared.class.Profile as code
 use Rattle.spans.specs.Sequence as found
 use Rattle.spans.specs.Sequence.{sgr, eraseToEnd, ignored, hyperlink, lineDrawing, Found, found, missing, parse}
 use Rattle.spans.specs.Sequence.Laws.{parse-length, parse-last}
 use Rattle.spans.specs.Spans.{Content, Span, span, Seen, plain, special, seen, spansAt, text, control, invalid, unprintable, escape, tab, crlf, lf, Record, aRecord, kindOf, matchOf, recordOf, records}
 use Rattle.spans.specs.Spans.Steps.{extent, isPlain, plainCluster, plain-same, plainSize, plainText, skipped, step-text, step-special, step-invalid, NoText, seen-noText}
-use Rattle.spans.specs.Contracts.{alone, plainBytes, plainFirst, clustersAt, PlainTo, runAt, Part, Within, Ahead, SkipReady, Skip, told, escapeLook, lookBytes, aLook, Fresh, Ready, isMatch, matchIn, textRecord, recordsFrom, invalidAt, Stepped, ControlReady, Escaping, Mark, SpecialStep}
+use Rattle.spans.specs.Contracts.{alone, clustersAt, PlainTo, ClustersTo, runAt, Part, Within, Ahead, SkipReady, Skip, told, escapeLook, lookBytes, aLook, Fresh, Ready, isMatch, matchIn, textRecord, recordsFrom, invalidAt, Stepped, ControlReady, Escaping, Mark, SpecialStep}
 use Rattle.spans.specs.declared.sequence.Sequence as sequence
 use Rattle.spans.specs.declared.reader.Look.{Look}
 use Rattle.spans.specs.declared.reader.Place.{Place}
 use Rattle.spans.specs.declared.reader.Matched.{Matched}
 use Rattle.spans.specs.declared.reader.NextSpan.{NextSpan}
-use Rattle.spans.proofs.Clusters.{plain-bytes, look-bytes, lookOf}
-use Rattle.spans.proofs.Single.{control-single, control-special, plain-on}
+use Rattle.spans.proofs.Clusters.{plain-width, look-bytes, lookOf}
+use Rattle.spans.proofs.Single.{control-single, control-special, low, plain-here, plain-on, run-byte}
 use Rattle.spans.proofs.Sequences.{part-slice}
 
 -- what holds of a list holds if it does of none and of a first and others
@@ -58,173 +63,6 @@ module _ (P : Profile) (t : List ℕ) (at : ℕ) where
 
   byte-next : getD (drop at t) 1 0 ≡ getD t (at + 1) 0
   byte-next = getD-drop at t 1 0
-
-  -- ---- `plain_end`
-
-  empty-part : widthOf P (runOf (decode (slice at at t))) ≡ 0
-  unfolding widthOf runOf decode decodeFrom
-  empty-part = rw (slice-empty at t)
-
-  plain-none : (end : ℕ) → end ≡ at → plainBytes (end - at) (getD t at 0) (getD t (at + 1) 0) (widthOf P (runOf (decode (slice at end t)))) ≡ false
-  unfolding plainBytes
-  plain-none end e = let z : at - at ≡ 0 = omega arith in rw (e, z, empty-part)
-
-  plain-some : (end : ℕ) (g : List Scalar) (gs : List (List Scalar)) → here ≡ g ∷ gs → end ≡ at + extent g
-      → plainBytes (end - at) (getD t at 0) (getD t (at + 1) 0) (widthOf P (runOf (decode (slice at end t)))) ≡ plainCluster P g
-  plain-some end g gs e f =
-      let z : end - at ≡ extent g = omega arith in
-      let r : runOf (decode (slice at end t)) ≡ g = ap (λ (l : List ℕ). runOf (decode l)) (sym (part-slice t at end) ∙ ap (λ (n : ℕ). take n (drop at t)) z) ∙ cluster-run P (drop at t) g gs e in
-      rw (z, r, ← byte-here, ← byte-next) (sym (plain-bytes P (drop at t) g gs e))
-
-  module _ (end : ℕ) (w : Bool) (f : end ≡ at + firstSize P (runOf (decode (drop at t)))) (q : w ≡ plainBytes (end - at) (getD t at 0) (getD t (at + 1) 0) (widthOf P (runOf (decode (slice at end t))))) where
-    plain-known : at + plainFirst P here ≡ cond w end at
-    unfolding plainFirst
-    plain-known =
-        by-first here
-        (λ e. let k : end ≡ at = f ∙ rw (first-none P (runOf (decode (drop at t))) e) (omega arith) in
-        rw (e, q, plain-none end k) (omega arith))
-        (λ g gs e. let k : end ≡ at + extent g = rw (first-size P (runOf (decode (drop at t))) g gs e) at f in
-        rw (e, q, plain-some end g gs e k) (cases (plainCluster P g) (λ b. rw b (sym k)) (λ b. rw b (omega arith))))
-
-    pub plain-taken : w ≡ true → end ≡ at + plainFirst P here
-    plain-taken h = sym (plain-known ∙ rw h)
-
-    pub plain-left : w ≡ false → at ≡ at + plainFirst P here
-    plain-left h = sym (plain-known ∙ rw h)
-
--- ---- `text_end`
-
-plain-turn : (P : Profile) (s : List ℕ) (n : ℕ) → n ≡ plainFirst P (clustersAt P s) → n ≢ 0 → (plainSize P (clustersAt P s) ≡ n + plainSize P (clustersAt P (drop n s))) × (n ≤ length s)
-unfolding plainFirst plainSize
-plain-turn P s n e z =
-    by-first (clustersAt P s)
-    (λ q. absurd (z (rw q at e)))
-    (λ g gs q. cases (plainCluster P g)
-    (λ b.
-    let k : n ≡ extent g = rw (q, b) at e in
-    (rw (q, b, k, next-clusters P s g gs q) refl, omega (arith, k, run-fits s, cluster-length P s g gs q)))
-    (λ b. absurd (z (rw (q, b) at e))))
-
-plain-stop : (P : Profile) (s : List ℕ) → plainFirst P (clustersAt P s) ≡ 0 → plainSize P (clustersAt P s) ≡ 0
-unfolding plainFirst plainSize
-plain-stop P s e =
-    by-first (clustersAt P s)
-    (λ q. rw q)
-    (λ g gs q. cases (plainCluster P g)
-    (λ b. absurd (let k : extent g ≡ 0 = rw (q, b) at e in omega (arith, cluster-some P s g gs q)))
-    (λ b. rw (q, b)))
-
-module _ (P : Profile) (t : List ℕ) (at i a b : ℕ) (x : PlainTo P t at i) (y : PlainTo P t i a) (z : PlainTo P t a b) where
-  text-to : PlainTo P t at b
-  text-to = plain-on P t at a b (plain-on P t at i a x y) z
-
-  pub text-more : (e : ℕ) → e ≡ b + plainFirst P (clustersAt P (drop b t)) → (e ≡ b → ⊥) → PlainTo P t at e
-  text-more e f q =
-      let n : ℕ = plainFirst P (clustersAt P (drop b t)) in
-      let w = plain-turn P (drop b t) n refl (λ k. q (f ∙ rw k (omega arith))) in
-      let o : PlainTo P t b e = record {
-        same = rw (f, ← drop-drop n b t) (omega (arith, w .0));
-        up = omega arith;
-        low = omega (arith, z .low, f, rw (length-drop b t) at (w .1));
-      } in
-      plain-on P t at b e text-to o
-
-  pub text-falls : (e : ℕ) → i < length t → e ≡ b + plainFirst P (clustersAt P (drop b t)) → (e ≡ b → ⊥) → length t - e < length t - i
-  text-falls e h f q = omega (arith, y .up, z .up)
-
-  pub text-stops : (e : ℕ) → e ≡ b + plainFirst P (clustersAt P (drop b t)) → e ≡ b → e ≡ at + plainSize P (clustersAt P (drop at t))
-  text-stops e f q =
-      let k : plainFirst P (clustersAt P (drop b t)) ≡ 0 = omega arith in
-      omega (arith, text-to .same, plain-stop P (drop b t) k)
-
-pub text-past : (P : Profile) (t : List ℕ) (at i : ℕ) → PlainTo P t at i → length t ≤ i → i ≡ at + plainSize P (clustersAt P (drop at t))
-unfolding plainSize
-text-past P t at i z h =
-    let k : plainSize P (clustersAt P (drop i t)) ≡ 0 = rw (drop-of-length-le t h, no-clusters P) in
-    omega (arith, z .same)
-
--- ---- controls
-
-module _ (p : code.Profile) (t : List ℕ) (at : ℕ) (h : at < length t) (c : alone (getD t at 0) ≡ true) where
-  pub control-size : plainSize (profileOf p) (clustersAt (profileOf p) (drop at t)) ≡ 0
-  unfolding profileOf plainSize
-  control-size = rw (control-single t at (getD t at 0) h refl c, control-special t at (getD t at 0) h refl c)
-
-  pub control-end : at + 1 ≡ at + firstSize (profileOf p) (runOf (decode (drop at t)))
-  unfolding profileOf bytesOf
-  control-end = ap (λ (n : ℕ). at + n) (sym (first-size profile01 (runOf (decode (drop at t))) (ascii (getD t at 0) ∷ []) (clustersAt profile01 (drop (at + 1) t)) (control-single t at (getD t at 0) h refl c)))
-
-pub control-first : (p : code.Profile) (t : List ℕ) (at a : ℕ) (x : Bool) → a ≡ getD t at 0 → x ≡ alone a → x ≡ true → at ≡ at + plainFirst (profileOf p) (clustersAt (profileOf p) (drop at t))
-unfolding plainFirst profileOf
-control-first p t at a x e f q =
-    let c : alone a ≡ true = sym f ∙ q in
-    cases (ltb at (length t))
-    (λ h. let k : at < length t = ltb-true _ _ h in rw (control-single t at a k e c, control-special t at a k e c) (omega arith))
-    (λ h. let k : length t ≤ at = nltb→le _ _ (rw h tt) in rw (drop-of-length-le t k, no-clusters profile01) (omega arith))
-
--- past the end stands a byte 0, which is one of them
-pub other-here : (t : List ℕ) (at a : ℕ) (x : Bool) → a ≡ getD t at 0 → x ≡ alone a → x ≡ false → at < length t
-other-here t at a x e f q =
-    cases (ltb at (length t))
-    (λ h. ltb-true _ _ h)
-    (λ h.
-    let k : length t ≤ at = nltb→le _ _ (rw h tt) in
-    let z : a ≡ 0 = e ∙ List·getD-eq-default t 0 k in
-    absurd (true≢false (rw z at (sym f ∙ q))))
-
--- ---- what stands at an ESC, and other values that are told apart
-
-pub on-sequence : (q x : sequence.Sequence) (z : Look) → q ≡ x → z ≡ escapeLook x → z ≡ escapeLook q
-on-sequence q x z e f = rw e f
-
-pub plain-part : (P : Profile) (t : List ℕ) (at end : ℕ) → at < length t → end ≡ at + firstSize P (runOf (decode (drop at t))) → Part t at end
-plain-part P t at end h f =
-    by-first (clustersAt P (drop at t))
-    (λ e. record { here = h; ordered = omega arith; inside = omega (arith, first-none P (runOf (decode (drop at t))) e) })
-    (λ g gs e. record {
-      here = h;
-      ordered = omega arith;
-      inside = omega (arith, first-size P (runOf (decode (drop at t))) g gs e, cluster-length P (drop at t) g gs e, rw (length-drop at t) at (run-fits (drop at t)));
-    })
-
-pub run-known : (t : List ℕ) (c : Place) → Ready t c → c .at < c .run → c .run ≡ runAt t (c .at)
-run-known t c z h = z .fresh h
-
--- ---- tests of bytes and widths that functions gave
-
-unfoldable pub plainOf : ℕ → ℕ → ℕ → ℕ → Bool
-unfolding plainBytes
-plainOf n a b w = plainBytes n a b w
-
-pub plain-is : (n a b x y w : ℕ) (z : Bool) → a ≡ x → b ≡ y → z ≡ plainOf n a b w → z ≡ plainBytes n x y w
-unfolding plainOf
-plain-is n a b x y w z e f q = rw (← e, ← f) q
-
-pub plain-wide : (n a b x y w v : ℕ) (z : Bool) → a ≡ x → b ≡ y → w ≡ v → z ≡ plainOf n a b w → z ≡ plainBytes n x y v
-unfolding plainOf
-plain-wide n a b x y w v z e f g q = rw (← e, ← f, ← g) q
-
--- the same chain as `lookBytes`, where no sequence begins at an ESC
-unfoldable pub looksOf : ℕ → ℕ → ℕ → Look
-looksOf n a b =
-    cond (eqb n 1)
-    (cond (eqb a 0x0A) (aLook 12 1) (cond (eqb a 0x09) (aLook 10 1) (cond (leb a 0x1F || eqb a 0x7F) (aLook 3 1) (aLook 5 1))))
-    (cond (eqb n 2 && (eqb a 0x0D && eqb b 0x0A)) (aLook 11 2) (aLook 5 n))
-
-looks-same : (n a b : ℕ) → looksOf n a b ≡ lookBytes n a b missing
-unfolding looksOf lookBytes escapeLook told
-looks-same n a b = cases (eqb a 0x1B) (λ e. rw (eqb-true a 0x1B e)) (λ e. rw e)
-
-pub look-is : (n a b x y : ℕ) (z : Look) → a ≡ x → b ≡ y → z ≡ looksOf n a b → z ≡ lookBytes n x y missing
-look-is n a b x y z e q p = p ∙ looks-same n a b ∙ rw (e, q)
-
--- one byte says enough
-pub look-one : (n a x y : ℕ) (z : Look) → a ≡ x → z ≡ looksOf n a y → z ≡ lookBytes n x y missing
-look-one n a x y z e p = look-is n a y x y z e refl p
-
-pub plain-crlf : (n a b x y w : ℕ) → a ≡ x → b ≡ y → (eqb n 1 && (leb a 0x1F || eqb a 0x7F)) ≡ false → (eqb n 2 && (eqb a 0x0D && eqb b 0x0A)) ≡ true → false ≡ plainBytes n x y w
-unfolding plainBytes
-plain-crlf n a b x y w e f p q = rw (← e, ← f, p, q)
 
 -- ---- runs
 
@@ -248,6 +86,188 @@ module _ (P : Profile) (t : List ℕ) (at : ℕ) (g : List Scalar) (gs : List (L
 
 run-inside : (t : List ℕ) (at : ℕ) → size (runOf (decode (drop at t))) ≤ length t - at
 run-inside t at = rw (size-is (runOf (decode (drop at t))), ← length-drop at t) (run-fits (drop at t))
+
+-- ---- `clusters_end`
+
+-- plain clusters from `at` to p, and the scalar u there
+pub record ClustersLoop (P : Profile) (t : List ℕ) (at p u : ℕ) : Type 0 where
+  pub to : PlainTo P t at p
+  pub scalar : u ≡ packedAt P t p
+
+pub clusters-begin : (P : Profile) (t : List ℕ) (at u : ℕ) → at < length t → u ≡ packedAt P t at → ClustersLoop P t at at u
+clusters-begin P t at u h e = record { to = plain-here P t at (omega (arith, h)); scalar = e }
+
+-- a printable byte begins a cluster that has a width
+printable-wide : (v : code.Profile) (t : List ℕ) (p : ℕ) → printable (getD t p 0) ≡ true → 1 ≤ widthOf (profileOf v) (firstOf (clusters (profileOf v) (textAt t p)))
+unfolding profileOf profile01 widthOf firstOf
+printable-wide v t p e =
+    let w = low (getD t p 0) e in
+    let h : p < length t = cases (ltb p (length t)) (λ l. ltb-true _ _ l) (λ l. absurd (omega (arith, w .0, List·getD-eq-default t 0 (nltb→le p (length t) (rw l tt))))) in
+    rw (run-byte t p (getD t p 0) h refl (omega (arith, w .1)), clusters-first profile01 (ascii (getD t p 0)) (textAt t (p + 1)), plain-columns (getD t p 0) (w .0) (w .1)) (omega arith)
+
+no-first : (P : Profile) → widthOf P (firstOf (clusters P [])) ≡ 0
+unfolding widthOf firstOf clusters clustersAfter
+no-first P = refl
+
+module _ (v : code.Profile) (t : List ℕ) (at p u : ℕ) (z : ClustersLoop (profileOf v) t at p u) where
+  pub clusters-past : u ≡ 0 → ClustersTo (profileOf v) t at p
+  unfolding plainSize clusters clustersAfter
+  clusters-past e =
+      let n : textAt t p ≡ [] = packed-none (profileOf v) t p u (z .scalar) e in
+      record {
+        to = z .to;
+        ends = λ k. ap (λ (l : List Scalar). plainSize (profileOf v) (clusters (profileOf v) l)) n;
+        further = λ k. absurd (omega (arith, printable-wide v t p k, ap (λ (l : List Scalar). widthOf (profileOf v) (firstOf (clusters (profileOf v) l))) n, no-first (profileOf v)));
+      }
+
+  module _ (some : u ≢ 0) where
+    pub clusters-ready : NextClusterReady (profileOf v) t p u
+    clusters-ready = record { inside = packed-inside (profileOf v) t p u (z .scalar) some; scalar = z .scalar }
+
+    -- the cluster there
+    record First : Type 0 where
+      g : List Scalar
+      gs : List (List Scalar)
+      is : clustersAt (profileOf v) (drop p t) ≡ g ∷ gs
+      same : firstOf (clusters (profileOf v) (textAt t p)) ≡ g
+
+    first : First
+    unfolding firstOf size
+    first =
+        by-first (clustersAt (profileOf v) (drop p t))
+        (λ e. absurd (let n : size (firstOf (clusters (profileOf v) (textAt t p))) ≡ 0 = rw e refl in omega (arith, first-some (profileOf v) t p u (z .scalar) some)))
+        (λ g gs e. record { g = g; gs = gs; is = e; same = rw e refl })
+
+    module _ (r : ClusterStep) (n : NextCluster (profileOf v) t p r) where
+      end-is : r .part .end .0 ≡ p + extent (first .g)
+      end-is = n .part .end ∙ ap (λ (k : ℕ). p + k) (ap size (first .same) ∙ size-is (first .g))
+
+      plain-is : plainCluster (profileOf v) (first .g) ≡ not (eqb (r .part .width .0) 0)
+      plain-is = plain-width v (drop p t) (first .g) (first .gs) (first .is) ∙ ap (λ (k : ℕ). not (eqb k 0)) (sym (n .part .width ∙ ap (widthOf (profileOf v)) (first .same)))
+
+      pub clusters-stop : r .part .width .0 ≡ 0 → ClustersTo (profileOf v) t at p
+      unfolding plainSize
+      clusters-stop e =
+          let b : plainCluster (profileOf v) (first .g) ≡ false = plain-is ∙ rw e refl in
+          record {
+            to = z .to;
+            ends = λ k. rw (first .is, b) refl;
+            further = λ k. absurd (omega (arith, printable-wide v t p k, n .part .width, e));
+          }
+
+      pub clusters-less : length t - r .part .end .0 < length t - p
+      clusters-less = omega (arith, end-is, cluster-some (profileOf v) (drop p t) (first .g) (first .gs) (first .is), clusters-ready .inside)
+
+      module _ (wide : r .part .width .0 ≢ 0) where
+        clusters-on : PlainTo (profileOf v) t at (r .part .end .0)
+        unfolding plainSize
+        clusters-on =
+            let b : plainCluster (profileOf v) (first .g) ≡ true = plain-is ∙ rw (ne-eqb (r .part .width .0) 0 wide) refl in
+            let m : plainSize (profileOf v) (clustersAt (profileOf v) (drop p t)) ≡ extent (first .g) + plainSize (profileOf v) (first .gs) = rw (first .is, b) refl in
+            let o : clustersAt (profileOf v) (drop (r .part .end .0) t) ≡ first .gs = ap (λ (k : ℕ). clustersAt (profileOf v) (drop k t)) end-is ∙ behind-clusters (profileOf v) t p (first .g) (first .gs) (first .is) in
+            plain-on (profileOf v) t at p (r .part .end .0) (z .to) (record {
+              same = rw o (omega (arith, end-is, m));
+              up = omega (arith, end-is);
+              low = n .part .inside;
+            })
+
+        pub clusters-more : ClustersLoop (profileOf v) t at (r .part .end .0) (r .next)
+        clusters-more = record { to = clusters-on; scalar = n .next }
+
+        pub clusters-printable : (b : ℕ) (x : Bool) → b ≡ getD t (r .part .end .0) 0 → x ≡ printable b → x ≡ true → ClustersTo (profileOf v) t at (r .part .end .0)
+        clusters-printable b x e f q =
+            let k : printable (getD t (r .part .end .0) 0) ≡ true = rw e at (sym f ∙ q) in
+            record {
+              to = clusters-on;
+              ends = λ y. absurd (true≢false (sym k ∙ y));
+              further = λ y. omega (arith, clusters-less, z .to .up, n .part .inside);
+            }
+
+-- ---- `text_end`
+
+pub text-past : (P : Profile) (t : List ℕ) (at i : ℕ) → PlainTo P t at i → length t ≤ i → i ≡ at + plainSize P (clustersAt P (drop at t))
+unfolding plainSize
+text-past P t at i z h =
+    let k : plainSize P (clustersAt P (drop i t)) ≡ 0 = rw (drop-of-length-le t h, no-clusters P) in
+    omega (arith, z .same)
+
+-- ---- controls
+
+module _ (p : code.Profile) (t : List ℕ) (at : ℕ) (h : at < length t) (c : alone (getD t at 0) ≡ true) where
+  pub control-size : plainSize (profileOf p) (clustersAt (profileOf p) (drop at t)) ≡ 0
+  unfolding profileOf plainSize
+  control-size = rw (control-single t at (getD t at 0) h refl c, control-special t at (getD t at 0) h refl c)
+
+  pub control-end : at + 1 ≡ at + firstSize (profileOf p) (runOf (decode (drop at t)))
+  unfolding profileOf bytesOf
+  control-end = ap (λ (n : ℕ). at + n) (sym (first-size profile01 (runOf (decode (drop at t))) (ascii (getD t at 0) ∷ []) (clustersAt profile01 (drop (at + 1) t)) (control-single t at (getD t at 0) h refl c)))
+
+alone-size : (p : code.Profile) (t : List ℕ) (at a : ℕ) (x : Bool) → a ≡ getD t at 0 → x ≡ alone a → x ≡ true → plainSize (profileOf p) (clustersAt (profileOf p) (drop at t)) ≡ 0
+unfolding plainSize
+alone-size p t at a x e f q =
+    let c : alone (getD t at 0) ≡ true = rw e at (sym f ∙ q) in
+    cases (ltb at (length t))
+    (λ h. control-size p t at (ltb-true _ _ h) c)
+    (λ h. let k : length t ≤ at = nltb→le _ _ (rw h tt) in rw (drop-of-length-le t k, no-clusters (profileOf p)) refl)
+
+-- past the end stands a byte 0, which is one of them
+pub other-here : (t : List ℕ) (at a : ℕ) (x : Bool) → a ≡ getD t at 0 → x ≡ alone a → x ≡ false → at < length t
+other-here t at a x e f q =
+    cases (ltb at (length t))
+    (λ h. ltb-true _ _ h)
+    (λ h.
+    let k : length t ≤ at = nltb→le _ _ (rw h tt) in
+    let z : a ≡ 0 = e ∙ List·getD-eq-default t 0 k in
+    absurd (true≢false (rw z at (sym f ∙ q))))
+
+module _ (p : code.Profile) (t : List ℕ) (at i a : ℕ) (x : PlainTo (profileOf p) t at i) (y : PlainTo (profileOf p) t i a) where
+  pub text-control : (c : ℕ) (e : Bool) → c ≡ getD t a 0 → e ≡ alone c → e ≡ true → a ≡ at + plainSize (profileOf p) (clustersAt (profileOf p) (drop at t))
+  text-control c e f g h = omega (arith, plain-on (profileOf p) t at i a x y .same, alone-size p t a c e f g h)
+
+  module _ (b : ℕ) (w : PlainTo (profileOf p) t a b) where
+    text-to : PlainTo (profileOf p) t at b
+    text-to = plain-on (profileOf p) t at a b (plain-on (profileOf p) t at i a x y) w
+
+    pub text-control-behind : (c : ℕ) (e : Bool) → c ≡ getD t b 0 → e ≡ alone c → e ≡ true → b ≡ at + plainSize (profileOf p) (clustersAt (profileOf p) (drop at t))
+    text-control-behind c e f g h = omega (arith, text-to .same, alone-size p t b c e f g h)
+
+    module _ (end c : ℕ) (z : ClustersTo (profileOf p) t b end) (e : c ≡ getD t end 0) (k : Bool) (f : k ≡ printable c) where
+      pub text-more : k ≡ true → PlainTo (profileOf p) t at end
+      text-more h = plain-on (profileOf p) t at b end text-to (z .to)
+
+      pub text-falls : k ≡ true → length t - end < length t - i
+      text-falls h = omega (arith, y .up, w .up, z .further (rw e at (sym f ∙ h)), z .to .low)
+
+      pub text-stops : k ≡ false → end ≡ at + plainSize (profileOf p) (clustersAt (profileOf p) (drop at t))
+      text-stops h = omega (arith, plain-on (profileOf p) t at b end text-to (z .to) .same, z .ends (rw e at (sym f ∙ h)))
+
+-- ---- what stands at an ESC, and other values that are told apart
+
+pub on-sequence : (q x : sequence.Sequence) (z : Look) → q ≡ x → z ≡ escapeLook x → z ≡ escapeLook q
+on-sequence q x z e f = rw e f
+
+pub run-known : (t : List ℕ) (c : Place) → Ready t c → c .at < c .run → c .run ≡ runAt t (c .at)
+run-known t c z h = z .fresh h
+
+-- ---- tests of bytes that functions gave
+
+-- the same chain as `lookBytes`, where no sequence begins at an ESC
+unfoldable pub looksOf : ℕ → ℕ → ℕ → Look
+looksOf n a b =
+    cond (eqb n 1)
+    (cond (eqb a 0x0A) (aLook 12 1) (cond (eqb a 0x09) (aLook 10 1) (cond (leb a 0x1F || eqb a 0x7F) (aLook 3 1) (aLook 5 1))))
+    (cond (eqb n 2 && (eqb a 0x0D && eqb b 0x0A)) (aLook 11 2) (aLook 5 n))
+
+looks-same : (n a b : ℕ) → looksOf n a b ≡ lookBytes n a b missing
+unfolding looksOf lookBytes escapeLook told
+looks-same n a b = cases (eqb a 0x1B) (λ e. rw (eqb-true a 0x1B e)) (λ e. rw e)
+
+pub look-is : (n a b x y : ℕ) (z : Look) → a ≡ x → b ≡ y → z ≡ looksOf n a b → z ≡ lookBytes n x y missing
+look-is n a b x y z e q p = p ∙ looks-same n a b ∙ rw (e, q)
+
+-- one byte says enough
+pub look-one : (n a x y : ℕ) (z : Look) → a ≡ x → z ≡ looksOf n a y → z ≡ lookBytes n x y missing
+look-one n a x y z e p = look-is n a y x y z e refl p
 
 -- ---- `skip_to`
 
@@ -502,7 +522,7 @@ module _ (t : List ℕ) (c : Place) (z : Escaping t c) where
       escape-ahead = omega (arith, escape-room .0, escape-length, escape-within .first)
 
       abbrev Begins : ℕ → Type 0
-      Begins n = c .at + 1 < c .at + n → loneByte (getD t (c .at + n - 1) 0) ≡ true
+      Begins n = c .at + 1 < c .at + n → neverJoinsBefore (getD t (c .at + n - 1) 0) ≡ true
 
       escape-begins : Begins (l .len)
       escape-begins =
@@ -592,12 +612,12 @@ module _ (P : Profile) (t : List ℕ) (c : Place) (z : Ready t c) where
   pub here-fits : c .at < 65536
   here-fits = omega (arith, z .here, z .small)
 
-  module _ (u : Sequence) (f : u ≡ firstSequence (decode (drop (c .at) t))) where
-    pub invalid-step : (m : Matched) (r : NextSpan) → u .len ≡ 0 → r ≡ invalidAt c → Stepped P t m (c .at) r
+  module _ (u : ℕ) (f : u ≡ packedAt P t (c .at)) where
+    pub invalid-step : (m : Matched) (r : NextSpan) → u ≡ 0 → r ≡ invalidAt c → Stepped P t m (c .at) r
     unfolding recordsFrom records recordOf kindOf matchOf size
     invalid-step m r h e =
         let at : ℕ = c .at in
-        let n : runOf (decode (drop at t)) ≡ [] = none-at t at u (z .here) f h in
+        let n : runOf (decode (drop at t)) ≡ [] = packed-none P t at u f h in
         let d : drop at t ≡ getD t at 0 ∷ drop (suc at) t = drop-cons t at 0 (z .here) in
         let v : c .at < c .run → c .run ≡ c .at = λ k. z .fresh k ∙ rw n (add-zero at) in
         rw e (record {
@@ -608,11 +628,11 @@ module _ (P : Profile) (t : List ℕ) (c : Place) (z : Ready t c) where
           low = omega (arith, z .here);
         })
 
-    pub mark-ready : (x : Bool) (a end e : ℕ) → a ≡ getD t (c .at) 0 → x ≡ alone a → x ≡ false → (u .len ≡ 0 → ⊥) → end ≡ c .at + plainSize P (clustersAt P (drop (c .at) t)) → end ≤ c .at
+    pub mark-ready : (x : Bool) (a end e : ℕ) → a ≡ getD t (c .at) 0 → x ≡ alone a → x ≡ false → (u ≡ 0 → ⊥) → end ≡ c .at + plainSize P (clustersAt P (drop (c .at) t)) → end ≤ c .at
         → e ≡ c .at + firstSize P (runOf (decode (drop (c .at) t))) → Mark P t c e
     unfolding size
     mark-ready x a end e b q w n g h k =
-        let v = scalar-at t (c .at) u (z .here) f n in
+        let v = packed-some P t (c .at) u f n in
         let i : c .at < runAt t (c .at) = rw (v .run) (omega (arith, v .len, v .some)) in
         record {
           ready = z;

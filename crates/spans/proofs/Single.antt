@@ -1,30 +1,31 @@
 -- Scalars that are clusters by themselves, by document 01's profile: controls, and those of class LV, LVT and other that no mark follows.
 use mathlib.Core.Path.{_≡_, refl, sym, ap, ap₂, _∙_}
-use Prim.Native.Nat.{ℕ, zero, suc, _+_, _-_, _≤_, _<_}
+use Prim.Native.Nat.{ℕ, zero, suc, _+_, _-_, _/_, _%_, _≤_, _<_}
 use native.Mathlib.Nat.{add-zero, not-suc-le-zero}
 use native.Mathlib.Numerals.{add-one}
 use native.Mathlib.Omega.{arith}
-use mathlib.Core.Bool.{Bool, true, false, not, cond, _&&_, _||_, and-false, true≢false}
+use mathlib.Core.Bool.{Bool, true, false, not, cond, _&&_, _||_, true≢false}
 use mathlib.Core.List.{List, [], _∷_, map, append-nil}
-use mathlib.Core.Logic.{_≢_}
+use mathlib.Core.Logic.{_≢_, _⊎_, inl, inr, ⊎-elim}
 use lib.ListN.{length, take, drop, getD, List·getD-map}
-use lib.Seq.{drop-cons, getD-drop}
+use lib.Seq.{drop-cons}
 use lib.Dec.{eqb, leb, leb→le}
-use borrow.Author.Tests.{eqb-true, eqb-false, le-leb, lt-leb, ne-eqb, not-true, leb-true, leb-false}
+use borrow.Author.Tests.{eqb-true, eqb-false, le-leb, ne-eqb, not-true}
 use Rattle.text.specs.Tests.{cases, and-T, is-true, true-T}
-use Rattle.text.specs.Utf8.{Scalar, ascii, decode, sequence, lengthIn, fits, table, scalar, value, runOf, bytesOf}
+use Rattle.text.specs.Utf8.{Scalar, ascii, decode, decodeFrom, sequence, lengthIn, fits, table, scalar, value, runOf, bytesOf}
 use Rattle.text.specs.Utf8.Laws.{decode-good}
 use Rattle.text.specs.Class.{Profile, cr, lf, control, extend, zwj, classV, classT, number, among, inAny, class01}
 use Rattle.text.specs.Width.{profile01, width01, wides, widthOf}
 use Rattle.text.specs.Cluster.{Context, joined, joins, joinsNext, context, clusters}
 use Rattle.text.specs.Cluster.Laws.{further, clusters-first}
-use Rattle.text.specs.Code.{profileOf, firstSequence, printable}
-use Rattle.text.specs.Code.Laws.{scalar-at, none-at, none-code, none-past}
+use Rattle.text.specs.Code.{profileOf, printable}
+use Rattle.text.specs.Code.Laws.{control-width, none-past}
+use Rattle.text.specs.Scalar.{packedAt}
+use Rattle.text.specs.Scalar.Laws.{NoScalar, PackedScalar, packed-view}
 use Rattle.text.specs.declared.class.Profile as code
-use Rattle.text.specs.declared.utf8.Sequence.{Sequence}
 use Rattle.spans.specs.Spans.Steps.{plainCluster, plainSize}
-use Rattle.spans.specs.Contracts.{alone, base, plainBytes, clustersAt, PlainTo}
-use Rattle.spans.proofs.Clusters.{plain-bytes}
+use Rattle.spans.specs.Contracts.{alone, base, clustersAt, PlainTo}
+use Rattle.spans.proofs.Clusters.{plain-width}
 
 unfoldable upFrom : ℕ → ℕ → List ℕ
 upFrom i zero = []
@@ -58,7 +59,7 @@ ascii-tested : (v : ℕ) → v ≤ 0x7F → ascii-test v ≡ true
 unfolding ascii-test among number class01 upFrom always
 ascii-tested v h = same-all ascii-test true 0 128 refl refl v (omega arith) (omega arith)
 
-low : (v : ℕ) → printable v ≡ true → (0x20 ≤ v) × (v ≤ 0x7E)
+pub low : (v : ℕ) → printable v ≡ true → (0x20 ≤ v) × (v ≤ 0x7E)
 low v p = let t = and-T (leb 0x20 v) (leb v 0x7E) (true-T p) in (leb→le _ _ (t .0), leb→le _ _ (t .1))
 
 class-printable : (v : ℕ) → printable v ≡ true → number (class01 v) ≡ 11
@@ -74,13 +75,6 @@ by-base X k h a b c =
     cases (eqb k 8) (λ e. rw (eqb-true k 8 e) a)
     (λ e. cases (eqb k 9) (λ f. rw (eqb-true k 9 f) b)
     (λ f. let g : eqb k 11 ≡ true = rw (e, f) at h in rw (eqb-true k 11 g) c))
-
-no-control : (k : ℕ) → base k ≡ true → among k (control ∷ cr ∷ lf ∷ []) ≡ false
-unfolding among number
-no-control k h = by-base (λ (n : ℕ). among n (control ∷ cr ∷ lf ∷ []) ≡ false) k h refl refl refl
-
-base-printable : (v : ℕ) → v ≤ 0x7F → base (number (class01 v)) ≡ true → printable v ≡ true
-base-printable v h e = cases (printable v) (λ p. p) (λ p. absurd (true≢false (sym (class-control v h p) ∙ no-control (number (class01 v)) e)))
 
 control-test : ℕ → Bool
 control-test v = eqb v 0x0D || among (number (class01 v)) (lf ∷ control ∷ [])
@@ -132,13 +126,10 @@ run-ascii : (b : ℕ) (s : List ℕ) → b ≤ 0x7F → runOf (decode (b ∷ s))
 unfolding runOf scalar value
 run-ascii b s h = ap runOf (decode-good b s 0 (sequence-ascii b s h))
 
-run-byte : (t : List ℕ) (at b : ℕ) → at < length t → b ≡ getD t at 0 → b ≤ 0x7F → runOf (decode (drop at t)) ≡ ascii b ∷ runOf (decode (drop (at + 1) t))
+pub run-byte : (t : List ℕ) (at b : ℕ) → at < length t → b ≡ getD t at 0 → b ≤ 0x7F → runOf (decode (drop at t)) ≡ ascii b ∷ runOf (decode (drop (at + 1) t))
 run-byte t at b h e k =
     ap (λ (l : List ℕ). runOf (decode l)) (drop-cons t at 0 h ∙ ap₂ (λ (x i : ℕ). x ∷ drop i t) (sym e) (sym (add-one at)))
     ∙ run-ascii b (drop (at + 1) t) k
-
-byte-first : (t : List ℕ) (at : ℕ) → getD (drop at t) 0 0 ≡ getD t at 0
-byte-first t at = getD-drop at t 0 0 ∙ ap (λ (i : ℕ). getD t i 0) (add-zero at)
 
 -- ---- controls
 
@@ -157,10 +148,11 @@ module _ (t : List ℕ) (at a : ℕ) (h : at < length t) (e : a ≡ getD t at 0)
       ∙ single profile01 (ascii a) (runOf (decode (drop (at + 1) t))) (control-apart (runOf (decode (drop (at + 1) t))))
 
   pub control-special : plainCluster profile01 (ascii a ∷ []) ≡ false
-  unfolding plainBytes bytesOf
+  unfolding profileOf runOf decode decodeFrom
   control-special =
-      plain-bytes profile01 (drop at t) (ascii a ∷ []) (clustersAt profile01 (drop (at + 1) t)) control-single
-      ∙ rw (byte-first t at, ← e, le-leb a 0x1F (control-low .0))
+      let v : code.Profile = record { version = 0 } in
+      let w : widthOf profile01 (ascii a ∷ []) ≡ 0 = ap (widthOf profile01) (sym (run-ascii a [] (omega (arith, control-low .0)))) ∙ control-width v a (rw (le-leb a 0x1F (control-low .0)) refl) in
+      plain-width v (drop at t) (ascii a ∷ []) (clustersAt profile01 (drop (at + 1) t)) control-single ∙ rw w refl
 
 -- ---- scalars of class LV, LVT and other
 
@@ -173,13 +165,17 @@ pub record BaseAt (t : List ℕ) (i next : ℕ) : Type 0 where
   pub some : i < next
   pub inside : next ≤ length t
 
-pub base-at : (p : code.Profile) (t : List ℕ) (i : ℕ) (u : Sequence) (k : ℕ) (x : Bool) → i < length t → u ≡ firstSequence (decode (drop i t)) → k ≡ number (profileOf p .class (u .code)) → x ≡ base k → x ≡ true → BaseAt t i (i + u .len)
-unfolding profileOf number class01
-base-at p t i u k x h f e g q =
-    let b : base k ≡ true = sym g ∙ q in
-    let n : u .len ≢ 0 = λ z. let c : k ≡ 2 = rw (none-code t i u h f z) at e in true≢false (sym (rw c at b)) in
-    let s = scalar-at t i u h f n in
-    record { one = s .scalar; run = s .run; class = rw (s .code, ← e) b; len = omega (arith, s .len); some = omega (arith, s .some); inside = s .fits }
+pub base-at : (p : code.Profile) (t : List ℕ) (i u : ℕ) (x : Bool) → i < length t → u ≡ packedAt (profileOf p) t i → x ≡ base (u / 8 % 16) → x ≡ true → BaseAt t i (i + u % 8)
+unfolding profileOf
+base-at p t i u x h f g q =
+    let b : base (u / 8 % 16) ≡ true = sym g ∙ q in
+    ⊎-elim
+    (λ (n : NoScalar t i u). absurd (true≢false (sym (rw (n .zero) at b))))
+    (λ (s : PackedScalar profile01 t i u). record { one = s .c; run = s .run; class = rw (s .class) b; len = omega (arith, s .len); some = omega (arith, s .some); inside = s .room })
+    (packed-view profile01 t i u h f)
+
+pub base-less : (p : code.Profile) (t : List ℕ) (i u : ℕ) (x : Bool) → i < length t → u ≡ packedAt (profileOf p) t i → x ≡ base (u / 8 % 16) → x ≡ true → length t - (i + u % 8) < length t - i
+base-less p t i u x h f g q = let b = base-at p t i u x h f g q in omega (arith, b .some, b .inside)
 
 pub printable-at : (t : List ℕ) (i b : ℕ) (x : Bool) → i < length t → b ≡ getD t i 0 → x ≡ printable b → x ≡ true → BaseAt t i (i + 1)
 printable-at t i b x h e f q =
@@ -190,22 +186,7 @@ wide-class : (k : ℕ) → base k ≡ true → among k (cr ∷ lf ∷ control �
 unfolding among number
 wide-class k h = by-base (λ (n : ℕ). among n (cr ∷ lf ∷ control ∷ extend ∷ zwj ∷ classV ∷ classT ∷ []) ≡ false) k h refl refl refl
 
-plain-byte : (n a b w : ℕ) → 0x20 ≤ a → a ≢ 0x7F → eqb w 0 ≡ false → plainBytes n a b w ≡ true
-unfolding plainBytes
-plain-byte n a b w h k e = rw (lt-leb a 0x1F (omega arith), ne-eqb a 0x7F k, ne-eqb a 0x0D (λ q. omega arith), e) (simp and-false)
-
 module _ (t : List ℕ) (i next : ℕ) (z : BaseAt t i next) where
-  base-byte : (0x20 ≤ getD t i 0) × (getD t i 0 ≢ 0x7F)
-  base-byte =
-      cases (leb (getD t i 0) 0x7F)
-      (λ h.
-      let k : getD t i 0 ≤ 0x7F = leb-true _ _ h in
-      let r = run-byte t i (getD t i 0) (omega (arith, z .some, z .inside)) refl k in
-      let c : z .one ≡ ascii (getD t i 0) = cc (z .run, r) in
-      let w = low (getD t i 0) (base-printable (getD t i 0) k (rw c at (z .class))) in
-      (w .0, λ e. omega (arith, w .1)))
-      (λ h. let k : 0x7F < getD t i 0 = leb-false _ _ h in (omega arith, λ e. omega arith))
-
   base-wide : eqb (widthOf profile01 (z .one ∷ [])) 0 ≡ false
   unfolding widthOf profile01 width01 among number
   base-wide =
@@ -217,10 +198,8 @@ module _ (t : List ℕ) (i next : ℕ) (z : BaseAt t i next) where
     base-single = ap (clusters profile01) (z .run) ∙ single profile01 (z .one) (runOf (decode (drop next t))) a
 
     base-plain : plainCluster profile01 (z .one ∷ []) ≡ true
-    base-plain =
-        let b = base-byte in
-        plain-bytes profile01 (drop i t) (z .one ∷ []) (clustersAt profile01 (drop next t)) base-single
-        ∙ rw (byte-first t i) (plain-byte _ _ _ _ (b .0) (b .1) base-wide)
+    unfolding profileOf
+    base-plain = plain-width (record { version = 0 }) (drop i t) (z .one ∷ []) (clustersAt profile01 (drop next t)) base-single ∙ rw base-wide refl
 
     base-on : PlainTo profile01 t i next
     unfolding plainSize bytesOf
@@ -282,11 +261,34 @@ module _ (p : code.Profile) (t : List ℕ) (at i next : ℕ) (z : BasesLoop t at
   pub bases-byte : (b : ℕ) → next < length t → b ≡ getD t next 0 → b < 0x80 → PlainTo (profileOf p) t at next
   bases-byte b h e k = further-on (on-low t i next (z .one) (ascii b) (runOf (decode (drop (next + 1) t))) (run-byte t next b h e (omega arith)) (omega arith))
 
-  -- a damaged byte, or a scalar below 80
-  pub bases-low : (v : Sequence) → next < length t → v ≡ firstSequence (decode (drop next t)) → v .code < 0x80 → PlainTo (profileOf p) t at next
-  bases-low v h e k =
-      cases (eqb (v .len) 0)
-      (λ q. further-on (on-none t i next (z .one) (none-at t next v h e (eqb-true _ 0 q))))
-      (λ q.
-      let s = scalar-at t next v h e (eqb-false _ 0 q) in
-      further-on (on-low t i next (z .one) (s .scalar) (runOf (decode (drop (next + v .len) t))) (s .run) (omega (arith, s .code))))
+-- plain clusters from `at` to i, and at i nothing yet or one of these scalars
+pub record BasesAhead (t : List ℕ) (at i next : ℕ) : Type 0 where
+  pub to : PlainTo profile01 t at i
+  pub one : (i ≡ next) ⊎ BaseAt t i next
+  pub inside : next ≤ length t
+
+pub ahead-begin : (t : List ℕ) (at : ℕ) → at ≤ length t → BasesAhead t at at at
+ahead-begin t at h = record { to = plain-here profile01 t at h; one = inl refl; inside = h }
+
+pub ahead-last : (p : code.Profile) (t : List ℕ) (at i next : ℕ) → BasesAhead t at i next → PlainTo (profileOf p) t at i
+unfolding profileOf
+ahead-last p t at i next z = z .to
+
+-- where what stands behind it does not join it
+ahead-on : (t : List ℕ) (at i next : ℕ) → BasesAhead t at i next → (BasesLoop t at i next → PlainTo profile01 t at next) → PlainTo profile01 t at next
+ahead-on t at i next z f = ⊎-elim
+    (λ (e : i ≡ next). rw (← e) (z .to))
+    (λ (o : BaseAt t i next). f (record { to = z .to; one = o }))
+    (z .one)
+
+pub ahead-more : (t : List ℕ) (at i next e : ℕ) → BasesAhead t at i next → BaseAt t next e → BasesAhead t at next e
+ahead-more t at i next e z o = record { to = ahead-on t at i next z (λ l. bases-more t at i next e l o .to); one = inr o; inside = o .inside }
+
+module _ (p : code.Profile) (t : List ℕ) (at i next : ℕ) (z : BasesAhead t at i next) where
+  pub ahead-past : length t ≤ next → PlainTo (profileOf p) t at next
+  unfolding profileOf
+  ahead-past h = ahead-on t at i next z (λ l. bases-past p t at i next l h)
+
+  pub ahead-byte : (b : ℕ) → next < length t → b ≡ getD t next 0 → b < 0x80 → PlainTo (profileOf p) t at next
+  unfolding profileOf
+  ahead-byte b h e k = ahead-on t at i next z (λ l. bases-byte p t at i next l b h e k)

@@ -12,7 +12,8 @@ use Rattle.buffer.specs.Sink.{landed}
 use Rattle.text.specs.Utf8.{Scalar, decode, runOf, bytesOf}
 use Rattle.text.specs.Class.{Profile}
 use Rattle.text.specs.Cluster.{clusters}
-use Rattle.text.specs.Code.{size, firstSize, loneByte}
+use Rattle.text.specs.Code.{size, firstSize, printable}
+use Rattle.text.specs.Segmentation.{neverJoinsBefore}
 use Rattle.text.specs.Width.{profile01}
 use Rattle.text.specs.Overstrike.{convert}
 use Rattle.text.specs.Calls.{decide, counted, question1, question2}
@@ -144,24 +145,21 @@ alone b = leb b 0x1F && not (eqb b 0x0D)
 abbrev pub base : ℕ → Bool
 base k = eqb k 8 || (eqb k 9 || eqb k 11)
 
--- a cluster of n bytes, the first of them a and b, that is w columns wide is a part of a text
-unfoldable pub plainBytes : ℕ → ℕ → ℕ → ℕ → Bool
-plainBytes n a b w = cond (eqb n 1 && (leb a 0x1F || eqb a 0x7F)) false (cond (eqb n 2 && (eqb a 0x0D && eqb b 0x0A)) false (not (eqb w 0)))
-
 -- the clusters of the run that a line begins with
 abbrev pub clustersAt : Profile → List ℕ → List (List Scalar)
 clustersAt P s = clusters P (runOf (decode s))
-
--- the bytes of the first cluster if it is plain
-unfoldable pub plainFirst : Profile → List (List Scalar) → ℕ
-plainFirst P [] = 0
-plainFirst P (g ∷ gs) = cond (plainCluster P g) (length (bytesOf g)) 0
 
 -- plain clusters stand from a place to r
 pub record PlainTo (P : Profile) (t : List ℕ) (at r : ℕ) : Type 0 where
   pub same : r + plainSize P (clustersAt P (drop r t)) ≡ at + plainSize P (clustersAt P (drop at t))
   pub up : at ≤ r
   pub low : r ≤ length t
+
+-- and r is where they end, or a printable byte behind the first of them
+pub record ClustersTo (P : Profile) (t : List ℕ) (at r : ℕ) : Type 0 where
+  pub to : PlainTo P t at r
+  pub ends : printable (getD t r 0) ≡ false → plainSize P (clustersAt P (drop r t)) ≡ 0
+  pub further : printable (getD t r 0) ≡ true → at < r
 
 abbrev pub aLook : ℕ → ℕ → Look
 aLook k n = record { kind = k; len = n }
@@ -197,7 +195,7 @@ Ahead t at stop = stop ≤ runAt t at
 
 pub record SkipReady (t : List ℕ) (at stop : ℕ) : Type 0 where
   pub ahead : Ahead t at stop
-  pub begins : at < stop → loneByte (getD t (stop - 1) 0) ≡ true
+  pub begins : at < stop → neverJoinsBefore (getD t (stop - 1) 0) ≡ true
 
 pub record Skip (P : Profile) (t : List ℕ) (at stop r : ℕ) : Type 0 where
   pub same : r ≡ at + skipped P (stop - at) (clustersAt P (drop at t))

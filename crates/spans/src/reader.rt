@@ -8,23 +8,19 @@ use text::class::LV;
 use text::class::LVT;
 use text::class::OTHER;
 use text::class::Profile;
-use text::class::class;
 use text::class::is_printable;
-use text::cluster::first_end;
-use text::utf8::decode;
+use text::scalar::scalar_at;
+use text::segmentation::cluster_end;
+use text::segmentation::next_cluster;
 use text::utf8::run_end;
-use text::width::text_width;
 ghost use mathlib.Core.Path.{_≡_};
 ghost use Prim.Native.Nat.{_+_, _-_, _≤_, _<_};
 ghost use lib.ListN.{length, getD, drop};
-ghost use lib.Seq.{slice};
-ghost use Rattle.text.specs.Utf8.{decode, runOf};
-ghost use Rattle.text.specs.Width.{widthOf};
 ghost use Rattle.text.specs.Code.{profileOf};
 ghost use Rattle.spans.specs.Sequence.{missing};
 ghost use Rattle.spans.specs.Spans.{aRecord};
 ghost use Rattle.spans.specs.Spans.Steps.{plainSize};
-ghost use Rattle.spans.specs.Contracts.{alone, base, plainBytes, clustersAt, plainFirst, PlainTo, escapeLook, lookBytes, Part, SkipReady, Skip, runAt, textRecord, invalidAt, Escaping, Mark, ControlReady, SpecialStep, Ready, Stepped};
+ghost use Rattle.spans.specs.Contracts.{alone, base, clustersAt, PlainTo, ClustersTo, escapeLook, lookBytes, Part, SkipReady, Skip, runAt, textRecord, invalidAt, Escaping, Mark, ControlReady, SpecialStep, Ready, Stepped};
 
 // What a cluster that is no part of a text is: a kind of span, and its length.
 pub struct Look {
@@ -56,23 +52,6 @@ fn is_alone(b: u8) -> bool
     ensures { λ r. ⌜ r ≡ alone b ⌝ }
 {
     (b <= 0x1F) & (b != 0x0D)
-}
-
-// Is the cluster from `at` to `end` a part of a text?
-fn is_plain(profile: Profile, t: &[u8], at: usize, end: usize) -> bool
-    requires { ⌜ Part (now t) at end ⌝ }
-    ensures { λ r. ⌜ r ≡ plainBytes (end - at) (getD (now (t .entry)) at 0) (getD (now (t .entry)) (at + 1) 0) (widthOf (profileOf profile) (runOf (decode (slice at end (now (t .entry)))))) ⌝ }
-{
-    let n = end - at;
-    let a = byte_at(t, at);
-    let b = byte_at(t, at + 1);
-    if (n == 1) & ((a <= 0x1F) | (a == 0x7F)) {
-        return false;
-    }
-    if (n == 2) & ((a == 0x0D) & (b == 0x0A)) {
-        return false;
-    }
-    text_width(profile, t, at, end) != 0
 }
 
 // Past printable bytes, each a plain cluster by itself; the last of them is left where what follows may join it.
@@ -110,43 +89,45 @@ fn bases_end(profile: Profile, t: &[u8], at: usize) -> usize
     requires { ⌜ at ≤ length (now t) ⌝ }
     ensures { λ r. ⌜ PlainTo (profileOf profile) (now (t .entry)) at r ⌝ }
 {
-    if t.len() <= at {
-        return at;
-    }
-    let u = decode(t, at);
-    if is_base(class(profile, u.code)) {
-        let mut i = at;
-        let mut next = at + u.len;
-        while next < t.len() {
-            let v = decode(t, next);
-            if is_base(class(profile, v.code)) {
-                i = next;
-                next += v.len;
-            } else {
-                if v.code < 0x80 {
-                    return next;
-                }
-                return i;
+    let mut i = at;
+    let mut next = at;
+    while next < t.len() {
+        let u = scalar_at(profile, t, next);
+        if is_base((u / 8 % 16) as u8) {
+            i = next;
+            next += u % 8;
+        } else {
+            if byte_at(t, next) < 0x80 {
+                return next;
             }
+            return i;
         }
-        return next;
     }
-    at
+    next
 }
 
-// The end of the cluster at a place if it is a part of a text, else the place.
-fn plain_end(profile: Profile, t: &[u8], at: usize) -> usize
-    requires { ⌜ at ≤ length (now t) ⌝ }
-    ensures { λ r. ⌜ r ≡ at + plainFirst (profileOf profile) (clustersAt (profileOf profile) (drop at (now (t .entry)))) ⌝ }
+// Past clusters that have a width: they are parts of a text. Up to a printable byte behind the first.
+fn clusters_end(profile: Profile, t: &[u8], at: usize) -> usize
+    requires { ⌜ at < length (now t) ⌝ }
+    ensures { λ r. ⌜ ClustersTo (profileOf profile) (now (t .entry)) at r ⌝ }
 {
-    if is_alone(byte_at(t, at)) {
-        return at;
+    let mut p = at;
+    let mut u = scalar_at(profile, t, at);
+    while u != 0 {
+        let step = next_cluster(profile, t, BytePlace(p), u);
+        let part = step.part;
+        let width = part.width;
+        if width.0 == 0 {
+            return p;
+        }
+        let end = part.end;
+        p = end.0;
+        u = step.next;
+        if is_printable(byte_at(t, p) as u32) {
+            return p;
+        }
     }
-    let end = first_end(profile, t, at);
-    if is_plain(profile, t, at, end) {
-        return end;
-    }
-    at
+    p
 }
 
 // The end of the text that begins at a place, which is the place where none does.
@@ -157,12 +138,19 @@ fn text_end(profile: Profile, t: &[u8], at: usize) -> usize
     let mut i = at;
     while i < t.len() {
         let a = printable_end(profile, t, i);
+        if is_alone(byte_at(t, a)) {
+            return a;
+        }
         let b = bases_end(profile, t, a);
-        let end = plain_end(profile, t, b);
-        if end == b {
+        if is_alone(byte_at(t, b)) {
+            return b;
+        }
+        let end = clusters_end(profile, t, b);
+        if is_printable(byte_at(t, end) as u32) {
+            i = end;
+        } else {
             return end;
         }
-        i = end;
     }
     i
 }
@@ -215,7 +203,7 @@ fn skip_to(profile: Profile, t: &[u8], at: usize, stop: usize) -> usize
     if stop <= at {
         return at;
     }
-    first_end(profile, t, stop - 1)
+    cluster_end(profile, t, stop - 1)
 }
 
 // The end of the run at the place.
@@ -313,7 +301,7 @@ fn invalid_span(c: Place) -> NextSpan
 }
 
 // The next span of a stretch that is match m or none.
-pub fn next_span(profile: Profile, t: &[u8], c: Place, m: Matched) -> NextSpan
+pub(crate) fn next_span(profile: Profile, t: &[u8], c: Place, m: Matched) -> NextSpan
     requires { ⌜ Ready (now t) c ⌝ }
     ensures { λ r. ⌜ Stepped (profileOf profile) (now (t .entry)) m (c .at) r ⌝ }
 {
@@ -321,8 +309,7 @@ pub fn next_span(profile: Profile, t: &[u8], c: Place, m: Matched) -> NextSpan
     if is_alone(byte_at(t, at)) {
         return control_span(profile, t, c);
     }
-    let u = decode(t, at);
-    if u.len == 0 {
+    if scalar_at(profile, t, at) == 0 {
         return invalid_span(c);
     }
     let end = text_end(profile, t, at);
@@ -336,5 +323,5 @@ pub fn next_span(profile: Profile, t: &[u8], c: Place, m: Matched) -> NextSpan
             },
         };
     }
-    mark_span(profile, t, c, first_end(profile, t, at))
+    mark_span(profile, t, c, cluster_end(profile, t, at))
 }

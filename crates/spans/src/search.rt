@@ -96,7 +96,7 @@ fn next_escape(s: &[u8], at: usize) -> Escape
 }
 
 // trim_trailing_newline
-pub fn trimmed_len(s: &[u8]) -> usize
+pub(crate) fn trimmed_len(s: &[u8]) -> usize
     ensures { λ r. ⌜ r ≡ trimmed (now (s .entry)) ⌝ }
 {
     let n = s.len();
@@ -136,7 +136,7 @@ fn escapes_len(s: &[u8]) -> usize
 }
 
 // The length of the text searched.
-pub fn searched_len(line: &[u8]) -> usize
+pub(crate) fn searched_len(line: &[u8]) -> usize
     requires { ⌜ length (now line) ≤ 65536 ⌝ }
     ensures { λ r. ⌜ r ≡ searchedLength (now (line .entry)) ⌝ }
 {
@@ -152,7 +152,7 @@ fn pair_in_order(e: usize, a: usize, b: usize, most: usize) -> bool
 }
 
 // Question 3: whole pairs, each start at most its end and at least the end before, all inside the text searched.
-pub fn in_order(matches: &[usize], most: usize) -> bool
+pub(crate) fn in_order(matches: &[usize], most: usize) -> bool
     ensures { λ r. ⌜ r ≡ inOrder most 0 (now (matches .entry)) ⌝ }
 {
     let mut i = 0;
@@ -174,7 +174,7 @@ pub fn in_order(matches: &[usize], most: usize) -> bool
 }
 
 // convert_offset's beginning.
-pub fn first_offsets(s: &[u8]) -> Offsets
+pub(crate) fn first_offsets(s: &[u8]) -> Offsets
     requires { ⌜ length (now s) ≤ 65536 ⌝ }
     ensures { λ r. ⌜ OffsetsFrom (now (s .entry)) 0 r ⌝ }
 {
@@ -187,7 +187,7 @@ pub fn first_offsets(s: &[u8]) -> Offsets
 }
 
 // convert_offset for an offset that is not before the last one.
-pub fn offset_at(s: &[u8], o: Offsets, x: usize) -> Offset
+pub(crate) fn offset_at(s: &[u8], o: Offsets, x: usize) -> Offset
     requires { ⌜ OffsetReady (now s) o x ⌝ }
     ensures { λ r. ⌜ OffsetAt (now (s .entry)) x r ⌝ }
 {

@@ -91,7 +91,7 @@ fn with_digit(v: usize, b: u8) -> usize
 }
 
 // The parameters that the bytes begin with.
-pub fn scan_parameters(s: &[u8]) -> Scan
+pub(crate) fn scan_parameters(s: &[u8]) -> Scan
     ensures { λ r. ⌜ Scanned (now (s .entry)) r ⌝ }
 {
     let mut i = 0;

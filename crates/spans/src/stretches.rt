@@ -137,7 +137,7 @@ fn settle(line: &[u8], matches: &[usize], c: Cursor) -> Cursor
 }
 
 // The next record; behind the last span a record of zeros.
-pub fn next_record(profile: Profile, line: &[u8], matches: &[usize], c: Cursor) -> NextRecord
+pub(crate) fn next_record(profile: Profile, line: &[u8], matches: &[usize], c: Cursor) -> NextRecord
     requires { ⌜ Counting (now line) (now matches) c ⌝ }
     ensures { λ r. ⌜ Nexted (profileOf profile) (now (line .entry)) (now (matches .entry)) c r ⌝ }
 {
@@ -174,7 +174,7 @@ pub fn next_record(profile: Profile, line: &[u8], matches: &[usize], c: Cursor) 
 }
 
 // Has the reading a span before it?
-pub fn has_next(line: &[u8], matches: &[usize], c: Cursor) -> bool
+pub(crate) fn has_next(line: &[u8], matches: &[usize], c: Cursor) -> bool
     requires { ⌜ Sound (now line) (now matches) c ⌝ }
     ensures { λ r. ⌜ HasNext (now (line .entry)) (now (matches .entry)) c r ⌝ }
 {
@@ -185,7 +185,7 @@ pub fn has_next(line: &[u8], matches: &[usize], c: Cursor) -> bool
 }
 
 // The beginning of a line, where the match ranges pass question 3.
-pub fn begin(line: &[u8], matches: &[usize]) -> Cursor
+pub(crate) fn begin(line: &[u8], matches: &[usize]) -> Cursor
     requires { ⌜ Begun (now line) (now matches) ⌝ }
     ensures { λ r. ⌜ Started (now (line .entry)) (now (matches .entry)) r ⌝ }
 {

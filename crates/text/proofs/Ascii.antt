@@ -5,19 +5,20 @@ use mathlib.Core.Bool.{Bool, _&&_, _||_, and-false, false, not, true}
 use mathlib.Core.List.{List, [], _∷_}
 use mathlib.Core.Logic.{_≢_}
 use mathlib.Core.Path.{_∙_, _≡_, ap, refl, sym}
-use lib.Dec.{T, eqb, eqb→eq, leb, leb→le, ltb, ltb→lt}
+use lib.Dec.{T, eqb, leb, leb→le, ltb, ltb→lt}
 use lib.ListN.{drop, getD, length}
 use lib.Seq.{drop-cons}
 use borrow.Author.Tests.{eqb-false, eqb-true, le-leb, lt-leb, ne-eqb, not-true}
 use Rattle.text.specs.Class.{Profile, among, class01, control, controls, cr, extends, inAny, lf, number, other}
 use Rattle.text.specs.Cluster.{Context, joined}
-use Rattle.text.specs.Code.{back, firstSequence, isTail, jamo, loneByte, printable, profileOf, regionalAt, sequenceOf, syllable}
+use Rattle.text.specs.Code.{firstSequence, isTail, jamo, printable, profileOf, runOf, sequenceOf, size, syllable}
+use Rattle.text.specs.Segmentation.{neverJoinsBefore}
+use Rattle.text.specs.Code.Boundaries.{alone, alone-numbers, lone-alone}
 use Rattle.text.specs.Tests.{and-T, cases, is-false, is-true, or-T, true-T}
 use Rattle.text.specs.Utf8.{Range, decode, fits, lengthIn, sequence, table, to, value, within}
 use Rattle.text.specs.Width.{wides, width01}
 use Rattle.text.proofs.Branch.{in-range}
-use Rattle.text.proofs.Tails.{back-here, back-tail}
-use Rattle.text.proofs.Units.{first-by, zero-leb}
+use Rattle.text.proofs.Units.{first-by, size-on, zero-leb}
 use Rattle.text.specs.declared.class.Profile as code
 
 -- ---- a test of every number of a range, computed once
@@ -53,24 +54,6 @@ after-each : T (eachFrom 0 128 after-class)
 unfolding eachFrom after-class among number class01
 after-each = tt
 
--- these join nothing that stands before them
-abbrev pub alone : ℕ → Bool
-alone c = among c (cr ∷ control ∷ other ∷ [])
-
-pub alone-numbers : (p : ℕ) (k : Context) (c : ℕ) → alone c ≡ true → joined p k c ≡ false
-unfolding joined among number
-alone-numbers p k c g =
-    cases (eqb p 2 || (eqb p 0 || eqb p 1))
-    (λ e.
-    cases (eqb c 0) (λ d. rw (eqb-true c 0 d, and-false (eqb p 0), e) refl)
-    (λ d₀. cases (eqb c 2) (λ d. rw (eqb-true c 2 d, and-false (eqb p 0), e) refl)
-    (λ d₂. let y : c ≡ 11 = eqb-true c 11 (rw (d₀, d₂) at g) in rw (y, and-false (eqb p 0), e) refl)))
-    (λ e.
-    cases (eqb c 0) (λ d. rw (eqb-true c 0 d, and-false (eqb p 0), e) refl)
-    (λ d₀. cases (eqb c 2) (λ d. rw (eqb-true c 2 d, and-false (eqb p 0), e) refl)
-    (λ d₂. let y : c ≡ 11 = eqb-true c 11 (rw (d₀, d₂) at g) in
-    rw (y, and-false (eqb p 0), e, and-false (eqb p 5), and-false (eqb p 8 || eqb p 6), and-false (eqb p 9 || eqb p 7), and-false (k .odd)) refl)))
-
 pub other-alone : alone 11 ≡ true
 unfolding among number
 other-alone = refl
@@ -83,31 +66,12 @@ apart-numbers p k c f g =
     (λ e. rw (eqb-true c 1 e, ne-eqb p 0 f) (cases (eqb p 2 || eqb p 1) (λ d. rw d refl) (λ d. rw d refl)))
     (λ e. alone-numbers p k c (rw e at g))
 
-lone-class : ℕ → Bool
-lone-class x = eqb x 0x0A || alone (number (class01 x))
-
-lone-each : T (eachFrom 0 128 lone-class)
-unfolding eachFrom lone-class among number class01
-lone-each = tt
-
-lone-alone : (b : ℕ) → loneByte b ≡ true → alone (number (class01 b)) ≡ true
-unfolding lone-class
-lone-alone b e =
-    let q = and-T (ltb b 0x80) (not (eqb b 0x0A)) (true-T e) in
-    let h : b < 128 = ltb→lt _ _ (q .0) in
-    rw (not-true (eqb b 0x0A) (is-true _ (q .1))) at (each-at 128 0 b lone-class lone-each (omega arith) (omega arith))
-
-pub lone-low : (b : ℕ) → loneByte b ≡ true → b < 128
+pub lone-low : (b : ℕ) → neverJoinsBefore b ≡ true → b < 128
 lone-low b e = ltb→lt _ _ (and-T (ltb b 0x80) (not (eqb b 0x0A)) (true-T e) .0)
 
-pub lone : (p : code.Profile) (b : ℕ) → loneByte b ≡ true → alone (number (profileOf p .class b)) ≡ true
+pub lone : (p : code.Profile) (b : ℕ) → neverJoinsBefore b ≡ true → alone (number (profileOf p .class b)) ≡ true
 unfolding profileOf
 lone p b e = lone-alone b e
-
--- a damaged byte counts as U+0000
-pub damaged-alone : (p : code.Profile) → alone (number (profileOf p .class 0)) ≡ true
-unfolding profileOf
-damaged-alone p = lone-alone 0 refl
 
 ascii-apart : (b a : ℕ) (k : Context) → b < 128 → a < 128 → (b ≢ 13) → joined (number (class01 b)) k (number (class01 a)) ≡ false
 unfolding before-class after-class
@@ -131,21 +95,6 @@ break-numbers p k c f = cases (eqb p 1) (λ e. rw (eqb-true p 1 e) refl) (λ e. 
 control-breaks : (a : ℕ) (k : Context) (c : ℕ) → a < 0x20 → (a ≢ 13) → joined (number (class01 a)) k c ≡ false
 unfolding break-class
 control-breaks a k c h n = break-numbers (number (class01 a)) k c (rw (ne-eqb a 13 n) at (each-at 0x20 0 a break-class break-each (omega arith) (omega arith)))
-
--- Extend and ZWJ join whatever is no CR, LF or Control
-pub mark-joins : (p : ℕ) (k : Context) (c : ℕ) → (eqb p 2 || (eqb p 0 || eqb p 1)) ≡ false → (eqb c 3 || eqb c 4) ≡ true → true ≡ joined p k c
-unfolding joined among number
-mark-joins p k c e f =
-    cases (eqb c 3)
-    (λ g. rw (eqb-true c 3 g, and-false (eqb p 0), e, and-false (eqb p 5), and-false (eqb p 8 || eqb p 6), and-false (eqb p 9 || eqb p 7)) refl)
-    (λ g. let y : c ≡ 4 = eqb-true c 4 (rw g at f) in rw (y, and-false (eqb p 0), e, and-false (eqb p 5), and-false (eqb p 8 || eqb p 6), and-false (eqb p 9 || eqb p 7)) refl)
-
--- a regional indicator joins an odd number of them
-pub pair-joins : (p : ℕ) (k : Context) (c : ℕ) → (eqb p 2 || (eqb p 0 || eqb p 1)) ≡ false → (k .odd && eqb c 10) ≡ true → true ≡ joined p k c
-unfolding joined among number
-pair-joins p k c e f =
-    let q = and-T (k .odd) (eqb c 10) (true-T f) in
-    rw (eqb-true c 10 (is-true _ (q .1)), is-true (k .odd) (q .0), and-false (eqb p 0), e, and-false (eqb p 5), and-false (eqb p 8 || eqb p 6), and-false (eqb p 9 || eqb p 7)) refl
 
 -- a byte below 80 is a sequence by itself
 sequence-one : (a : ℕ) (s : List ℕ) → a < 128 → sequence (a ∷ s) ≡ 1
@@ -172,32 +121,6 @@ breaks p a k c h n = control-breaks a k c h n
 
 pub low-tail : (b : ℕ) → b < 128 → isTail b ≡ false
 low-tail b h = rw (lt-leb 0x80 b h) refl
-
--- ---- regional indicators
-
-pub record RegionalBytes (t : List ℕ) (j : ℕ) : Type 0 where
-  pub a : getD t j 0 ≡ 0xF0
-  pub b : getD t (j + 1) 0 ≡ 0x9F
-  pub c : getD t (j + 2) 0 ≡ 0x87
-  pub low : 0xA6 ≤ getD t (j + 3) 0
-  pub high : getD t (j + 3) 0 ≤ 0xBF
-
-pub regional-bytes : (t : List ℕ) (j : ℕ) → regionalAt t j ≡ true → RegionalBytes t j
-regional-bytes t j e =
-    let p = and-T (eqb (getD t j 0) 0xF0) _ (true-T e) in
-    let q = and-T (eqb (getD t (j + 1) 0) 0x9F) _ (p .1) in
-    let r = and-T (eqb (getD t (j + 2) 0) 0x87) _ (q .1) in
-    let s = and-T (leb 0xA6 (getD t (j + 3) 0)) _ (r .1) in
-    record { a = eqb→eq _ _ (p .0); b = eqb→eq _ _ (q .0); c = eqb→eq _ _ (r .0); low = leb→le _ _ (s .0); high = leb→le _ _ (s .1) }
-
-pub regional-back : (t : List ℕ) (i j : ℕ) → 4 ≤ i → j ≡ i - 4 → regionalAt t j ≡ true → back t i ≡ j
-regional-back t i j h e f =
-    let w = regional-bytes t j f in
-    let m : isTail (getD t (j + 3) 0) ≡ true = rw (le-leb 0x80 (getD t (j + 3) 0) (omega (arith, w .low)), le-leb (getD t (j + 3) 0) 0xBF (w .high)) refl in
-    back-tail t i (j + 3) (getD t (j + 3) 0) (omega arith) (omega arith) refl m
-    ∙ back-tail t (j + 3) (j + 2) (getD t (j + 2) 0) (omega arith) (omega arith) refl (rw (w .c) refl)
-    ∙ back-tail t (j + 2) (j + 1) (getD t (j + 1) 0) (omega arith) (omega arith) refl (rw (w .b) refl)
-    ∙ sym (back-here t (j + 1) j (getD t j 0) (omega arith) (omega arith) refl (rw (w .a) refl))
 
 -- ---- quiet ranges
 
@@ -298,10 +221,6 @@ module _ (p : code.Profile) (x : ℕ) where
   pub jamo-class : 0x1100 ≤ x → x < 0x1200 → number (jamo x) ≡ number (profileOf p .class x)
   unfolding eachFrom classed number class01
   jamo-class lo hi = small-class p 0x100 0x1100 x (λ y. number (jamo y)) tt lo hi
-
-  pub extended-jamo-class : 0xA960 ≤ x → x ≤ 0xA97C → 5 ≡ number (profileOf p .class x)
-  unfolding eachFrom classed number class01
-  extended-jamo-class lo hi = small-class p 0x1D 0xA960 x (λ y. 5) tt lo (omega arith)
 
   pub indicator-class : 0x1F1E6 ≤ x → x ≤ 0x1F1FF → 10 ≡ number (profileOf p .class x)
   unfolding eachFrom classed number class01

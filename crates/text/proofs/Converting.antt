@@ -13,13 +13,17 @@ use Rattle.text.specs.Class.{Profile}
 use Rattle.text.specs.Cluster.{clusters, clustersAfter}
 use Rattle.text.specs.Cluster.Laws.{clusters-first, further}
 use Rattle.text.specs.Cluster.Walk.{size-is}
-use Rattle.text.specs.Code.{FinishReady, Finished, Part, PieceDone, PieceReady, Sound, SpanDone, StepReady, Stepped, Wrote, backward, conversion, finishOn, firstOf, firstSequence, firstSize, partOf, pendingOf, plain, profileOf, size, stateOf, styleOf, unitOf, whole}
+use Rattle.text.specs.Backward.{backward}
+use Rattle.text.specs.Code.{firstOf, firstSequence, firstSize, profileOf, size, whole}
+use Rattle.text.specs.Overstrike.Code.{FinishReady, Finished, Part, PieceDone, PieceReady, Sound, SpanDone, StepReady, Stepped, Wrote, conversion, finishOn, partOf, pendingOf, plain, stateOf, styleOf}
+use Rattle.text.specs.Code.Laws as laws
+use Rattle.text.specs.TextParts.Laws.{first-none}
 use Rattle.text.specs.Overstrike.{State, convertPieces, convertRun, none, normal, state, step, steps}
 use Rattle.text.specs.Overstrike.Length.{finish-size, start-weight, step-weight, weight}
 use Rattle.text.specs.Utf8.{Decoded, Piece, Scalar, addToRun, bytesOf, decode, decodeFrom, illFormed, run, runOf, runs, sequence, value, wellFormed, within}
 use Rattle.text.specs.Utf8.Laws.{bytesOf-append, decode-bad, decode-good, sequence-le}
 use Rattle.text.specs.Utf8.Valid.{valid}
-use Rattle.text.specs.declared.cluster.Unit.{Unit}
+use Rattle.text.specs.declared.utf8.Sequence.{Sequence}
 use Rattle.text.specs.declared.overstrike.Conversion.{Conversion}
 use Rattle.text.specs.declared.overstrike.Progress.{Progress}
 use Rattle.text.specs.declared.class.Profile as code
@@ -27,8 +31,7 @@ use Rattle.text.proofs.Even.{even-zero}
 use Rattle.text.proofs.Runs.{Head, no-head, part-slice, run-drop, run-head, size-cons, size-reverse}
 use Rattle.text.proofs.Steps.{front-size, front-text, part-none}
 use Rattle.text.proofs.Texts.{run-prefix}
-use Rattle.text.proofs.Units.{run-end, run-more}
-use Rattle.text.proofs.Walks.{first-none, first-size, run-none, run-some}
+use Rattle.text.proofs.Units.{run-bad, run-end, run-good, run-more, run-size, scalarAt}
 
 -- ---- the run of a text and what stands behind it
 
@@ -83,23 +86,21 @@ cluster-by P line p e c s q h i =
       sizes = ap size all ∙ size-both g rest ∙ ap₂ (λ (m n : ℕ). m + n) z (ap size (sym (ap (λ (x : List ℕ). runOf (decode x)) (sym d) ∙ run-behind g rest (drop p line) all)));
     }
 
+no-size : (P : Profile) → firstSize P [] ≡ 0
+unfolding firstSize firstOf size clusters clustersAfter
+no-size P = refl
+
 cluster-at : (P : Profile) (line : List ℕ) (p e : ℕ) → p < length line → e ≡ p + firstSize P (runOf (decode (drop p line))) → (e ≢ p) → ClusterAt P line p e
 cluster-at P line p e h i n = go (runOf (decode (drop p line))) refl
   where
     go : (cs : List Scalar) → runOf (decode (drop p line)) ≡ cs → ClusterAt P line p e
-    go [] q = absurd (n (i ∙ ap (λ (x : List Scalar). p + firstSize P x) q ∙ rw (first-none P, add-zero) refl))
+    go [] q = absurd (n (i ∙ ap (λ (x : List Scalar). p + firstSize P x) q ∙ rw (no-size P, add-zero) refl))
     go (c ∷ s) q = cluster-by P line p e c s q (omega arith) i
 
 -- no cluster begins at a damaged byte
 no-cluster : (P : Profile) (line : List ℕ) (p e : ℕ) → e ≡ p + firstSize P (runOf (decode (drop p line))) → e ≡ p → runOf (decode (drop p line)) ≡ []
-no-cluster P line p e i n = go (runOf (decode (drop p line))) refl
-  where
-    go : (cs : List Scalar) → runOf (decode (drop p line)) ≡ cs → runOf (decode (drop p line)) ≡ []
-    go [] q = q
-    go (c ∷ s) q =
-        let f = first-size P c s in
-        let z : firstSize P (runOf (decode (drop p line))) ≡ firstSize P (c ∷ s) = ap (firstSize P) q in
-        absurd (omega (arith, run-head (drop p line) c s q .some))
+unfolding firstSize
+no-cluster P line p e i n = first-none P (laws.run-valid (drop p line)) (omega (arith, i, n))
 
 -- ---- the loop over a run's clusters
 
@@ -263,12 +264,12 @@ module _ (line l : List ℕ) (d : Progress) (w : PieceReady line l d) where
   piece-room = rw (rest-all line (d .read), rest-all l (d .written), length-drop, length-drop) (omega (arith, w .room, w .here))
 
   -- no run there: a damaged byte copied
-  pub piece-damaged : (v : code.Profile) (u : Unit) → u ≡ unitOf (profileOf v) (firstSequence (decode (drop (d .read) line))) → u .len ≡ 0 → PieceDone (profileOf v) line l (set l (d .written) (getD line (d .read) 0)) d (record { read = d .read + 1; written = d .written + 1 })
+  pub piece-damaged : (v : code.Profile) (u : Sequence) → u ≡ firstSequence (decode (drop (d .read) line)) → u .len ≡ 0 → PieceDone (profileOf v) line l (set l (d .written) (getD line (d .read) 0)) d (record { read = d .read + 1; written = d .written + 1 })
   unfolding convertPieces runs
   piece-damaged v u read z =
       let b : ℕ = getD line (d .read) 0 in
       let q : drop (d .read) line ≡ b ∷ drop (suc (d .read)) line = drop-cons line (d .read) 0 (w .here) in
-      let s : size (runOf (decode (drop (d .read) line))) ≡ 0 = ap size (run-none (profileOf v) line (d .read) u (w .here) read z) ∙ size-none in
+      let s : size (runOf (decode (drop (d .read) line))) ≡ 0 = ap size (run-bad line (d .read) u (w .here) read z) ∙ size-none in
       let c : decode (drop (d .read) line) ≡ illFormed b ∷ decode (drop (suc (d .read)) line) = ap decode q ∙ damaged-decode b (drop (suc (d .read)) line) (rw q at s) in
       let t : take (suc (d .written)) (set l (d .written) b) ≡ take (d .written) l ++ (b ∷ []) = take-suc-set l (d .written) b (omega (arith, w .room, w .here)) in
       record {
@@ -292,15 +293,14 @@ module _ (line l : List ℕ) (d : Progress) (w : PieceReady line l d) where
     pub piece-end : d .read + r .read ≤ length line
     piece-end = omega (arith, w .here, span .run, rw (length-drop (d .read) line) at (run-le (drop (d .read) line)))
 
-    pub piece-run : (u : Unit) → u ≡ unitOf P (firstSequence (decode (drop (d .read) line))) → (u .len ≢ 0) → PieceDone P line l (take (d .written) l ++ (m ++ z)) d (record { read = d .read + r .read; written = d .written + r .written })
+    pub piece-run : (u : Sequence) → u ≡ firstSequence (decode (drop (d .read) line)) → (u .len ≢ 0) → PieceDone P line l (take (d .written) l ++ (m ++ z)) d (record { read = d .read + r .read; written = d .written + r .written })
     unfolding convertPieces
     piece-run u read ne = go (runOf (decode (drop (d .read) line))) refl
       where
         go : (cs : List Scalar) → runOf (decode (drop (d .read) line)) ≡ cs → PieceDone P line l (take (d .written) l ++ (m ++ z)) d (record { read = d .read + r .read; written = d .written + r .written })
-        go [] q = absurd (no-head _ _ (sym q ∙ run-some P line (d .read) u (w .here) read ne .run))
+        go [] q = absurd (no-head _ _ (sym q ∙ run-good line (d .read) u (w .here) read ne))
         go (c ∷ cs) q =
-            let x = run-some P line (d .read) u (w .here) read ne in
-            let some : 1 ≤ r .read = omega (arith, span .run, ap size (x .run), size-cons (x .c) (runOf (decode (drop (d .read + u .len) line))), x .size) in
+            let some : 1 ≤ r .read = omega (arith, span .run, ap size (run-good line (d .read) u (w .here) read ne), size-cons (scalarAt (d .read) (u .code) (u .len) line) (runOf (decode (drop (d .read + u .len) line))), run-size line (d .read) u (w .here) read ne, ne) in
             let x : take (d .written + r .written) (take (d .written) l ++ (m ++ z)) ≡ take (d .written) l ++ bytesOf (convertRun P (runOf (decode (drop (d .read) line)))) =
             ap (λ (j : ℕ). take (j + r .written) (take (d .written) l ++ (m ++ z))) (sym front)
             ∙ take-append-add (take (d .written) l) (m ++ z) (r .written)

@@ -4,24 +4,26 @@ use native.Mathlib.Numerals.{add-one}
 use native.Mathlib.Omega.{arith}
 use mathlib.Core.Bool.{Bool, _&&_, cond, false, true}
 use mathlib.Core.List.{List, [], _++_, _∷_, reverse, reverse-reverse, reverseAux, reverseAux-append, reverseAux-eq}
-use mathlib.Core.Logic.{_≢_, _⊎_, inl, inr, ⊎-elim}
+use mathlib.Core.Logic.{_≢_}
 use mathlib.Core.Path.{_∙_, _≡_, ap, refl, sym}
+use lib.Dec.{eqb, leb, ltb}
 use lib.ListN.{drop, getD, length, length-set, set, take}
 use lib.Seq.{length-take-le, take-all, take-length, take-suc-set, take-take}
-use Rattle.text.specs.Class.{Profile, isControl, number, other}
+use borrow.Author.Tests.{eq-eqb, eqb-true, le-ltb, lt-ltb, ltb-false, ne-eqb}
+use Rattle.text.specs.Backward.{Erased, EvenAt, Kept, back, backward, betweenIndicators, endsInPair, evenBefore, indicatorAt, withoutLast}
+use Rattle.text.specs.Class.{Profile, isControl, number}
 use Rattle.text.specs.Cluster.{Context, context, joins}
-use Rattle.text.specs.Code.{BackReady, EvenAt, EvenBetween, EvenChoice, EvenKept, Front, FrontEven, Kept, KeptEven, PairEnd, back, backward, firstSequence, loneByte, profileOf, regionalAt, size, whole, withoutLast}
+use Rattle.text.specs.Code.{firstSequence, profileOf, sequenceOf, size, whole}
 use Rattle.text.specs.Overstrike.{backspace, eraseFrom}
-use Rattle.text.specs.Places.{behind}
+use Rattle.text.specs.Overstrike.Code.{BackReady, Front, FrontEven}
+use Rattle.text.specs.Segmentation.{neverJoinsBefore}
 use Rattle.text.specs.Tests.{and-T, cases, is-true, true-T}
 use Rattle.text.specs.Utf8.{Scalar, ascii, bytesOf, decode, decodeFrom, runOf}
-use Rattle.text.specs.Utf8.Valid.{valid}
-use Rattle.text.specs.declared.overstrike.Erasure.{Erasure}
+use Rattle.text.specs.declared.backward.Erasure.{Erasure}
 use Rattle.text.specs.declared.utf8.Sequence.{Sequence}
-use Rattle.text.proofs.Ascii.{ascii-sequence, lone-low, regional-back}
-use Rattle.text.proofs.Quick.{regional-class, regional-control}
-use Rattle.text.proofs.Backward.{class-of, last-lone}
-use Rattle.text.proofs.Even.{even-front, even-more, even-zero, pair-by, pair-front, pair-odd, push-reversed}
+use Rattle.text.proofs.Ascii.{ascii-sequence, lone-low}
+use Rattle.text.proofs.BackwardWalk.{last-lone}
+use Rattle.text.proofs.Even.{even-front, even-more, even-zero, indicator-back, indicator-class, indicator-control, pair-by, pair-front, pair-odd, push-reversed}
 use Rattle.text.proofs.Runs.{back-scalar, run-drop, run-head, run-inside, size-reverse}
 use Rattle.text.proofs.Texts.{run-append, run-prefix, whole-append, whole-prefix}
 use Rattle.text.proofs.Units.{run-end}
@@ -104,53 +106,94 @@ module _ (v : code.Profile) (t : List ℕ) (w : whole t) (some : length t ≢ 0)
   P : Profile
   P = profileOf v
 
-  even-left : (left : List Scalar) (c : Scalar) (es : List Scalar) → runOf (decode t) ≡ reverseAux left (c ∷ es) → size left ≡ q → joins P left c ≡ false → 4 ≤ q → q + 4 ≤ length t
-      → regionalAt t q ≡ true → regionalAt t (q - 4) ≡ true → context P left .odd ≡ false
+  even-left : (left : List Scalar) (c : Scalar) (es : List Scalar) → runOf (decode t) ≡ reverseAux left (c ∷ es) → size left ≡ q → joins P left c ≡ false → 4 ≤ q
+      → indicatorAt (profileOf v) t q ≡ true → indicatorAt (profileOf v) t (q - 4) ≡ true → context P left .odd ≡ false
   unfolding P size
-  even-left [] c es p s j l h a b = absurd (omega arith)
-  even-left (d ∷ rest) c es p s j l h a b =
-      let x : q - 4 ≡ size rest = sym (regional-back t q (q - 4) l refl b) ∙ ap (back t) (sym s) ∙ back-scalar d rest (c ∷ es) t p in
-      let rc : number (profileOf v .class (c .code)) ≡ 10 = sym (class-of (profileOf v) t q 10 c (d ∷ rest) es p (sym s) (sym (regional-class v t q h a))) in
-      let rd : number (profileOf v .class (d .code)) ≡ 10 = sym (class-of (profileOf v) t (q - 4) 10 d rest (c ∷ es) p x (sym (regional-class v t (q - 4) (omega arith) b))) in
+  even-left [] c es p s j l a b = absurd (omega (arith, s, l))
+  even-left (d ∷ rest) c es p s j l a b =
+      let x : q - 4 ≡ size rest = sym (indicator-back (profileOf v) t (q - 4) b q l refl) ∙ ap (back t) (sym s) ∙ back-scalar d rest (c ∷ es) t p in
+      let rc : number (profileOf v .class (c .code)) ≡ 10 = indicator-class (profileOf v) t q a c (d ∷ rest) es p (sym s) in
+      let rd : number (profileOf v .class (d .code)) ≡ 10 = indicator-class (profileOf v) t (q - 4) b d rest (c ∷ es) p x in
       sym (pair-odd (profileOf v) d rest c rd rc) ∙ j
 
-  even-between : 4 ≤ q → q + 4 ≤ length t → regionalAt t q ≡ true → regionalAt t (q - 4) ≡ true → EvenAt (take q t) q
+  even-between : betweenIndicators (profileOf v) t q ≡ true → EvenAt (take q t) q
   unfolding P
-  even-between l h a b =
+  even-between h =
+      cases (ltb q 4)
+      (λ y. absurd (true-T (rw y at h)))
+      (λ y.
+      let ab = and-T (indicatorAt (profileOf v) t q) (indicatorAt (profileOf v) t (q - 4)) (true-T (rw y at h)) in
       let f = first (profileOf v) (reverse (runOf (decode t))) [] (reverse (runOf (decode t))) (runOf (decode t)) (sym (reverse-reverse (runOf (decode t)))) (rev-some t w some) in
       let left : List Scalar = withoutLast (profileOf v) (reverse (runOf (decode t))) in
-      let o : context (profileOf v) left .odd ≡ false = even-left left (f .c) (f .es) (f .parts) (sym eq) (f .begins) l h a b in
+      let o : context (profileOf v) left .odd ≡ false = even-left left (f .c) (f .es) (f .parts) (sym eq) (f .begins) (ltb-false q 4 y) (is-true _ (ab .0)) (is-true _ (ab .1)) in
       let p : runOf (decode t) ≡ reverse left ++ (f .c ∷ f .es) = f .parts ∙ reverseAux-eq left (f .c ∷ f .es) in
       let s : size (reverse left) ≡ q = size-reverse left ∙ sym eq in
       let x : runOf (decode (take q t)) ≡ reverse left = rw s at (run-prefix (reverse left) (f .c ∷ f .es) t p .0) in
-      record { rest = left; es = []; parts = x; place = sym eq; even = λ u. ap (λ (k : Context). k .odd) (same-context u v left) ∙ o }
+      record { rest = left; es = []; parts = x; place = sym eq; even = λ u. ap (λ (k : Context). k .odd) (same-context u v left) ∙ o })
 
-  pub even-choice : (i r : ℕ) → EvenAt t i → EvenChoice t q i r → EvenAt (take q t) r
-  even-choice i r e ch = ⊎-elim
-      (λ (b : EvenBetween t q r). rw (b .is) (even-between (b .low) (b .high) (b .behind) (b .before)))
-      (λ (o : EvenKept i q r ⊎ (r ≡ 0)). ⊎-elim (λ (k : EvenKept i q r). rw (k .is) (even-front t q i (k .low) e)) (λ (z : r ≡ 0). rw z (even-zero (take q t))) o)
-      (ch .choice)
+  even-choice : (i r : ℕ) → EvenAt t i → r ≡ evenBefore (profileOf v) t q i → EvenAt (take q t) r
+  even-choice i r e ch =
+      cases (ltb q i)
+      (λ l. cases (betweenIndicators (profileOf v) t q)
+      (λ b. rw (rw (l, b) at ch) (even-between b))
+      (λ b. rw (rw (l, b) at ch) (even-zero (take q t))))
+      (λ l. cases (leb (q - i) 128)
+      (λ n. rw (rw (l, n) at ch) (even-front t q i (ltb-false q i l) e))
+      (λ n. cases (betweenIndicators (profileOf v) t q)
+      (λ b. rw (rw (l, n, b) at ch) (even-between b))
+      (λ b. rw (rw (l, n, b) at ch) (even-front t q i (ltb-false q i l) e))))
 
-  pub kept-erased : (i r k : ℕ) (b : Bool) → EvenAt t i → EvenChoice t q i r → k ≡ firstSequence (decode (drop q t)) .code → b ≡ isControl k → b ≡ false → KeptEven (profileOf v) t (record { at = q; even = r })
-  kept-erased i r k b e ch read test z = record { kept = kept-place (profileOf v) t w some q eq k read b test z; even = even-choice i r e ch }
+  module _ (i : ℕ) (u : Sequence) (b p : Bool) (e : EvenAt t i) (read : u ≡ firstSequence (decode (drop q t))) (test : b ≡ isControl (u .code)) where
+    pub last-erased : (r : ℕ) → r ≡ evenBefore (profileOf v) t q i → b ≡ false → p ≡ endsInPair (profileOf v) t i → p ≡ false → Erased (profileOf v) t i (record { at = q; even = r })
+    last-erased r ch z ep np = record {
+      kept = kept-place (profileOf v) t w some q eq (u .code) (ap (λ (x : Sequence). x .code) read) b test z;
+      place = rw (ne-eqb q (length t) (λ y. omega (arith, kept-inside (profileOf v) t w some q eq, y)), sym ep ∙ np) ch;
+      even = even-choice i r e ch;
+    }
 
-  pub kept-added : (i k : ℕ) (b : Bool) → EvenAt t i → k ≡ firstSequence (decode (drop q t)) .code → b ≡ isControl k → b ≡ true → KeptEven (profileOf v) t (record { at = length t; even = i })
-  kept-added i k b e read test z = record { kept = kept-control (profileOf v) t w some q eq k read b test z; even = rw (take-length t) e }
+    pub last-added : b ≡ true → Erased (profileOf v) t i (record { at = length t; even = i })
+    last-added z = record {
+      kept = kept-control (profileOf v) t w some q eq (u .code) (ap (λ (x : Sequence). x .code) read) b test z;
+      place = rw (eq-eqb (length t) (length t) refl) refl;
+      even = rw (take-length t) e;
+    }
 
 -- a byte below 80 at the end, LF apart
-module _ (v : code.Profile) (t : List ℕ) (b : ℕ) (w : whole t) (some : length t ≢ 0) (e : b ≡ getD t (length t - 1) 0) (r : Bool) (f : r ≡ loneByte b) (z : r ≡ true) where
-  lone-code : b ≡ firstSequence (decode (drop (length t - 1) t)) .code
-  lone-code = ap (λ (u : Sequence). u .code) (ascii-sequence t (length t - 1) b (omega arith) e (lone-low b (sym f ∙ z)))
+module _ (v : code.Profile) (t : List ℕ) (b : ℕ) (w : whole t) (some : length t ≢ 0) (e : b ≡ getD t (length t - 1) 0) (r : Bool) (f : r ≡ neverJoinsBefore b) (z : r ≡ true) where
+  lone-code : sequenceOf b 1 ≡ firstSequence (decode (drop (length t - 1) t))
+  lone-code = ascii-sequence t (length t - 1) b (omega arith) e (lone-low b (sym f ∙ z))
 
-  pub lone-added : (i : ℕ) (a : Bool) → EvenAt t i → a ≡ isControl b → a ≡ true → KeptEven (profileOf v) t (record { at = length t; even = i })
-  lone-added i a ev test y = kept-added v t w some (length t - 1) (last-lone v t b r w some e f z) i b a ev lone-code test y
+  module _ (i : ℕ) (a p : Bool) (ev : EvenAt t i) (test : a ≡ isControl b) where
+    pub lone-added : a ≡ true → Erased (profileOf v) t i (record { at = length t; even = i })
+    lone-added y = last-added v t w some (length t - 1) (last-lone v t b r w some e f z) i (sequenceOf b 1) a p ev lone-code test y
 
-  pub lone-erased : (i j : ℕ) (a : Bool) → EvenAt t i → EvenChoice t (length t - 1) i j → a ≡ isControl b → a ≡ false → KeptEven (profileOf v) t (record { at = length t - 1; even = j })
-  lone-erased i j a ev ch test y = kept-erased v t w some (length t - 1) (last-lone v t b r w some e f z) i j b a ev ch lone-code test y
+    pub lone-erased : (j : ℕ) → j ≡ evenBefore (profileOf v) t (length t - 1) i → a ≡ false → p ≡ endsInPair (profileOf v) t i → p ≡ false → Erased (profileOf v) t i (record { at = length t - 1; even = j })
+    lone-erased j ch y ep np = last-erased v t w some (length t - 1) (last-lone v t b r w some e f z) i (sequenceOf b 1) a p ev lone-code test j ch y ep np
+
+-- the last two scalars
+record Pair (P : Profile) (t : List ℕ) (i : ℕ) : Type 0 where
+  long : 8 ≤ length t
+  here : i ≡ length t
+  last : indicatorAt P t (length t - 4) ≡ true
+  other : indicatorAt P t (length t - 8) ≡ true
+
+pair : (P : Profile) (t : List ℕ) (i : ℕ) → endsInPair P t i ≡ true → Pair P t i
+pair P t i e =
+    cases (ltb (length t) 8)
+    (λ n. absurd (true-T (rw n at e)))
+    (λ n. cases (eqb i (length t))
+    (λ h.
+    let w = and-T (indicatorAt P t (length t - 4)) (indicatorAt P t (length t - 8)) (true-T (rw (n, h) at e)) in
+    record { long = ltb-false (length t) 8 n; here = eqb-true i (length t) h; last = is-true _ (w .0); other = is-true _ (w .1) })
+    (λ h. absurd (true-T (rw (n, h) at e))))
+
+pub pair-long : (P : Profile) (t : List ℕ) (i : ℕ) (r : Bool) → r ≡ endsInPair P t i → r ≡ true → 8 ≤ length t
+pair-long P t i r e z = pair P t i (sym e ∙ z) .long
 
 -- a pair of regional indicators that ends in an even place
-pub kept-pair : (v : code.Profile) (t : List ℕ) (i : ℕ) → whole t → (length t ≢ 0) → EvenAt t i → PairEnd t i → KeptEven (profileOf v) t (record { at = length t - 8; even = length t - 8 })
-kept-pair v t i w some e p =
+pub pair-erased : (v : code.Profile) (t : List ℕ) (i : ℕ) (r : Bool) → whole t → (length t ≢ 0) → EvenAt t i → r ≡ endsInPair (profileOf v) t i → r ≡ true → Erased (profileOf v) t i (record { at = length t - 8; even = length t - 8 })
+pair-erased v t i r w some e f z =
+    let p = pair (profileOf v) t i (sym f ∙ z) in
     let n : EvenAt t (length t) = rw (p .here) at e in
     let es : runOf (decode (drop (size (n .rest)) t)) ≡ n .es = run-drop (n .rest) (n .es) t (n .parts) in
     let past : length t ≤ size (n .rest) = omega (arith, n .place) in
@@ -159,22 +202,23 @@ kept-pair v t i w some e p =
     let k = pair-by v t (n .rest) rev (n .place) (p .long) (p .last) (p .other) (n .even v) in
     let back-is : reverse (runOf (decode t)) ≡ n .rest = ap reverse rev ∙ reverse-reverse (n .rest) in
     let q : length t - 8 ≡ size (withoutLast (profileOf v) (reverse (runOf (decode t)))) = sym (k .place) ∙ ap size (sym (k .without)) ∙ ap (λ (x : List Scalar). size (withoutLast (profileOf v) x)) (sym back-is) in
-    let ctl = regional-control t (length t - 8) (omega (arith, p .long)) (p .other) in
+    let ctl = indicator-control v t (length t - 8) (p .other) in
     let c = kept-place (profileOf v) t w some (length t - 8) q (firstSequence (decode (drop (length t - 8) t)) .code) refl false ctl refl in
     let x : runOf (decode (take (length t - 8) t)) ≡ reverse (k .left) = pair-front v t (n .rest) (length t - 8) rev k in
-    record { kept = c; even = record { rest = k .left; es = []; parts = x; place = k .place; even = λ u. ap (λ (y : Context). y .odd) (same-context u v (k .left)) ∙ k .before } }
+    record { kept = c; place = rw (ne-eqb (length t - 8) (length t) (λ y. omega (arith, p .long, y)), sym f ∙ z) refl; even = record { rest = k .left; es = []; parts = x; place = k .place; even = λ u. ap (λ (y : Context). y .odd) (same-context u v (k .left)) ∙ k .before } }
 
 pub kept-empty : (P : Profile) (t : List ℕ) → length t ≡ 0 → Kept P t 0
 unfolding backward backspace eraseFrom runOf decode decodeFrom
 kept-empty P [] h = record { inside = omega arith; erased = λ h. absurd (omega arith); added = λ h. refl }
 kept-empty P (b ∷ t) h = absurd (omega arith)
 
-pub kept-nothing : (P : Profile) (t : List ℕ) → length t ≡ 0 → KeptEven P t (record { at = 0; even = 0 })
-kept-nothing P t h = record { kept = kept-empty P t h; even = even-zero (take 0 t) }
+pub nothing-erased : (P : Profile) (t : List ℕ) (i : ℕ) → length t ≡ 0 → EvenAt t i → Erased P t i (record { at = 0; even = i })
+nothing-erased P [] i h e = record { kept = kept-empty P [] h; place = refl; even = e }
+nothing-erased P (b ∷ t) i h e = absurd (omega arith)
 
 -- ---- in a buffer
 
-pub erase-back : (P : Profile) (l : List ℕ) (len i : ℕ) (k : Erasure) → BackReady l len i → KeptEven P (take len l) k → k .at < len → FrontEven l k (backspace P (backward (take len l)))
+pub erase-back : (P : Profile) (l : List ℕ) (len i : ℕ) (k : Erasure) → BackReady l len i → Erased P (take len l) i k → k .at < len → FrontEven l k (backspace P (backward (take len l)))
 erase-back P l len i k h w m =
     let n : length (take len l) ≡ len = length-take-le len l (omega (arith, h .room)) in
     let e = w .kept .erased (rw n m) in
@@ -197,7 +241,7 @@ backspace-alone : runOf (decode (0x08 ∷ [])) ≡ ascii 0x08 ∷ []
 unfolding runOf decode
 backspace-alone = refl
 
-pub erase-add : (P : Profile) (l : List ℕ) (len i : ℕ) (k : Erasure) → BackReady l len i → KeptEven P (take len l) k → len ≤ k .at → FrontEven (set l len 0x08) (record { at = len + 1; even = k .even }) (backspace P (backward (take len l)))
+pub erase-add : (P : Profile) (l : List ℕ) (len i : ℕ) (k : Erasure) → BackReady l len i → Erased P (take len l) i k → len ≤ k .at → FrontEven (set l len 0x08) (record { at = len + 1; even = k .even }) (backspace P (backward (take len l)))
 unfolding backward
 erase-add P l len i k h w m =
     let n : length (take len l) ≡ len = length-take-le len l (omega (arith, h .room)) in
@@ -212,27 +256,18 @@ erase-add P l len i k h w m =
 
 -- ---- the tests
 
-pub pair-no : (t : List ℕ) (i : ℕ) → false ≡ true → PairEnd t i
-pair-no t i e = let z : _≡_ {A = ℕ} 0 1 = cc in absurd (omega arith)
+module _ (P : Profile) (t : List ℕ) where
+  pub pair-short : (i : ℕ) → length t < 8 → false ≡ endsInPair P t i
+  pair-short i h = rw (lt-ltb (length t) 8 h) refl
 
-pub pair-yes : (t : List ℕ) (i : ℕ) (a b : Bool) → 8 ≤ length t → i ≡ length t → a ≡ regionalAt t (length t - 4) → b ≡ regionalAt t (length t - 8) → (a && b) ≡ true → PairEnd t i
-pair-yes t i a b h e f g z =
-    let p = and-T a b (true-T z) in
-    record { long = h; here = e; last = sym f ∙ is-true a (p .0); other = sym g ∙ is-true b (p .1) }
+  pub pair-elsewhere : (i : ℕ) → 8 ≤ length t → (i ≢ length t) → false ≡ endsInPair P t i
+  pair-elsewhere i h n = rw (le-ltb (length t) 8 h, ne-eqb i (length t) n) refl
 
-pub choose-none : (t : List ℕ) (q i : ℕ) → EvenChoice t q i 0
-choose-none t q i = record { choice = inr (inr refl) }
+  pub pair-tells : (i : ℕ) (a b : Bool) → 8 ≤ length t → i ≡ length t → a ≡ indicatorAt P t (length t - 4) → b ≡ indicatorAt P t (length t - 8) → (a && b) ≡ endsInPair P t i
+  pair-tells i a b h e f g = rw (le-ltb (length t) 8 h, eq-eqb i (length t) e, f, g) refl
 
-pub choose-kept : (t : List ℕ) (q i : ℕ) → i ≤ q → EvenChoice t q i i
-choose-kept t q i h = record { choice = inr (inl (record { is = refl; low = h })) }
+  pub between-low : (q : ℕ) → q < 4 → false ≡ betweenIndicators P t q
+  between-low q h = rw (lt-ltb q 4 h) refl
 
-pub choose-between : (t : List ℕ) (q i : ℕ) → EvenBetween t q q → EvenChoice t q i q
-choose-between t q i b = record { choice = inl b }
-
-pub between-no : (t : List ℕ) (q : ℕ) → false ≡ true → EvenBetween t q q
-between-no t q e = let z : _≡_ {A = ℕ} 0 1 = cc in absurd (omega arith)
-
-pub between-yes : (t : List ℕ) (q : ℕ) (a b : Bool) → 4 ≤ q → q + 4 ≤ length t → a ≡ regionalAt t q → b ≡ regionalAt t (q - 4) → (a && b) ≡ true → EvenBetween t q q
-between-yes t q a b l h f g z =
-    let p = and-T a b (true-T z) in
-    record { is = refl; low = l; high = h; behind = sym f ∙ is-true a (p .0); before = sym g ∙ is-true b (p .1) }
+  pub between-tells : (q : ℕ) (a b : Bool) → 4 ≤ q → a ≡ indicatorAt P t q → b ≡ indicatorAt P t (q - 4) → (a && b) ≡ betweenIndicators P t q
+  between-tells q a b h f g = rw (le-ltb q 4 h, f, g) refl

@@ -1,24 +1,80 @@
 -- Places at which an even number of regional indicators ends: what keeps them, and the pair that ends at one.
-use Prim.Native.Nat.{_-_, _≤_, ℕ}
+use Prim.Native.Nat.{_+_, _-_, _/_, _%_, _≤_, ℕ}
+use native.Mathlib.Nat.{add-zero}
 use native.Mathlib.Omega.{arith}
 use mathlib.Core.Bool.{Bool, _||_, and-false, false, not, true}
 use mathlib.Core.List.{List, [], _++_, _∷_, append-assoc, reverse, reverse-append, reverse-reverse, reverseAux, reverseAux-eq}
+use mathlib.Core.Logic.{⊎-elim}
 use mathlib.Core.Path.{_∙_, _≡_, ap, ap₂, refl, sym}
-use lib.Dec.{eqb}
+use lib.Dec.{T, eqb, leb}
 use lib.ListN.{drop, length, take, take-append-drop}
-use lib.Seq.{take-take}
-use Rattle.text.specs.Class.{Profile, among, number}
+use lib.Seq.{getD-drop, take-take}
+use borrow.Author.Tests.{eqb-true, leb-false, leb-true}
+use Rattle.text.specs.Backward.{EvenAt, back, indicatorAt, withoutLast}
+use Rattle.text.specs.Class.{Profile, among, class01, inAny, isControl, number}
 use Rattle.text.specs.Cluster.{Context, classOf, context, joined, joins}
-use Rattle.text.specs.Code.{EvenAt, Left, back, flip, profileOf, regionalAt, size, withoutLast}
+use Rattle.text.specs.Code.{firstSequence, profileOf, size}
 use Rattle.text.specs.Overstrike.{push}
+use Rattle.text.specs.Scalar.{packedAt}
+use Rattle.text.specs.Scalar.Laws.{NoScalar, PackedScalar, packed-inside, packed-view}
 use Rattle.text.specs.Tests.{cases}
-use Rattle.text.specs.Utf8.{Scalar, bytesOf, decode, runOf}
-use Rattle.text.proofs.Ascii.{regional-back}
-use Rattle.text.proofs.Quick.{regional-class}
-use Rattle.text.proofs.Backward.{class-of, flip-false, odd-ri}
-use Rattle.text.proofs.Runs.{back-scalar, size-reverse}
+use Rattle.text.specs.TextParts.{textAt}
+use Rattle.text.specs.Utf8.{Scalar, bytesOf, decode, runOf, sequence, to}
+use Rattle.text.proofs.Ascii.{clear, clear-any, each-at, eachFrom}
+use Rattle.text.proofs.BackwardWalk.{Left, class-of, flip, flip-false, joined-indicators, odd-ri}
+use Rattle.text.proofs.Runs.{Head, back-scalar, run-head, size-reverse}
+use Rattle.text.proofs.Tails.{back-to, seq-lead, seq-tails}
 use Rattle.text.proofs.Texts.{run-append, run-prefix}
 use Rattle.text.specs.declared.class.Profile as code
+
+-- ---- a regional indicator at a place
+
+-- no control is one
+control-kind : ℕ → Bool
+control-kind x = not (isControl x) || leb (number (class01 x)) 2
+
+control-kinds : T (eachFrom 0 160 control-kind)
+unfolding eachFrom control-kind isControl number class01
+control-kinds = tt
+
+indicator-code : (v : code.Profile) (x : ℕ) → number (profileOf v .class x) ≡ 10 → isControl x ≡ false
+unfolding profileOf control-kind isControl clear
+indicator-code v x e =
+    cases (leb x 0x9F)
+    (λ l.
+    cases (inAny (to 0x00 0x1F ∷ to 0x7F 0x9F ∷ []) x)
+    (λ t.
+    let k : leb (number (class01 x)) 2 ≡ true = rw t at (each-at 160 0 x control-kind control-kinds (omega arith) (omega (arith, leb-true x 0x9F l))) in
+    absurd (omega (arith, leb-true (number (class01 x)) 2 k, e)))
+    (λ f. f))
+    (λ l. clear-any (to 0x00 0x1F ∷ to 0x7F 0x9F ∷ []) 0xA0 x x tt (omega (arith, leb-false x 0x9F l)) (omega arith))
+
+module _ (P : Profile) (t : List ℕ) (j : ℕ) (e : indicatorAt P t j ≡ true) where
+  reads : 212 ≡ packedAt P t j
+  reads = sym (eqb-true (packedAt P t j) 212 e)
+
+  there : PackedScalar P t j 212
+  there = ⊎-elim
+      (λ (n : NoScalar t j 212). absurd (omega (arith, n .zero)))
+      (λ (x : PackedScalar P t j 212). x)
+      (packed-view P t j 212 (packed-inside P t j 212 reads (λ z. omega (arith, z))) reads)
+
+  head : Head (drop j t) (there .c) (textAt t (j + 212 % 8))
+  head = run-head (drop j t) (there .c) (textAt t (j + 212 % 8)) (there .run)
+
+  -- it begins four bytes before its end
+  pub indicator-back : (i : ℕ) → 4 ≤ i → j ≡ i - 4 → back t i ≡ j
+  indicator-back i h k =
+      let s : sequence (drop j t) ≡ 4 = head .seq ∙ there .len in
+      back-to 3 t j 4 i (omega (arith, h, k)) (omega arith) (rw (getD-drop, add-zero) at (seq-lead (drop j t) 3 s)) (λ m l. rw getD-drop at (seq-tails (drop j t) m 4 s l))
+
+  pub indicator-class : (d : Scalar) (rest es : List Scalar) → runOf (decode t) ≡ reverseAux rest (d ∷ es) → j ≡ size rest → number (P .class (d .code)) ≡ 10
+  indicator-class d rest es p q = sym (class-of P t j 10 d rest es p q (ap (λ (n : ℕ). n / 8 % 16) reads))
+
+pub indicator-control : (v : code.Profile) (t : List ℕ) (j : ℕ) → indicatorAt (profileOf v) t j ≡ true → false ≡ isControl (firstSequence (decode (drop j t)) .code)
+indicator-control v t j e = sym (ap isControl (head (profileOf v) t j e .coded) ∙ indicator-code v (there (profileOf v) t j e .c .code) (there (profileOf v) t j e .class))
+
+-- ---- even places
 
 context-none : (P : Profile) → context P [] .odd ≡ false
 unfolding context
@@ -77,10 +133,6 @@ odd-even v t i odd total even e z l =
 
 -- ---- two regional indicators
 
-joined-indicators : (k : Context) → joined 10 k 10 ≡ k .odd
-unfolding joined among number
-joined-indicators k = cases (k .odd) (λ e. rw e refl) (λ e. rw e refl)
-
 -- an indicator behind an even number of them begins a cluster
 joined-even : (p : ℕ) (k : Context) → k .odd ≡ false → joined p k 10 ≡ false
 unfolding joined among number
@@ -117,19 +169,19 @@ pub record Pair (v : code.Profile) (rev : List Scalar) (q : ℕ) : Type 0 where
   pub parts : (es : List Scalar) × (reverseAux rev [] ≡ reverseAux left es)
   pub before : context (profileOf v) left .odd ≡ false
 
-pub pair-by : (v : code.Profile) (t : List ℕ) (rev : List Scalar) → runOf (decode t) ≡ reverseAux rev [] → size rev ≡ length t → 8 ≤ length t → regionalAt t (length t - 4) ≡ true → regionalAt t (length t - 8) ≡ true
+pub pair-by : (v : code.Profile) (t : List ℕ) (rev : List Scalar) → runOf (decode t) ≡ reverseAux rev [] → size rev ≡ length t → 8 ≤ length t → indicatorAt (profileOf v) t (length t - 4) ≡ true → indicatorAt (profileOf v) t (length t - 8) ≡ true
     → context (profileOf v) rev .odd ≡ false → Pair v rev (length t - 8)
 unfolding size withoutLast
 pair-by v t [] e s h a b o = absurd (omega arith)
 pair-by v t (c ∷ []) e s h a b o =
-    let x : length t - 4 ≡ 0 = sym (regional-back t (length t) (length t - 4) (omega arith) refl a) ∙ ap (back t) (sym s) ∙ back-scalar c [] [] t e in
+    let x : length t - 4 ≡ 0 = sym (indicator-back (profileOf v) t (length t - 4) a (length t) (omega arith) refl) ∙ ap (back t) (sym s) ∙ back-scalar c [] [] t e in
     absurd (omega arith)
 pair-by v t (c ∷ d ∷ rest) e s h a b o =
     let P : Profile = profileOf v in
-    let x : length t - 4 ≡ size (d ∷ rest) = sym (regional-back t (length t) (length t - 4) (omega arith) refl a) ∙ ap (back t) (sym s) ∙ back-scalar c (d ∷ rest) [] t e in
-    let y : length t - 8 ≡ size rest = sym (regional-back t (length t - 4) (length t - 8) (omega arith) (omega arith) b) ∙ ap (back t) x ∙ back-scalar d rest (c ∷ []) t e in
-    let rc : number (P .class (c .code)) ≡ 10 = sym (class-of P t (length t - 4) 10 c (d ∷ rest) [] e x (sym (regional-class v t (length t - 4) (omega arith) a))) in
-    let rd : number (P .class (d .code)) ≡ 10 = sym (class-of P t (length t - 8) 10 d rest (c ∷ []) e y (sym (regional-class v t (length t - 8) (omega arith) b))) in
+    let x : length t - 4 ≡ size (d ∷ rest) = sym (indicator-back (profileOf v) t (length t - 4) a (length t) (omega arith) refl) ∙ ap (back t) (sym s) ∙ back-scalar c (d ∷ rest) [] t e in
+    let y : length t - 8 ≡ size rest = sym (indicator-back (profileOf v) t (length t - 8) b (length t - 4) (omega arith) (omega arith)) ∙ ap (back t) x ∙ back-scalar d rest (c ∷ []) t e in
+    let rc : number (P .class (c .code)) ≡ 10 = indicator-class P t (length t - 4) a c (d ∷ rest) [] e x in
+    let rd : number (P .class (d .code)) ≡ 10 = indicator-class P t (length t - 8) b d rest (c ∷ []) e y in
     let o₁ : context P (d ∷ rest) .odd ≡ true = flip-even _ (sym (odd-ri P c (d ∷ rest) rc) ∙ o) in
     let o₂ : context P rest .odd ≡ false = not-odd _ (sym (odd-ri P d rest rd) ∙ o₁) in
     let j₁ : joins P (d ∷ rest) c ≡ true = pair-joins P d rest c rd rc o₁ in

@@ -4,122 +4,47 @@ use native.Mathlib.Nat.{add-assoc, add-zero}
 use native.Mathlib.Omega.{arith}
 use mathlib.Core.Bool.{Bool, _&&_, _||_, and-false, cond, false, not, true}
 use mathlib.Core.List.{List, [], _∷_}
-use mathlib.Core.Logic.{_⊎_, inl, inr, ⊎-elim}
+use mathlib.Core.Logic.{_≢_, _⊎_, inl, inr, ⊎-elim}
 use mathlib.Core.Path.{_∙_, _≡_, ap, refl, sym}
-use lib.Dec.{T, eqb, eqb→eq, leb, leb→le, ltb}
+use lib.Dec.{T, eqb, eqb→eq, leb, leb→le, ltb, ltb→lt}
 use lib.ListN.{List·getD-eq-default, drop, getD, length, length-drop, take}
-use borrow.Author.Tests.{eq-eqb, eqb-false, eqb-true, ltb-false, ltb-true, ne-eqb}
+use borrow.Author.Tests.{eq-eqb, eqb-false, eqb-true, le-ltb, ltb-false, ltb-true, ne-eqb, not-true}
 use Rattle.text.specs.Class.{Class, Profile, among, classL, classLV, classLVT, classT, classV, control, cr, extend, lf, number, other, regionalIndicator, zwj}
-use Rattle.text.specs.Cluster.{after, classOf, clusters, context, joined, joins, start}
+use Rattle.text.specs.Cluster.{Context, after, classOf, clusters, context, joined, joins, start}
 use Rattle.text.specs.Cluster.Laws.{clusters-first, further}
-use Rattle.text.specs.Code.{contextOf, firstOf, firstSequence, printable, profileOf, size}
+use Rattle.text.specs.Code.{firstOf, firstSequence, firstSize, printable, profileOf, size, sequenceOf}
+use Rattle.text.specs.Rules.{contextOf}
 use Rattle.text.specs.Code.Laws.{none-at, none-past, plain-cluster, plain-width, run-fits, run-valid, scalar-at, width-size, width-two}
 use Rattle.text.specs.Each.{All, all-split}
-use Rattle.text.specs.Segmentation.{NextCluster, NextClusterReady, moreOf, packedAt, stateAfter, stateContext}
-use Rattle.text.specs.Segmentation.Laws.{packed-past}
-use Rattle.text.specs.Tests.{and-T, cases, is-true, true-T}
+use Rattle.text.specs.Rules.{stateAfter, stateContext}
+use Rattle.text.specs.Scalar.{packedAt}
+use Rattle.text.specs.Segmentation.{NextCluster, NextClusterReady, moreOf, neverJoinsBefore, oneByteCluster}
+use Rattle.text.specs.Scalar.Laws.{NoScalar, PackedScalar, number-le, packed-past, packed-view}
+use Rattle.text.specs.Tests.{and-T, cases, is-true, or-T, true-T}
 use Rattle.text.specs.TextParts.{Measured, column, place, textAt}
 use Rattle.text.specs.TextParts.Laws.{first-all}
 use Rattle.text.specs.Utf8.{Range, Scalar, ascii, decode, decodeFrom, fits, lengthIn, sequence, table}
 use Rattle.text.specs.Utf8.Valid.{Valid}
 use Rattle.text.specs.Width.{profile01, widthOf}
-use Rattle.text.proofs.Ascii.{alone-numbers, each-at, eachFrom, other-alone}
+use Rattle.text.specs.Code.Boundaries.{alone-numbers}
+use Rattle.text.proofs.Ascii.{apart, ascii-sequence, breaks, each-at, eachFrom, lone, lone-low, other-alone}
 use Rattle.text.proofs.Branch.{in-range, met, on-false, on-true}
 use Rattle.text.proofs.PackedScalars.{first-packed, printable-one}
-use Rattle.text.proofs.Units.{first-by}
+use Rattle.text.proofs.Units.{first-by, run-good, run-size, scalarAt}
+use Rattle.text.specs.declared.segmentation.ClusterStep.{ClusterStep}
 use Rattle.text.specs.declared.class.Profile as code
 use Rattle.text.specs.declared.utf8.Sequence.{Sequence}
 
--- ---- bounds
-
-short : List (List Range) → Bool
-short [] = true
-short (r ∷ rs) = leb (length r) 4 && short rs
-
-short-table : T (short table)
-unfolding short table
-short-table = tt
-
-in-short : (rows : List (List Range)) (s : List ℕ) → T (short rows) → lengthIn rows s ≤ 4
-unfolding short lengthIn
-in-short [] s t = omega arith
-in-short (r ∷ rs) s t =
-    let q = and-T (leb (length r) 4) (short rs) t in
-    cases (fits r s) (λ e. rw e (leb→le _ _ (q .0))) (λ e. rw e (in-short rs s (q .1)))
-
-len-le : (s : List ℕ) → firstSequence (decode s) .len ≤ 4
-unfolding firstSequence decode decodeFrom sequence
-len-le [] = omega arith
-len-le (b ∷ s) = rw (first-by b s (sequence (b ∷ s)) refl) (in-short table (b ∷ s) short-table)
-
-number-le : (c : Class) → number c ≤ 11
-unfolding number
-number-le cr = omega arith
-number-le lf = omega arith
-number-le control = omega arith
-number-le extend = omega arith
-number-le zwj = omega arith
-number-le classL = omega arith
-number-le classV = omega arith
-number-le classT = omega arith
-number-le classLV = omega arith
-number-le classLVT = omega arith
-number-le regionalIndicator = omega arith
-number-le other = omega arith
+-- ---- a packed scalar
 
 pub class-small : (P : Profile) (x k : ℕ) → k ≡ number (P .class x) → k ≤ 11
 class-small P x k e = rw e (number-le (P .class x))
 
--- ---- a packed scalar
-
-record Some (P : Profile) (s : List ℕ) (p v : ℕ) : Type 0 where
-  c : Scalar
-  run : textAt s p ≡ c ∷ textAt s (p + v % 8)
-  class : classOf P c ≡ v / 8 % 16
-  len : length (c .bytes) ≡ v % 8
-  columns : P .width (c .code) ≡ v / 128
-  some : 1 ≤ v % 8
-  room : p + v % 8 ≤ length s
-
-record None (s : List ℕ) (p v : ℕ) : Type 0 where
-  run : textAt s p ≡ []
-  zero : v ≡ 0
-
-rest-of : (k w : ℕ) → k ≤ 11 → (k + 16 * w) % 16 ≡ k
-rest-of k w g = omega (arith, g)
-
-view : (P : Profile) (s : List ℕ) (p v : ℕ) → p < length s → v ≡ packedAt P s p → None s p v ⊎ Some P s p v
-unfolding packedAt
-view P s p v here read =
-    let q : Sequence = firstSequence (decode (drop p s)) in
-    let k : ℕ = number (P .class (q .code)) in
-    let w : ℕ = P .width (q .code) in
-    let h : q .len ≤ 4 = len-le (drop p s) in
-    let g : k ≤ 11 = number-le (P .class (q .code)) in
-    cases (eqb (q .len) 0)
-    (λ e. inl (record { run = none-at s p q here refl (eqb-true (q .len) 0 e); zero = rw e at read }))
-    (λ e.
-    let z = scalar-at s p q here refl (eqb-false (q .len) 0 e) in
-    let r : v ≡ q .len + 8 * (k + 16 * w) = rw e at read in
-    let n : v % 8 ≡ q .len = omega (arith, r, h) in
-    let y : v / 8 ≡ k + 16 * w = omega (arith, r, h) in
-    let d : v / 8 % 16 ≡ k = rw y (rest-of k w g) in
-    let x : v / 128 ≡ w = omega (arith, r, h, g) in
-    inr (record {
-      c = z .scalar;
-      run = rw n (z .run);
-      class = ap (λ (y : ℕ). number (P .class y)) (z .code) ∙ sym d;
-      len = z .len ∙ sym n;
-      columns = ap (P .width) (z .code) ∙ sym x;
-      some = rw n (z .some);
-      room = rw n (z .fits);
-    }))
-
 pub class-le : (P : Profile) (s : List ℕ) (p v : ℕ) → p < length s → v ≡ packedAt P s p → v / 8 % 16 ≤ 11
 class-le P s p v here read = ⊎-elim
-    (λ (n : None s p v). rw (n .zero) (omega arith))
-    (λ (x : Some P s p v). rw (← x .class) (number-le (P .class (x .c .code))))
-    (view P s p v here read)
+    (λ (n : NoScalar s p v). rw (n .zero) (omega arith))
+    (λ (x : PackedScalar P s p v). rw (← x .class) (number-le (P .class (x .c .code))))
+    (packed-view P s p v here read)
 
 -- ---- the rules, by the class of the next scalar
 
@@ -238,16 +163,16 @@ module _ (f : code.Profile) where
 
   pub width-room : (s : List ℕ) (p v : ℕ) → p < length s → v ≡ packedAt P s p → (v / 128 ≤ 2 * (v % 8)) × (p + v % 8 ≤ length s)
   width-room s p v here read = ⊎-elim
-      (λ (n : None s p v). rw (n .zero) (omega arith, omega arith))
-      (λ (x : Some P s p v). (omega (arith, x .some, width-two f (x .c .code) (v / 128) (sym (x .columns))), x .room))
-      (view P s p v here read)
+      (λ (n : NoScalar s p v). rw (n .zero) (omega arith, omega arith))
+      (λ (x : PackedScalar P s p v). (omega (arith, x .some, width-two f (x .c .code) (v / 128) (sym (x .columns))), x .room))
+      (packed-view P s p v here read)
 
   pub walk-begin : (s : List ℕ) (at u : ℕ) → NextClusterReady P s at u → Walking P s at (at + u % 8) (u / 128) (u / 8 % 16)
   unfolding moreOf size widthOf
   walk-begin s at u h =
       let b = width-room s at u (h .inside) (h .scalar) in
       ⊎-elim
-      (λ (n : None s at u). record {
+      (λ (n : NoScalar s at u). record {
         here = h .inside;
         class = class-le P s at u (h .inside) (h .scalar);
         inside = b .1;
@@ -255,7 +180,7 @@ module _ (f : code.Profile) where
         ends = rw (n .zero, add-zero at, n .run, no-first P) refl;
         widths = rw (n .zero, add-zero at, n .run, no-first P) refl;
       })
-      (λ (x : Some P s at u).
+      (λ (x : PackedScalar P s at u).
       let rest : List Scalar = textAt s (at + u % 8) in
       let e : firstAt P s at ≡ x .c ∷ moreOf P (u / 8 % 16) (stateContext (u / 8 % 16)) rest = ap (λ (l : List Scalar). firstOf (clusters P l)) (x .run) ∙ first-more P (x .c) rest ∙ rw (x .class, more-state P 0 (u / 8 % 16) rest) refl in
       record {
@@ -266,7 +191,7 @@ module _ (f : code.Profile) where
         ends = rw (e, x .len) (sym (add-assoc at (u % 8) _));
         widths = rw (e, x .columns) refl;
       })
-      (view P s at u (h .inside) (h .scalar))
+      (packed-view P s at u (h .inside) (h .scalar))
 
   -- the end of what is left
   walk-stop : (s : List ℕ) (at p w state v : ℕ) → Walking P s at p w state → moreOf P state (stateContext state) (textAt s p) ≡ [] → v ≡ packedAt P s p
@@ -287,15 +212,15 @@ module _ (f : code.Profile) where
     unfolding moreOf
     walk-boundary t =
         walk-stop s at p w state v h
-        (⊎-elim (λ (n : None s p v). rw (n .run) refl) (λ (x : Some P s p v). rw (x .run, x .class, sym rr ∙ t) refl) (view P s p v here read))
+        (⊎-elim (λ (n : NoScalar s p v). rw (n .run) refl) (λ (x : PackedScalar P s p v). rw (x .run, x .class, sym rr ∙ t) refl) (packed-view P s p v here read))
         read
 
-    some-at : r ≡ true → Some P s p v
+    some-at : r ≡ true → PackedScalar P s p v
     unfolding among number
     some-at t = ⊎-elim
-        (λ (n : None s p v). absurd (no-both r t (rr ∙ rw (n .zero) (alone-numbers state (stateContext state) 0 refl))))
-        (λ (x : Some P s p v). x)
-        (view P s p v here read)
+        (λ (n : NoScalar s p v). absurd (no-both r t (rr ∙ rw (n .zero) (alone-numbers state (stateContext state) 0 refl))))
+        (λ (x : PackedScalar P s p v). x)
+        (packed-view P s p v here read)
 
     pub walk-room : r ≡ true → (p + v % 8 ≤ length s) × (1 ≤ v % 8)
     walk-room t = let x = some-at t in (x .room, x .some)
@@ -328,5 +253,65 @@ module _ (f : code.Profile) where
       let v : 217 ≡ packedAt P s (at + 1) = first-packed P s (at + 1) b 217 l eb (omega (arith, w .1)) (printable-one f b tb) in
       let g : Walking P s at (at + 1) 1 11 = rw e at (walk-begin s at u h) in
       walk-boundary s at (at + 1) 1 11 u l (rw e v) g false (rw e (sym (alone-numbers 11 (stateContext 11) 11 other-alone))) refl
+
+-- ---- the end of a cluster
+
+pub not-one-byte : (s : List ℕ) (p : ℕ) → 0x80 ≤ getD s p 0 → false ≡ oneByteCluster s p
+not-one-byte s p h = rw (le-ltb (getD s p 0) 0x20 (omega (arith, h)), le-ltb (getD s p 0) 0x80 h) refl
+
+-- nothing joins what is not to be joined
+more-none : (P : Profile) (cs : List Scalar) (prev : ℕ) (k : Context) → ((c : ℕ) → joined prev k c ≡ false) → moreOf P prev k cs ≡ []
+unfolding moreOf
+more-none P [] prev k g = refl
+more-none P (c ∷ cs) prev k g = rw (g (classOf P c)) refl
+
+-- a byte below 80 that joins nothing before it ends a cluster there
+more-ascii : (P : Profile) (s : List ℕ) (p prev : ℕ) (k : Context) → joined prev k (number (P .class (getD s p 0))) ≡ false → getD s p 0 < 128 → moreOf P prev k (textAt s p) ≡ []
+unfolding moreOf
+more-ascii P s p prev k g l =
+    cases (ltb p (length s))
+    (λ e.
+    let h : p < length s = ltb-true p (length s) e in
+    let r = run-good s p (sequenceOf (getD s p 0) 1) h (ascii-sequence s p (getD s p 0) h refl l) (λ z. absurd (omega (arith, z))) in
+    rw (r, g) refl)
+    (λ e. rw (none-past s p (ltb-false p (length s) e)) refl)
+
+-- a byte below 80 that nothing joins
+first-byte : (P : Profile) (s : List ℕ) (p a : ℕ) → p < length s → a ≡ getD s p 0 → a < 128 → moreOf P (number (P .class a)) (after start (number (P .class a))) (textAt s (p + 1)) ≡ [] → p + 1 ≡ p + firstSize P (textAt s p)
+unfolding firstSize size
+first-byte P s p a here e l m =
+    let one : sequenceOf a 1 ≡ firstSequence (decode (drop p s)) = ascii-sequence s p a here e l in
+    let r : textAt s p ≡ scalarAt p a 1 s ∷ textAt s (p + 1) = run-good s p (sequenceOf a 1) here one (λ z. absurd (omega (arith, z))) in
+    let n : length (take 1 (drop p s)) ≡ 1 = run-size s p (sequenceOf a 1) here one (λ z. absurd (omega (arith, z))) in
+    sym (rw (r, first-more P (scalarAt p a 1 s) (textAt s (p + 1)), m, n) refl)
+
+module _ (v : code.Profile) (s : List ℕ) (p : ℕ) (here : p < length s) where
+  pub one-byte : (r : Bool) → r ≡ oneByteCluster s p → r ≡ true → p + 1 ≡ p + firstSize (profileOf v) (textAt s p)
+  one-byte r e t =
+      let P : Profile = profileOf v in
+      let a : ℕ = getD s p 0 in
+      let c : ℕ = number (P .class a) in
+      let q = and-T (ltb a 0x20 || (ltb a 0x80 && ltb (getD s (p + 1) 0) 0x80)) (not (eqb a 0x0D)) (true-T (sym e ∙ t)) in
+      let n : a ≢ 13 = eqb-false _ _ (not-true _ (is-true _ (q .1))) in
+      or-T (ltb a 0x20) _ (q .0)
+      (λ f. let l : a < 0x20 = ltb→lt _ _ f in first-byte P s p a here refl (omega (arith, l)) (more-none P (textAt s (p + 1)) c (after start c) (λ d. breaks v a (after start c) d l n)))
+      (λ f.
+      let w = and-T (ltb a 0x80) (ltb (getD s (p + 1) 0) 0x80) f in
+      let l : a < 128 = ltb→lt _ _ (w .0) in
+      let m : getD s (p + 1) 0 < 128 = ltb→lt _ _ (w .1) in
+      first-byte P s p a here refl l (more-ascii P s (p + 1) c (after start c) (apart v a (getD s (p + 1) 0) (after start c) l m n) m))
+
+  -- a byte below 80, LF apart, behind the first scalar
+  pub one-scalar : (u b : ℕ) (r : Bool) → u ≡ packedAt (profileOf v) s p → b ≡ getD s (p + u % 8) 0 → r ≡ neverJoinsBefore b → r ≡ true → p + u % 8 ≡ p + firstSize (profileOf v) (textAt s p)
+  unfolding firstSize size
+  one-scalar u b r read e f t =
+      let w = walk-begin v s p u (record { inside = here; scalar = read }) in
+      let l : neverJoinsBefore b ≡ true = sym f ∙ t in
+      let m : moreOf (profileOf v) (u / 8 % 16) (stateContext (u / 8 % 16)) (textAt s (p + u % 8)) ≡ [] = more-ascii (profileOf v) s (p + u % 8) (u / 8 % 16) (stateContext (u / 8 % 16)) (alone-numbers (u / 8 % 16) (stateContext (u / 8 % 16)) _ (rw e at (lone v b l))) (rw e at (lone-low b l)) in
+      sym (rw (m, add-zero) at (w .ends))
+
+  pub walked : (r : ClusterStep) → NextCluster (profileOf v) s p r → r .part .end .0 ≡ p + firstSize (profileOf v) (textAt s p)
+  unfolding firstSize
+  walked r n = n .part .end
 
 pub ruleset rules = (rule-is, on-false, on-true, met, eq-eqb, ne-eqb)

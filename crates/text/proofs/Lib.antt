@@ -5,15 +5,13 @@ pub mod Runs
 pub mod AsciiRuns
 pub mod Ascii
 pub mod Leads
-pub mod Walks
 pub mod PackedScalars
 pub mod ForwardWalk
-pub mod Backward
+pub mod BackwardWalk
 pub mod Texts
 pub mod Even
 pub mod Erasing
 pub mod Pushing
-pub mod Quick
 pub mod Steps
 pub mod Converting
 pub mod Calling

@@ -1,21 +1,20 @@
 -- A packed scalar by its value, ranges computed whole, and by its bytes.
 use Prim.Native.Nat.{_%_, _*_, _+_, _-_, _<_, _≤_, ℕ}
 use native.Mathlib.Omega.{arith}
-use mathlib.Core.Bool.{Bool, _&&_, _||_, and-false, false, true}
+use mathlib.Core.Bool.{Bool, _&&_, _||_, false, true}
 use mathlib.Core.List.{List}
 use mathlib.Core.Logic.{_≢_}
-use mathlib.Core.Path.{_∙_, _≡_, ap, refl, sym}
-use lib.Dec.{T, eqb, leb, ltb}
+use mathlib.Core.Path.{_≡_, ap, refl, sym}
+use lib.Dec.{T, eqb, leb}
 use lib.ListN.{getD, length}
-use borrow.Author.Tests.{eq-eqb, eqb-true, le-leb, leb-false, leb-true, lt-leb, ne-eqb}
+use borrow.Author.Tests.{eq-eqb, eqb-true, ne-eqb}
 use Rattle.text.specs.Class.{Profile, class01, controls, extends, number}
-use Rattle.text.specs.Code.{fourBytes, isTail, profileOf, threeBytes, twoBytes}
-use Rattle.text.specs.Segmentation.{packed, packedAs, packedAt}
-use Rattle.text.specs.Tests.{cases}
+use Rattle.text.specs.Code.{fourBytes, isTail, profileOf, sequenceFor, threeBytes, twoBytes}
+use Rattle.text.specs.Scalar.{packed, packedAs, packedAt}
 use Rattle.text.specs.Width.{width01}
 use Rattle.text.proofs.Ascii.{ascii-sequence, clear, each-at, eachFrom, other-class, quiet-test, syllable-class, syllable-width, wide-width}
 use Rattle.text.proofs.Branch.{in-range}
-use Rattle.text.proofs.Leads.{four-at, three-at, two-at}
+use Rattle.text.proofs.Leads.{four-at, no-second, no-third, three-at, two-at}
 use Rattle.text.specs.declared.class.Profile as code
 
 is : ℕ → ℕ → Bool
@@ -146,67 +145,48 @@ module _ (f : code.Profile) (x : ℕ) where
 
 -- ---- by the bytes
 
-module _ (P : Profile) (a b r : ℕ) (tb : isTail b ≡ true) where
-  pub two-on : 0xC2 ≤ a → r ≡ packedAs P 2 (a % 32 * 64 + b % 64) → r ≡ packed P (twoBytes a b)
-  two-on h e = rw (le-leb 0xC2 a h, tb) e
-
-  pub two-off : a < 0xC2 → 0 ≡ packed P (twoBytes a b)
-  two-off h = rw (lt-leb 0xC2 a h) refl
-
-  module _ (c : ℕ) (tc : isTail c ≡ true) where
-    abbrev x₃ : ℕ
-    x₃ = (a % 16 * 64 + b % 64) * 64 + c % 64
-
-    pub three-on : (leb 0x800 x₃ && (ltb x₃ 0xD800 || ltb 0xDFFF x₃)) ≡ true → r ≡ packedAs P 3 x₃ → r ≡ packed P (threeBytes a b c)
-    three-on h e = rw (tb, tc, h) e
-
-    pub three-off : (leb 0x800 x₃ && (ltb x₃ 0xD800 || ltb 0xDFFF x₃)) ≡ false → 0 ≡ packed P (threeBytes a b c)
-    three-off h = rw (tb, tc, h) refl
-
-    module _ (d : ℕ) (t : Bool) (td : t ≡ isTail d) where
-      abbrev x₄ : ℕ
-      x₄ = ((a % 8 * 64 + b % 64) * 64 + c % 64) * 64 + d % 64
-
-      pub four-on : ((leb a 0xF4 && t) && (leb 0x10000 x₄ && leb x₄ 0x10FFFF)) ≡ true → r ≡ packedAs P 4 x₄ → r ≡ packed P (fourBytes a b c d)
-      four-on h e = rw (tb, tc, ← td, h) e
-
-      pub four-off : ((leb a 0xF4 && t) && (leb 0x10000 x₄ && leb x₄ 0x10FFFF)) ≡ false → 0 ≡ packed P (fourBytes a b c d)
-      four-off h = rw (tb, tc, ← td, h) refl
-
-pub two-packed : (P : Profile) (s : List ℕ) (p a b r : ℕ) → p < length s → a ≡ getD s p 0 → b ≡ getD s (p + 1) 0 → r ≡ packed P (twoBytes a b) → 0x7F < a → a ≤ 0xDF → r ≡ packedAt P s p
-unfolding packedAt
-two-packed P s p a b r here ea eb e lo hi = rw (← two-at s p a b (getD s (p + 2) 0) here ea eb refl (twoBytes a b) refl lo hi) e
-
-module _ (P : Profile) (s : List ℕ) (p a b c : ℕ) (here : p < length s) (ea : a ≡ getD s p 0) (eb : b ≡ getD s (p + 1) 0) (ec : c ≡ getD s (p + 2) 0) (r : ℕ) where
-  pub three-packed : r ≡ packed P (threeBytes a b c) → 0xDF < a → a ≤ 0xEF → r ≡ packedAt P s p
-  unfolding packedAt
-  three-packed e lo hi = rw (← three-at s p a b c here ea eb ec (threeBytes a b c) refl lo hi) e
-
-  pub four-packed : (d : ℕ) → d ≡ getD s (p + 3) 0 → r ≡ packed P (fourBytes a b c d) → 0xEF < a → r ≡ packedAt P s p
-  unfolding packedAt
-  four-packed d ed e lo = rw (← four-at s p a b c here ea eb ec d (fourBytes a b c d) ed refl lo) e
+packed-none : (P : Profile) (x n : ℕ) → x ≡ 0 → 0 ≡ packed P (sequenceFor x n)
+packed-none P x n z = rw (eq-eqb x 0 z) refl
 
 pub first-packed : (P : Profile) (s : List ℕ) (p a r : ℕ) → p < length s → a ≡ getD s p 0 → a ≤ 0x7F → r ≡ packedAs P 1 a → r ≡ packedAt P s p
 unfolding packedAt
 first-packed P s p a r here ea l e = rw (← ascii-sequence s p a here ea (omega (arith, l))) e
 
--- ---- too few continuation bytes
+module _ (P : Profile) (s : List ℕ) (p a b : ℕ) (here : p < length s) (ea : a ≡ getD s p 0) (eb : b ≡ getD s (p + 1) 0) (t : Bool) (et : t ≡ isTail b) where
+  module _ (tt′ : t ≡ true) where
+    module _ (x : ℕ) (ex : x ≡ twoBytes a b) (lo : 0x7F < a) (hi : a ≤ 0xDF) where
+      pub two-packed : (r : ℕ) → (x ≢ 0) → r ≡ packedAs P 2 x → r ≡ packedAt P s p
+      unfolding packedAt
+      two-packed r z e = rw (← two-at s p a b here ea eb t et tt′ x (sequenceFor x 2) ex refl lo hi, ne-eqb x 0 z) e
 
-module _ (P : Profile) (s : List ℕ) (p a b : ℕ) (here : p < length s) (ea : a ≡ getD s p 0) (eb : b ≡ getD s (p + 1) 0) where
-  long-none : (c : ℕ) → c ≡ getD s (p + 2) 0 → 0xDF < a → 0 ≡ packed P (threeBytes a b c) → 0 ≡ packed P (fourBytes a b c (getD s (p + 3) 0)) → 0 ≡ packedAt P s p
-  long-none c ec lo h k =
-      cases (leb a 0xEF)
-      (λ e. three-packed P s p a b c here ea eb ec 0 h lo (leb-true a 0xEF e))
-      (λ e. four-packed P s p a b c here ea eb ec 0 (getD s (p + 3) 0) refl k (leb-false a 0xEF e))
+      pub two-none : x ≡ 0 → 0 ≡ packedAt P s p
+      unfolding packedAt
+      two-none z = rw (← two-at s p a b here ea eb t et tt′ x (sequenceFor x 2) ex refl lo hi) (packed-none P x 2 z)
 
-  pub no-second : (t : Bool) → 0x7F < a → t ≡ isTail b → t ≡ false → 0 ≡ packedAt P s p
-  no-second t lo h f =
-      let tb : isTail b ≡ false = sym h ∙ f in
-      cases (leb a 0xDF)
-      (λ e. two-packed P s p a b 0 here ea eb (rw (tb, and-false (leb 0xC2 a)) refl) lo (leb-true a 0xDF e))
-      (λ e. long-none (getD s (p + 2) 0) refl (leb-false a 0xDF e) (rw tb refl) (rw (tb, and-false (leb a 0xF4)) refl))
+    module _ (c : ℕ) (ec : c ≡ getD s (p + 2) 0) (u : Bool) (eu : u ≡ isTail c) where
+      module _ (uu : u ≡ true) (x : ℕ) where
+        module _ (ex : x ≡ threeBytes a b c) (lo : 0xDF < a) (hi : a ≤ 0xEF) where
+          pub three-packed : (r : ℕ) → (x ≢ 0) → r ≡ packedAs P 3 x → r ≡ packedAt P s p
+          unfolding packedAt
+          three-packed r z e = rw (← three-at s p a b here ea eb t et tt′ c ec u eu uu x (sequenceFor x 3) ex refl lo hi, ne-eqb x 0 z) e
 
-  pub no-third : (c : ℕ) (t : Bool) → c ≡ getD s (p + 2) 0 → 0xDF < a → t ≡ isTail c → t ≡ false → 0 ≡ packedAt P s p
-  no-third c t ec lo h f =
-      let tc : isTail c ≡ false = sym h ∙ f in
-      long-none c ec lo (rw (tc, and-false (isTail b)) refl) (rw (tc, and-false (isTail b), and-false (leb a 0xF4)) refl)
+          pub three-none : x ≡ 0 → 0 ≡ packedAt P s p
+          unfolding packedAt
+          three-none z = rw (← three-at s p a b here ea eb t et tt′ c ec u eu uu x (sequenceFor x 3) ex refl lo hi) (packed-none P x 3 z)
+
+        module _ (d : ℕ) (ed : d ≡ getD s (p + 3) 0) (ex : x ≡ fourBytes a b c d) (lo : 0xEF < a) where
+          pub four-packed : (r : ℕ) → (x ≢ 0) → r ≡ packedAs P 4 x → r ≡ packedAt P s p
+          unfolding packedAt
+          four-packed r z e = rw (← four-at s p a b here ea eb t et tt′ c ec u eu uu d x (sequenceFor x 4) ed ex refl lo, ne-eqb x 0 z) e
+
+          pub four-none : x ≡ 0 → 0 ≡ packedAt P s p
+          unfolding packedAt
+          four-none z = rw (← four-at s p a b here ea eb t et tt′ c ec u eu uu d x (sequenceFor x 4) ed ex refl lo) (packed-none P x 4 z)
+
+      pub third-none : u ≡ false → 0xDF < a → 0 ≡ packedAt P s p
+      unfolding packedAt
+      third-none uf lo = rw (← no-third s p a b here ea eb t et tt′ c u ec eu uf lo) refl
+
+  pub second-none : t ≡ false → 0x7F < a → 0 ≡ packedAt P s p
+  unfolding packedAt
+  second-none tf lo = rw (← no-second s p a b here ea eb t et tf lo) refl

@@ -9,7 +9,8 @@ use lib.Dec.{leb}
 use lib.ListN.{drop, length, take}
 use lib.Seq.{drop-drop, getD-drop, length-take-le, slice, take-nil}
 use borrow.Author.Tests.{leb-false, leb-true}
-use Rattle.text.specs.Code.{back, firstSequence, runOf, size}
+use Rattle.text.specs.Backward.{back}
+use Rattle.text.specs.Code.{firstSequence, runOf, size}
 use Rattle.text.specs.Tests.{cases}
 use Rattle.text.specs.Utf8.{Scalar, decode, decodeFrom, sequence, value}
 use Rattle.text.specs.Utf8.Laws.{sequence-le}

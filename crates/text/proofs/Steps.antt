@@ -12,14 +12,16 @@ use lib.Seq.{drop-cons, length-slice, length-take-le, slice}
 use borrow.Author.Tests.{eq-eqb, ne-eqb}
 use Rattle.text.specs.Class.{Profile}
 use Rattle.text.specs.Cluster.Walk.{size-is}
-use Rattle.text.specs.Code.{BackReady, BackspaceStep, EvenAt, FinishReady, Finished, Front, FrontEven, Part, Pushed, Sound, StepReady, Stepped, Strike, StruckStep, backspaceOn, backward, clusterOn, conversion, finishOn, orderOf, partOf, pendingOf, plain, pushedOn, stateOf, styleOf, whole}
+use Rattle.text.specs.Backward.{EvenAt, backward}
+use Rattle.text.specs.Code.{whole}
+use Rattle.text.specs.Overstrike.Code.{BackReady, BackspaceStep, FinishReady, Finished, Front, FrontEven, Part, Pushed, Sound, StepReady, Stepped, Strike, StruckStep, backspaceOn, clusterOn, conversion, finishOn, orderOf, partOf, pendingOf, plain, pushedOn, stateOf, styleOf}
 use Rattle.text.specs.Overstrike.{State, Style, ambiguous, backspace, bold, boldUnderline, bolded, finish, held, none, normal, onBackspace, onCluster, order, push, state, step, strike, struck, underline, underlined}
 use Rattle.text.specs.Overstrike.Length.{cost, cost-normal, order-size, waiting, weight}
 use Rattle.text.specs.Tests.{cases}
 use Rattle.text.specs.Utf8.{Scalar, asciis, bytesOf, decode, decodeFrom, reads, runOf, sameBytes, within}
 use Rattle.text.specs.Utf8.Valid.{valid}
 use Rattle.text.specs.declared.overstrike.Conversion.{Conversion}
-use Rattle.text.specs.declared.overstrike.Erasure.{Erasure}
+use Rattle.text.specs.declared.backward.Erasure.{Erasure}
 use Rattle.text.specs.declared.overstrike.Overstrike.{Overstrike}
 use Rattle.text.proofs.Even.{even-more, push-reversed}
 use Rattle.text.proofs.Pushing.{front-push}

@@ -4,11 +4,13 @@ use Prim.Native.Nat.{_+_, _-_, _<_, _≤_, suc, zero, ℕ}
 use native.Mathlib.Omega.{arith}
 use mathlib.Core.Bool.{Bool, _&&_, false, true}
 use mathlib.Core.List.{List, [], _∷_}
+use mathlib.Core.Logic.{_≢_}
 use mathlib.Core.Path.{_∙_, _≡_, refl, sym}
 use lib.Dec.{T, leb, leb→le}
 use lib.ListN.{getD, length}
 use borrow.Author.Tests.{le-leb}
-use Rattle.text.specs.Code.{back, isTail}
+use Rattle.text.specs.Backward.{back}
+use Rattle.text.specs.Code.{isTail}
 use Rattle.text.specs.Tests.{and-T, cases, true-T}
 use Rattle.text.specs.Utf8.{Range, fits, lengthIn, sequence, table}
 use Rattle.text.specs.Utf8.Laws.{continuation-bad, sequence-le}
@@ -59,3 +61,17 @@ back-to zero t m n q e h l f = sym (back-here t q m (getD t m 0) (omega arith) (
 back-to (suc k) t m n q e h l f =
     back-tail t q (m + suc k) (getD t (m + suc k) 0) (omega arith) (omega arith) refl (f k h)
     ∙ back-to k t m n (m + suc k) (omega arith) (omega arith) l f
+
+-- a turn of the loop that goes back
+module _ (s : List ℕ) (q i b : ℕ) (r : Bool) (same : back s q ≡ back s i) (some : 0 < i) (e : b ≡ getD s (i - 1) 0) (f : r ≡ isTail b) where
+  pub back-on : r ≡ true → back s q ≡ back s (i - 1)
+  back-on z = same ∙ back-tail s i (i - 1) b some refl e (sym f ∙ z)
+
+  pub back-found : r ≡ false → i - 1 ≡ back s q
+  back-found z = back-here s i (i - 1) b some refl e (sym f ∙ z) ∙ sym same
+
+pub back-end : (s : List ℕ) (q i : ℕ) → back s q ≡ back s i → i ≤ 0 → 0 ≡ back s q
+back-end s q i e h = sym (e ∙ back-zero s i h)
+
+pub back-inside : (s : List ℕ) (q j : ℕ) → q < length s → (q ≢ 0) → j ≡ back s q → j < length s
+back-inside s q j h z e = omega (arith, h, e, back-lt s q (omega (arith, z)))

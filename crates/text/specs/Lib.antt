@@ -8,5 +8,8 @@ pub mod Cluster
 pub mod Overstrike
 pub mod Calls
 pub mod Code
+pub mod Rules
+pub mod Scalar
+pub mod Backward
 pub mod TextParts
 pub mod Segmentation

@@ -9,6 +9,7 @@ use Rattle.text.specs.Cluster.{joins, clusters}
 pub mod Laws
 pub mod Noise
 pub mod Length
+pub mod Code
 
 -- Overstrike
 pub data Style : Type 0 where

@@ -1,36 +1,25 @@
--- Forward segmentation: a scalar as one number, the state of the rules as one number, and a cluster with the scalar behind it.
-use Prim.Native.Nat.{_*_, _+_, _<_, ℕ}
-use mathlib.Core.Bool.{_&&_, cond}
+-- Forward segmentation: a cluster with the scalar behind it, and what single bytes say of clusters.
+use Prim.Native.Nat.{_+_, _<_, ℕ}
+use mathlib.Core.Bool.{Bool, _&&_, _||_, cond, not}
 use mathlib.Core.List.{List, [], _∷_}
 use mathlib.Core.Path.{_≡_}
-use lib.Dec.{eqb}
-use lib.ListN.{drop, length}
-use Rattle.text.specs.Class.{Profile, number}
+use lib.Dec.{eqb, ltb}
+use lib.ListN.{getD, length}
+use Rattle.text.specs.Class.{Profile}
 use Rattle.text.specs.Cluster.{Context, after, classOf, clusters, joined}
-use Rattle.text.specs.Code.{contextOf, firstOf, firstSequence}
+use Rattle.text.specs.Code.{firstOf}
+use Rattle.text.specs.Scalar.{packedAt}
 use Rattle.text.specs.TextParts.{Measured, textAt}
-use Rattle.text.specs.Utf8.{Scalar, decode}
+use Rattle.text.specs.Utf8.{Scalar}
 use Rattle.text.specs.declared.segmentation.ClusterStep.{ClusterStep}
-use Rattle.text.specs.declared.utf8.Sequence.{Sequence}
-pub mod Laws
 
--- a scalar of so many bytes: their number, 8 times its class and 128 times its width
-abbrev pub packedAs : Profile → ℕ → ℕ → ℕ
-packedAs P n x = n + 8 * (number (P .class x) + 16 * P .width x)
+-- a control, or a byte below 80 and behind it another or nothing, CR apart
+abbrev pub oneByteCluster : List ℕ → ℕ → Bool
+oneByteCluster s i = (ltb (getD s i 0) 0x20 || (ltb (getD s i 0) 0x80 && ltb (getD s (i + 1) 0) 0x80)) && not (eqb (getD s i 0) 0x0D)
 
--- 0 where there is none
-abbrev pub packed : Profile → Sequence → ℕ
-packed P u = cond (eqb (u .len) 0) 0 (packedAs P (u .len) (u .code))
-
-unfoldable pub packedAt : Profile → List ℕ → ℕ → ℕ
-packedAt P s p = packed P (firstSequence (decode (drop p s)))
-
--- a state is the class of the scalar before, or that of other scalars behind an even number of regional indicators: both join the same
-abbrev pub stateContext : ℕ → Context
-stateContext p = contextOf (eqb p 10)
-
-abbrev pub stateAfter : ℕ → ℕ → ℕ
-stateAfter p c = cond (eqb p 10 && eqb c 10) 11 c
+-- a byte below 80, LF apart
+abbrev pub neverJoinsBefore : ℕ → Bool
+neverJoinsBefore b = ltb b 0x80 && not (eqb b 0x0A)
 
 module _ (P : Profile) where
   -- the scalars that belong to the cluster before them, which ends in class p with context k

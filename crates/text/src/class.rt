@@ -2,7 +2,7 @@
 ghost use mathlib.Core.Path.{_≡_};
 ghost use Prim.Native.Nat.{_≤_, _<_};
 ghost use Rattle.text.specs.Class.{number, inAny, controls, extends, whitespace, isControl};
-ghost use Rattle.text.specs.Code.{profileOf, jamo, syllable, printable};
+ghost use Rattle.text.specs.Code.{jamo, printable, profileOf, syllable};
 
 // The version of the text profile that classes and widths are taken from: 0 is document 01's.
 pub struct Profile {
@@ -10,27 +10,27 @@ pub struct Profile {
 }
 
 // The numbers of UAX #29's classes.
-pub const CR: u8 = 0;
+pub(crate) const CR: u8 = 0;
 
-pub const LF: u8 = 1;
+pub(crate) const LF: u8 = 1;
 
-pub const CONTROL: u8 = 2;
+pub(crate) const CONTROL: u8 = 2;
 
-pub const EXTEND: u8 = 3;
+pub(crate) const EXTEND: u8 = 3;
 
-pub const ZWJ: u8 = 4;
+pub(crate) const ZWJ: u8 = 4;
 
-pub const L: u8 = 5;
+pub(crate) const L: u8 = 5;
 
-pub const V: u8 = 6;
+pub(crate) const V: u8 = 6;
 
-pub const T: u8 = 7;
+pub(crate) const T: u8 = 7;
 
 pub const LV: u8 = 8;
 
 pub const LVT: u8 = 9;
 
-pub const REGIONAL_INDICATOR: u8 = 10;
+pub(crate) const REGIONAL_INDICATOR: u8 = 10;
 
 pub const OTHER: u8 = 11;
 
@@ -59,7 +59,7 @@ fn in_extends(x: u32) -> bool
 }
 
 // The number of a Hangul syllable's class: LV, or LVT where it ends in a consonant.
-pub(crate) fn syllable_class(x: u32) -> u8
+fn syllable_class(x: u32) -> u8
     requires { ⌜ 0xAC00 ≤ x ⌝ }
     ensures { λ r. ⌜ r ≡ number (syllable x) ⌝ }
 {
@@ -70,7 +70,7 @@ pub(crate) fn syllable_class(x: u32) -> u8
 }
 
 // The number of the class of one of U+1100 to U+11FF.
-pub(crate) fn jamo_class(x: u32) -> u8
+fn jamo_class(x: u32) -> u8
     ensures { λ r. ⌜ r ≡ number (jamo x) ⌝ }
 {
     if x <= 0x115F {
@@ -137,7 +137,7 @@ fn low_class(profile: Profile, x: u32) -> u8
 }
 
 // The number of a scalar's class, the common ones found first.
-pub fn class(profile: Profile, x: u32) -> u8
+pub(crate) fn class(profile: Profile, x: u32) -> u8
     ensures { λ r. ⌜ r ≡ number (profileOf profile .class x) ⌝ }
 {
     if x < 0x300 {
@@ -188,7 +188,7 @@ pub fn is_printable(x: u32) -> bool
 }
 
 // char::is_control
-pub fn is_control(x: u32) -> bool
+pub(crate) fn is_control(x: u32) -> bool
     ensures { λ r. ⌜ r ≡ isControl x ⌝ }
 {
     (x <= 0x1F) | ((0x7F <= x) & (x <= 0x9F))

@@ -5,9 +5,11 @@ ghost use Rattle.text.specs.Width.{profile01};
 ghost use Rattle.text.specs.Calls.{convertCall};
 ghost use Rattle.text.specs.Code.{converted, refusal};
 
+mod backward;
 pub mod class;
-pub mod cluster;
 pub mod overstrike;
+mod rules;
+pub mod scalar;
 pub mod segmentation;
 pub mod utf8;
 pub mod width;

@@ -1,12 +1,9 @@
 // Overstrike conversion: src/overstrike.rs. The result so far stands at the front of the buffer.
+use super::backward::Erasure;
+use super::backward::erase_last;
 use super::class::Profile;
-use super::class::is_control;
-use super::cluster::decoded_unit;
-use super::cluster::is_lone;
-use super::cluster::is_regional;
-use super::cluster::last_start;
-use super::cluster::quick_end;
-use super::utf8::byte_at;
+use super::segmentation::cluster_end;
+use super::utf8::decode;
 ghost use mathlib.Core.Path.{_≡_};
 ghost use mathlib.Core.Bool.{true};
 ghost use Prim.Native.Nat.{_+_, _-_, _*_, _≤_, _<_};
@@ -14,7 +11,9 @@ ghost use mathlib.Core.List.{[], _++_, _∷_};
 ghost use lib.ListN.{length, take};
 ghost use Rattle.text.specs.Utf8.{sameBytes, decode, runs};
 ghost use Rattle.text.specs.Overstrike.{bolded, underlined, ambiguous, backspace, step, convertPieces, convert};
-ghost use Rattle.text.specs.Code.{profileOf, whole, backward, EvenAt, KeptEven, FrontEven, BackReady, PairEnd, EvenBetween, EvenChoice, Pushed, styleOf, orderOf, partOf, stateOf, Stepped, BackspaceStep, StruckStep, StepReady, FinishReady, Finished, conversion, plain, Strike, Wrote, LineCopied, changedStyle, SpanDone, PieceReady, PieceDone};
+ghost use Rattle.text.specs.Backward.{EvenAt, backward};
+ghost use Rattle.text.specs.Code.{profileOf, whole};
+ghost use Rattle.text.specs.Overstrike.Code.{BackReady, BackspaceStep, FinishReady, Finished, FrontEven, LineCopied, PieceDone, PieceReady, Pushed, SpanDone, StepReady, Stepped, Strike, StruckStep, Wrote, changedStyle, conversion, orderOf, partOf, plain, stateOf, styleOf};
 
 // An overstrike style.
 pub struct Overstrike {
@@ -33,101 +32,12 @@ pub struct Conversion {
     pub even: usize,
 }
 
-// Where a backspace goes back to, and an even place up to there.
-pub struct Erasure {
-    pub at: usize,
-    pub even: usize,
-}
-
-// Are the last two scalars of the text a pair of regional indicators, an even number of them known to end there?
-fn ends_in_pair(t: &[u8], even: usize) -> bool
-    ensures { λ r. ⌜ (r ≡ true → PairEnd (now (t .entry)) even) ⌝ }
-{
-    let n = t.len();
-    if n < 8 {
-        return false;
-    }
-    if even == n {
-        return is_regional(t, n - 4) & is_regional(t, n - 8);
-    }
-    false
-}
-
-// Do regional indicators stand before q and behind it?
-fn is_between(t: &[u8], q: usize) -> bool
-    requires { ⌜ q < length (now t) ⌝ }
-    ensures { λ r. ⌜ (r ≡ true → EvenBetween (now (t .entry)) q q) ⌝ }
-{
-    if q < 4 {
-        return false;
-    }
-    if t.len() < q + 4 {
-        return false;
-    }
-    is_regional(t, q) & is_regional(t, q - 4)
-}
-
-// An even place of the text without its last cluster, which begins at q: the one known while it is near, so that what is written and erased behind it does not move it.
-fn even_before(t: &[u8], q: usize, even: usize) -> usize
-    requires { ⌜ q < length (now t) ⌝ }
-    ensures { λ r. ⌜ EvenChoice (now (t .entry)) q even r ⌝ }
-{
-    if even <= q {
-        if q - even <= 128 {
-            return even;
-        }
-    }
-    if is_between(t, q) {
-        return q;
-    }
-    if even <= q {
-        return even;
-    }
-    0
-}
-
-// Where a backspace goes back to in a valid text: the start of its last cluster, or its end where a backspace is added instead.
-fn kept(profile: Profile, t: &[u8], even: usize) -> Erasure
-    requires { ⌜ whole (now t) × EvenAt (now t) even ⌝ }
-    ensures { λ r. ⌜ KeptEven (profileOf profile) (now (t .entry)) r ⌝ }
-{
-    let n = t.len();
-    if n == 0 {
-        return Erasure { at: 0, even: 0 };
-    }
-    let b = byte_at(t, n - 1);
-    if is_lone(b) {
-        if is_control(b) {
-            return Erasure { at: n, even: even };
-        }
-        return Erasure {
-            at: n - 1,
-            even: even_before(t, n - 1, even),
-        };
-    }
-    if ends_in_pair(t, even) {
-        return Erasure {
-            at: n - 8,
-            even: n - 8,
-        };
-    }
-    let q = last_start(profile, t, even);
-    let u = decoded_unit(profile, t, q);
-    if is_control(u.code) {
-        return Erasure { at: n, even: even };
-    }
-    Erasure {
-        at: q,
-        even: even_before(t, q, even),
-    }
-}
-
 // Erases the last cluster of the result, or adds a backspace.
 fn backspace(profile: Profile, out: &mut [u8], len: usize, even: usize) -> Erasure
     requires { ⌜ BackReady (now out) len even ⌝ }
     ensures { λ r. ⌜ FrontEven (now (out .exit)) r (backspace (profileOf profile) (backward (take len (now (out .entry))))) ⌝ }
 {
-    let k = kept(profile, &out[..len], even);
+    let k = erase_last(profile, &out[..len], even);
     if k.at < len {
         return k;
     }
@@ -474,7 +384,7 @@ fn convert_unicode_span(profile: Profile, line: &[u8], out: &mut [u8]) -> Progre
     };
     let mut p = 0;
     while p < line.len() {
-        let e = quick_end(profile, line, p);
+        let e = cluster_end(profile, line, p);
         if e == p {
             let n = finish(out, line, st);
             return Progress {
@@ -499,7 +409,7 @@ fn convert_piece(profile: Profile, line: &[u8], out: &mut [u8], done: Progress) 
 {
     let at = done.read;
     let len = done.written;
-    let u = decoded_unit(profile, line, at);
+    let u = decode(line, at);
     if u.len == 0 {
         out[len] = line[at];
         return Progress {
@@ -545,7 +455,7 @@ fn copy_line(line: &[u8], out: &mut [u8]) -> bool
 }
 
 // convert_overstrike: the line converted at the front of the buffer.
-pub fn convert_overstrike(profile: Profile, line: &[u8], out: &mut [u8]) -> usize
+pub(crate) fn convert_overstrike(profile: Profile, line: &[u8], out: &mut [u8]) -> usize
     requires { ⌜ 8 * length (now line) ≤ length (now out) ⌝ }
     ensures { λ r. ⌜ Wrote (now (out .exit)) r (convert (profileOf profile) (now (line .entry))) ⌝ }
 {

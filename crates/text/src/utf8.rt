@@ -3,7 +3,7 @@ ghost use mathlib.Core.Path.{_≡_};
 ghost use Prim.Native.Nat.{_+_, _<_, _≤_};
 ghost use lib.ListN.{length, getD, drop};
 ghost use Rattle.text.specs.Utf8.{decode};
-ghost use Rattle.text.specs.Code.{asciiLength, asciiFour, isTail, twoBytes, threeBytes, fourBytes, firstSequence, runOf, size};
+ghost use Rattle.text.specs.Code.{asciiFour, asciiLength, firstSequence, fourBytes, isTail, runOf, sequenceFor, size, threeBytes, twoBytes};
 
 // A well-formed sequence: its scalar and the number of its bytes. Where none begins the length is 0.
 pub struct Sequence {
@@ -19,64 +19,75 @@ pub fn byte_at(s: &[u8], at: usize) -> u32
 }
 
 // Is it a continuation byte?
-pub fn is_tail(b: u32) -> bool
+pub(crate) fn is_tail(b: u32) -> bool
     ensures { λ r. ⌜ r ≡ isTail b ⌝ }
 {
     (0x80 <= b) & (b <= 0xBF)
 }
 
-// The sequence of two bytes, the first of which is below E0: Unicode, Table 3-6.
-fn two(a: u32, b: u32) -> Sequence
+// The scalar of two bytes, the first of which is below E0 and the second continues a sequence: Unicode, Table 3-6. 0 where they are none.
+pub(crate) fn two_bytes(a: u32, b: u32) -> u32
     ensures { λ r. ⌜ r ≡ twoBytes a b ⌝ }
 {
-    if (0xC2 <= a) & is_tail(b) {
-        return Sequence {
-            code: a % 32 * 64 + b % 64,
-            len: 2,
-        };
+    if 0xC2 <= a {
+        return a % 32 * 64 + b % 64;
     }
-    Sequence { code: 0, len: 0 }
+    0
 }
 
-// The sequence of three bytes, the first of which is E0 to EF.
-fn three(a: u32, b: u32, c: u32) -> Sequence
+// The scalar of three bytes, the first of which is E0 to EF and the others continue a sequence.
+pub(crate) fn three_bytes(a: u32, b: u32, c: u32) -> u32
     ensures { λ r. ⌜ r ≡ threeBytes a b c ⌝ }
 {
     let x = (a % 16 * 64 + b % 64) * 64 + c % 64;
-    if (is_tail(b) & is_tail(c)) & ((0x800 <= x) & ((x < 0xD800) | (0xDFFF < x))) {
-        return Sequence { code: x, len: 3 };
+    if (0x800 <= x) & ((x < 0xD800) | (0xDFFF < x)) {
+        return x;
     }
-    Sequence { code: 0, len: 0 }
+    0
 }
 
-// The sequence of four bytes, the first of which is F0 or above.
-fn four(a: u32, b: u32, c: u32, d: u32) -> Sequence
+// The scalar of four bytes, the first of which is F0 or above and the next two continue a sequence.
+pub(crate) fn four_bytes(a: u32, b: u32, c: u32, d: u32) -> u32
     ensures { λ r. ⌜ r ≡ fourBytes a b c d ⌝ }
 {
     let x = ((a % 8 * 64 + b % 64) * 64 + c % 64) * 64 + d % 64;
-    if ((a <= 0xF4) & (is_tail(b) & (is_tail(c) & is_tail(d))))
-        & ((0x10000 <= x) & (x <= 0x10FFFF))
-    {
-        return Sequence { code: x, len: 4 };
+    if ((a <= 0xF4) & is_tail(d)) & ((0x10000 <= x) & (x <= 0x10FFFF)) {
+        return x;
     }
-    Sequence { code: 0, len: 0 }
+    0
+}
+
+// The sequence of so many bytes that stands for the scalar x; none where that is 0.
+fn sequence_of(x: u32, len: usize) -> Sequence
+    ensures { λ r. ⌜ r ≡ sequenceFor x len ⌝ }
+{
+    if x == 0 {
+        return Sequence { code: 0, len: 0 };
+    }
+    Sequence { code: x, len: len }
 }
 
 // The sequence at a byte above 7F.
-pub fn decode_long(s: &[u8], at: usize) -> Sequence
+fn decode_long(s: &[u8], at: usize) -> Sequence
     requires { ⌜ (at < length (now s)) × (0x7F < getD (now s) at 0) ⌝ }
     ensures { λ r. ⌜ r ≡ firstSequence (decode (drop at (now (s .entry)))) ⌝ }
 {
     let a = s[at] as u32;
     let b = byte_at(s, at + 1);
-    let c = byte_at(s, at + 2);
-    if a <= 0xDF {
-        return two(a, b);
+    if is_tail(b) {
+        if a <= 0xDF {
+            return sequence_of(two_bytes(a, b), 2);
+        }
+        let c = byte_at(s, at + 2);
+        if is_tail(c) {
+            if a <= 0xEF {
+                return sequence_of(three_bytes(a, b, c), 3);
+            }
+            return sequence_of(four_bytes(a, b, c, byte_at(s, at + 3)), 4);
+        }
+        return Sequence { code: 0, len: 0 };
     }
-    if a <= 0xEF {
-        return three(a, b, c);
-    }
-    four(a, b, c, byte_at(s, at + 3))
+    Sequence { code: 0, len: 0 }
 }
 
 // The sequence at a place.

@@ -1,4 +1,4 @@
-// Widths of scalars and of stretches, in columns.
+// Widths of scalars, in columns.
 use super::class::CONTROL;
 use super::class::CR;
 use super::class::EXTEND;
@@ -9,16 +9,11 @@ use super::class::V;
 use super::class::ZWJ;
 use super::class::class;
 use super::class::is_printable;
-use super::utf8::decode;
 ghost use mathlib.Core.Path.{_≡_};
-ghost use Prim.Native.Nat.{_+_, _≤_};
 ghost use mathlib.Core.List.{[], _∷_};
-ghost use lib.ListN.{length, drop};
-ghost use lib.Seq.{slice};
-ghost use Rattle.text.specs.Utf8.{decode};
 ghost use Rattle.text.specs.Class.{number, among, inAny, cr, lf, control, extend, zwj, classV, classT};
-ghost use Rattle.text.specs.Width.{wides, widthOf};
-ghost use Rattle.text.specs.Code.{profileOf, runOf};
+ghost use Rattle.text.specs.Width.{wides};
+ghost use Rattle.text.specs.Code.{profileOf};
 
 fn in_wides(x: u32) -> bool
     ensures { λ r. ⌜ r ≡ inAny wides x ⌝ }
@@ -70,30 +65,4 @@ pub fn width(profile: Profile, x: u32) -> usize
         return 2;
     }
     1
-}
-
-// The width of the run that begins at a place.
-fn run_width(profile: Profile, s: &[u8], at: usize) -> usize
-    requires { ⌜ at ≤ length (now s) ⌝ }
-    ensures { λ r. ⌜ r ≡ widthOf (profileOf profile) (runOf (decode (drop at (now (s .entry))))) ⌝ }
-{
-    let mut p = at;
-    let mut w: usize = 0;
-    while p < s.len() {
-        let u = decode(s, p);
-        if u.len == 0 {
-            return w;
-        }
-        w += width(profile, u.code);
-        p += u.len;
-    }
-    w
-}
-
-// The width of the stretch from one place to another, up to a damaged byte.
-pub fn text_width(profile: Profile, s: &[u8], at: usize, end: usize) -> usize
-    requires { ⌜ (at ≤ end) × (end ≤ length (now s)) ⌝ }
-    ensures { λ r. ⌜ r ≡ widthOf (profileOf profile) (runOf (decode (slice at end (now (s .entry))))) ⌝ }
-{
-    run_width(profile, &s[..end], at)
 }

@@ -11,7 +11,7 @@ use lib.Seq.{drop-append-le}
 use lib.Dec.{T, eqb, leb, ltb, eqb→eq, ltb→lt, nltb→le}
 use borrow.Author.Tests.{ltb-false, lt-leb, ne-eqb}
 use Rattle.text.specs.Tests.{cases, and-T, is-true, true-T}
-use Rattle.text.specs.Code.{loneByte}
+use Rattle.text.specs.Segmentation.{neverJoinsBefore}
 use Rattle.text.specs.Code.Laws.{every, every-one}
 use Rattle.spans.specs.Sgr.{digit, parameters, allowed, orders}
 use Rattle.spans.specs.declared.sgr.Sgr.{Sgr}
@@ -212,13 +212,13 @@ parse-length s q n e = rw e at (parse-inside s)
 -- ---- its last byte is below 80, and no LF
 
 unfoldable Ends : List ℕ → Found → Type 0
-Ends s (found q n) = loneByte (getD s (n - 2) 0) ≡ true
+Ends s (found q n) = neverJoinsBefore (getD s (n - 2) 0) ≡ true
 Ends s missing = Unit {0}
 
-lone-as : (b v : ℕ) → eqb b v ≡ true → loneByte v ≡ true → loneByte b ≡ true
+lone-as : (b v : ℕ) → eqb b v ≡ true → neverJoinsBefore v ≡ true → neverJoinsBefore b ≡ true
 lone-as b v e h = rw (eqb→eq b v (true-T e)) h
 
-final-lone-each : T (every (λ (b : ℕ). not (final b) || loneByte b) 0 128)
+final-lone-each : T (every (λ (b : ℕ). not (final b) || neverJoinsBefore b) 0 128)
 unfolding every
 final-lone-each = tt
 
@@ -230,14 +230,14 @@ final-low b e =
     let z : final b ≡ false = rw (lt-leb b 0x48 (omega arith), and-false (leb 0x40 b), ne-eqb b 0x4A (λ q. omega arith), ne-eqb b 0x4C (λ q. omega arith), ne-eqb b 0x4D (λ q. omega arith), ne-eqb b 0x50 (λ q. omega arith), ne-eqb b 0x53 (λ q. omega arith), ne-eqb b 0x54 (λ q. omega arith), ne-eqb b 0x58 (λ q. omega arith), ne-eqb b 0x5A (λ q. omega arith), ne-eqb b 0x64 (λ q. omega arith), ne-eqb b 0x66 (λ q. omega arith)) in
     absurd (true≢false (sym e ∙ z)))
 
-final-lone : (b : ℕ) → final b ≡ true → loneByte b ≡ true
-final-lone b e = let t = is-true (not (final b) || loneByte b) (every-one (λ (b : ℕ). not (final b) || loneByte b) 128 0 b final-lone-each (omega arith) (omega (arith, final-low b e))) in rw e at t
+final-lone : (b : ℕ) → final b ≡ true → neverJoinsBefore b ≡ true
+final-lone b e = let t = is-true (not (final b) || neverJoinsBefore b) (every-one (λ (b : ℕ). not (final b) || neverJoinsBefore b) 128 0 b final-lone-each (omega arith) (omega (arith, final-low b e))) in rw e at t
 
 -- the byte at k behind the first
-ends-at : (a : ℕ) (s : List ℕ) (n k : ℕ) → n ≡ 3 + k → loneByte (getD s k 0) ≡ true → loneByte (getD (a ∷ s) (n - 2) 0) ≡ true
+ends-at : (a : ℕ) (s : List ℕ) (n k : ℕ) → n ≡ 3 + k → neverJoinsBefore (getD s k 0) ≡ true → neverJoinsBefore (getD (a ∷ s) (n - 2) 0) ≡ true
 ends-at a s n k e h = let m : n - 2 ≡ suc k = omega arith in rw m h
 
-known-ends : (a : ℕ) (s : List ℕ) (os : List Sgr) (k : ℕ) → loneByte (getD s k 0) ≡ true → Ends (a ∷ s) (ifKnown os k)
+known-ends : (a : ℕ) (s : List ℕ) (os : List Sgr) (k : ℕ) → neverJoinsBefore (getD s k 0) ≡ true → Ends (a ∷ s) (ifKnown os k)
 unfolding Ends ifKnown
 known-ends a s [] k h = tt
 known-ends a s (o ∷ os) k h = ends-at a s (3 + k) k refl h
@@ -270,7 +270,7 @@ ends (a ∷ s) =
     (λ j. tt))
     (λ h. tt)))
 
-pub parse-last : (s : List ℕ) (q : Sequence) (n : ℕ) → parse s ≡ found q n → loneByte (getD s (n - 2) 0) ≡ true
+pub parse-last : (s : List ℕ) (q : Sequence) (n : ℕ) → parse s ≡ found q n → neverJoinsBefore (getD s (n - 2) 0) ≡ true
 unfolding Ends
 parse-last s q n e = rw e at (ends s)
 

@@ -16,16 +16,17 @@ use Rattle.text.specs.Cluster.{Context, joined, joins, context, clusters
 use Rattle.text.specs.Cluster.Laws.{clusters-all, clusters-split}
 use Rattle.text.specs.declared.class.Profile as code
 use Rattle.text.specs.Width.{profile01}
-use Rattle.text.specs.Code.{profileOf, loneByte}
+use Rattle.text.specs.Code.{profileOf}
+use Rattle.text.specs.Segmentation.{neverJoinsBefore}
 use Rattle.text.specs.Code.Laws.{every, every-one}
 
 -- classes that join nothing before them
-alone : ℕ → Bool
+abbrev pub alone : ℕ → Bool
 alone c = among c (cr ∷ control ∷ other ∷ [])
 
-alone-joins : (p : ℕ) (k : Context) (c : ℕ) → alone c ≡ true → joined p k c ≡ false
-unfolding alone joined among number
-alone-joins p k c g =
+pub alone-numbers : (p : ℕ) (k : Context) (c : ℕ) → alone c ≡ true → joined p k c ≡ false
+unfolding joined among number
+alone-numbers p k c g =
     cases (eqb p 2 || (eqb p 0 || eqb p 1))
     (λ e.
     cases (eqb c 0) (λ d. rw (eqb-true c 0 d, and-false (eqb p 0), e) refl)
@@ -41,20 +42,20 @@ lone-class : ℕ → Bool
 lone-class x = eqb x 0x0A || alone (number (class01 x))
 
 lone-each : T (every lone-class 0 128)
-unfolding every lone-class alone among number class01
+unfolding every lone-class among number class01
 lone-each = tt
 
-lone-alone : (b : ℕ) → loneByte b ≡ true → alone (number (class01 b)) ≡ true
+pub lone-alone : (b : ℕ) → neverJoinsBefore b ≡ true → alone (number (class01 b)) ≡ true
 unfolding lone-class
 lone-alone b e =
     let q = and-T (ltb b 0x80) (not (eqb b 0x0A)) (true-T e) in
     let h : b < 128 = ltb→lt _ _ (q .0) in
     rw (not-true (eqb b 0x0A) (is-true _ (q .1))) at (is-true (lone-class b) (every-one lone-class 128 0 b lone-each (omega arith) (omega arith)))
 
-lone-joins : (f : code.Profile) (c : Scalar) → loneByte (c .code) ≡ true → (before : List Scalar) → joins (profileOf f) before c ≡ false
+lone-joins : (f : code.Profile) (c : Scalar) → neverJoinsBefore (c .code) ≡ true → (before : List Scalar) → joins (profileOf f) before c ≡ false
 unfolding joins profileOf profile01
 lone-joins f c e [] = refl
-lone-joins f c e (p ∷ ps) = alone-joins (number (class01 (p .code))) (context (profileOf f) (p ∷ ps)) (number (class01 (c .code))) (lone-alone (c .code) e)
+lone-joins f c e (p ∷ ps) = alone-numbers (number (class01 (p .code))) (context (profileOf f) (p ∷ ps)) (number (class01 (c .code))) (lone-alone (c .code) e)
 
 -- the clusters of a run before byte n, the others being those of the run at byte n
 pub record Boundary (f : code.Profile) (s : List ℕ) (n : ℕ) : Type 0 where
@@ -63,12 +64,12 @@ pub record Boundary (f : code.Profile) (s : List ℕ) (n : ℕ) : Type 0 where
   pub size : length (bytesOf (joinAll before)) ≡ n
   pub run : length (bytesOf (runOf (decode s))) ≡ n + length (bytesOf (runOf (decode (drop n s))))
 
-pub lone-boundary : (f : code.Profile) (s : List ℕ) (n : ℕ) → n < length (bytesOf (runOf (decode s))) → loneByte (getD s n 0) ≡ true → Boundary f s n
+pub lone-boundary : (f : code.Profile) (s : List ℕ) (n : ℕ) → n < length (bytesOf (runOf (decode s))) → neverJoinsBefore (getD s n 0) ≡ true → Boundary f s n
 lone-boundary f s n h e =
     let l : getD s n 0 < 0x80 = ltb→lt _ _ (and-T (ltb (getD s n 0) 0x80) (not (eqb (getD s n 0) 0x0A)) (true-T e) .0) in
     let w : Split (runOf (decode s)) n (getD s n 0) = ascii-splits s n h l in
     let r : runOf (decode (drop n s)) ≡ w .here ∷ w .behind = rw (w .size) at (run-rest s (w .before) (w .here ∷ w .behind) (w .text)) in
-    let j = lone-joins f (w .here) (ap loneByte (w .code) ∙ e) in
+    let j = lone-joins f (w .here) (ap neverJoinsBefore (w .code) ∙ e) in
     record {
       before = clusters (profileOf f) (w .before);
       clusters = ap (clusters (profileOf f)) (w .text) ∙ clusters-split (profileOf f) (w .here) (w .behind) j (w .before) ∙ ap (λ (t : List Scalar). clusters (profileOf f) (w .before) ++ clusters (profileOf f) t) (sym r);

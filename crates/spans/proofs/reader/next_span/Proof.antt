@@ -15,8 +15,8 @@ control-span-requires c κs = search control-ready
 returns : tie.Need-returns
 returns c = search special-done
 
-decode-requires : tie.Need-decode-requires
-decode-requires c κs = search needs
+scalar-at-requires : tie.Need-scalar-at-requires
+scalar-at-requires c κs = search needs
 
 invalid-span-requires : tie.Need-invalid-span-requires
 invalid-span-requires c κs = search needs
@@ -33,11 +33,11 @@ text-span-requires c κs = search needs
 returns-3 : tie.Need-returns-3
 returns-3 c = search text-step
 
-first-end-requires : tie.Need-first-end-requires
-first-end-requires c κs = search needs
+cluster-end-requires : tie.Need-cluster-end-requires
+cluster-end-requires c κs = search needs
 
 mark-span-requires : tie.Need-mark-span-requires
-mark-span-requires c κs = mark-ready _ _ _ (c .before .before .before .before .before .before .before .before .before .before .pre) _ (c .before .before .before .before .before .decode .ensures) _ _ _ _ (c .before .before .before .before .before .before .before .before .byte-at .ensures) (c .before .before .before .before .before .before .before .is-alone .ensures) (c .before .before .before .before .before .before .if1 .left) (c .before .before .before .if2 .left) (c .before .before .text-end .ensures) (c .before .if3 .left) (c .first-end .ensures)
+mark-span-requires c κs = mark-ready _ _ _ (c .before .before .before .before .before .before .before .before .before .pre) _ (c .before .before .before .before .scalar-at .ensures) _ _ _ _ (c .before .before .before .before .before .before .before .byte-at .ensures) (c .before .before .before .before .before .before .is-alone .ensures) (c .before .before .before .before .before .if1 .left) (c .before .before .before .if2 .left) (c .before .before .text-end .ensures) (c .before .if3 .left) (c .cluster-end .ensures)
 
 returns-4 : tie.Need-returns-4
 returns-4 c = search special-done
@@ -50,12 +50,12 @@ next-span-spec =
     is-alone-requires
     control-span-requires
     returns
-    decode-requires
+    scalar-at-requires
     invalid-span-requires
     returns-2
     text-end-requires
     text-span-requires
     returns-3
-    first-end-requires
+    cluster-end-requires
     mark-span-requires
     returns-4)

@@ -8,14 +8,14 @@ use Rattle.text.proofs.Erasing.{erase-add, erase-back}
 use Rattle.text.proofs.overstrike.backspace.Statement.{statement}
 use Rattle.text.proofs.overstrike.backspace.Tie as tie
 
-slice-reshare-prefix-kept : tie.Need-slice-reshare-prefix-kept
-slice-reshare-prefix-kept c = search needs
+slice-reshare-prefix-erase-last : tie.Need-slice-reshare-prefix-erase-last
+slice-reshare-prefix-erase-last c = search needs
 
-slice-aggregate-kept : tie.Need-slice-aggregate-kept
-slice-aggregate-kept c = let h : c .before .before .args .len ≤ length (c .before .before .args .out .now) = omega (arith, c .before .before .pre .room) in sym (length-take-le _ _ h)
+slice-aggregate-erase-last : tie.Need-slice-aggregate-erase-last
+slice-aggregate-erase-last c = let h : c .before .before .args .len ≤ length (c .before .before .args .out .now) = omega (arith, c .before .before .pre .room) in sym (length-take-le _ _ h)
 
-kept-requires : tie.Need-kept-requires
-kept-requires c κs = (c .before .before .pre .valid, c .before .before .pre .even)
+erase-last-requires : tie.Need-erase-last-requires
+erase-last-requires c κs = (c .before .before .pre .valid, c .before .before .pre .even)
 
 same-length : tie.Need-same-length
 same-length c = search needs
@@ -39,9 +39,9 @@ pub backspace-spec : {M : Type 1} → statement M
 backspace-spec =
     tie.close
     (tie.spec
-    slice-reshare-prefix-kept
-    slice-aggregate-kept
-    kept-requires
+    slice-reshare-prefix-erase-last
+    slice-aggregate-erase-last
+    erase-last-requires
     same-length
     returns
     slice-write-out

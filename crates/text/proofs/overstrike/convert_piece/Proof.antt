@@ -5,8 +5,8 @@ use Rattle.text.proofs.Converting.{piece-damaged, piece-end, piece-run}
 use Rattle.text.proofs.overstrike.convert_piece.Statement.{statement}
 use Rattle.text.proofs.overstrike.convert_piece.Tie as tie
 
-decoded-unit-requires : tie.Need-decoded-unit-requires
-decoded-unit-requires c κs = search needs
+decode-requires : tie.Need-decode-requires
+decode-requires c κs = search needs
 
 shared-slice-read-out : tie.Need-shared-slice-read-out
 shared-slice-read-out c = search needs
@@ -63,7 +63,7 @@ pub convert-piece-spec : {M : Type 1} → statement M
 convert-piece-spec =
     tie.close
     (tie.spec
-    decoded-unit-requires
+    decode-requires
     shared-slice-read-out
     slice-write-out
     add-t13

@@ -16,8 +16,8 @@ abbrev μ-loop : tie.MeasureT-loop
 loop-holds : tie.Need-loop-holds Inv-loop μ-loop
 loop-holds c = (search running-begin, search needs)
 
-quick-end-requires : tie.Need-quick-end-requires Inv-loop μ-loop
-quick-end-requires c κs = search needs
+cluster-end-requires : tie.Need-cluster-end-requires Inv-loop μ-loop
+cluster-end-requires c κs = search needs
 
 finish-requires : tie.Need-finish-requires Inv-loop μ-loop
 finish-requires c κs = search running-finish
@@ -53,7 +53,7 @@ convert-unicode-span-spec =
     Inv-loop
     μ-loop
     loop-holds
-    quick-end-requires
+    cluster-end-requires
     finish-requires
     same-length
     returns

@@ -5,7 +5,7 @@ use Rattle.vectors.proofs.published.segments.Statement.{statement}
 use Rattle.vectors.proofs.published.segments.Tie as tie
 use Rattle.vectors.proofs.published.segments.Reads as reads
 use Rattle.vectors.proofs.published.segments.Lts as lts
-use Rattle.text.proofs.cluster.first_end.Reads as first-end-reads
+use Rattle.text.proofs.segmentation.cluster_end.Reads as cluster-end-reads
 use Rattle.vectors.proofs.fields.behind.Reads as behind-reads
 use Rattle.vectors.proofs.fields.number.Reads as number-reads
 use Rattle.vectors.proofs.fields.past.Reads as past-reads
@@ -21,8 +21,8 @@ loop-holds : tie.Need-loop-holds Inv-loop μ-loop
 loop-holds c = search needs
 
 -- src/published.rt:59:13
-first-end-requires : tie.Need-first-end-requires Inv-loop μ-loop
-first-end-requires c κs = search needs
+cluster-end-requires : tie.Need-cluster-end-requires Inv-loop μ-loop
+cluster-end-requires c κs = search needs
 
 -- src/published.rt:61:13
 returns : tie.Need-returns Inv-loop μ-loop
@@ -71,7 +71,7 @@ segments-spec =
     Inv-loop
     μ-loop
     loop-holds
-    first-end-requires
+    cluster-end-requires
     returns
     returns-2
     sub-if3

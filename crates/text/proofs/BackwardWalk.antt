@@ -1,0 +1,239 @@
+-- A text read backward: the regional indicators that end at a place, a boundary there, and where the last cluster begins.
+use Prim.Native.Nat.{_%_, _-_, _/_, _<_, _≤_, ℕ}
+use native.Mathlib.Omega.{arith}
+use mathlib.Core.Bool.{Bool, _&&_, and-false, false, not, true}
+use mathlib.Core.List.{List, [], _∷_, reverse, reverse-reverse, reverseAux}
+use mathlib.Core.Logic.{_≢_, ⊎-elim}
+use mathlib.Core.Path.{_∙_, _≡_, ap, ap₂, refl, sym}
+use lib.Dec.{eqb, eqb→eq, ltb}
+use lib.ListN.{drop, getD, length}
+use borrow.Author.Tests.{eqb-false, ltb-false, ltb-true, ne-eqb}
+use Rattle.text.specs.Backward.{JoinsAt, OddTo, back, withoutLast}
+use Rattle.text.specs.Class.{Profile, among, number}
+use Rattle.text.specs.Cluster.{Context, after, context, joined, joins}
+use Rattle.text.specs.Cluster.Walk.{size-is}
+use Rattle.text.specs.Code.{firstSequence, isTail, profileOf, sequenceOf, size, whole}
+use Rattle.text.specs.Rules.{contextOf, stateContext}
+use Rattle.text.specs.Scalar.{packedAt}
+use Rattle.text.specs.Scalar.Laws.{NoScalar, PackedScalar, packed-past, packed-view}
+use Rattle.text.specs.Segmentation.{neverJoinsBefore}
+use Rattle.text.specs.Tests.{and-T, cases, true-T}
+use Rattle.text.specs.TextParts.{textAt}
+use Rattle.text.specs.Utf8.{Scalar, decode, decodeFrom, runOf}
+use Rattle.text.specs.declared.utf8.Sequence.{Sequence}
+use Rattle.text.specs.Code.Boundaries.{alone, alone-numbers}
+use Rattle.text.proofs.Ascii.{ascii-sequence, lone, lone-low, low-tail}
+use Rattle.text.proofs.ForwardWalk.{class-le}
+use Rattle.text.proofs.Runs.{back-scalar, no-head, run-drop, run-head, run-inside, size-pos, size-reverse}
+use Rattle.text.proofs.Tails.{back-here}
+use Rattle.text.specs.declared.class.Profile as code
+
+unfoldable pub flip : Bool → Bool → Bool
+flip true b = not b
+flip false b = b
+
+-- at the place i of t: whether an odd number of regional indicators was passed, and whether an odd number ends where the passing began
+pub record Left (P : Profile) (t : List ℕ) (i : ℕ) (odd total : Bool) : Type 0 where
+  pub rest : List Scalar
+  pub es : List Scalar
+  pub parts : runOf (decode t) ≡ reverseAux rest es
+  pub place : size rest ≡ i
+  pub parity : total ≡ flip odd (context P rest .odd)
+
+flip-not : (a b : Bool) → flip a (not b) ≡ flip (not a) b
+unfolding flip
+flip-not true true = refl
+flip-not true false = refl
+flip-not false b = refl
+
+pub flip-false : (a : Bool) → flip a false ≡ a
+unfolding flip
+flip-false true = refl
+flip-false false = refl
+
+-- at the place q of t, where a scalar of its last cluster begins
+pub record At (P : Profile) (t : List ℕ) (q total : ℕ) : Type 0 where
+  pub c : Scalar
+  pub rest : List Scalar
+  pub es : List Scalar
+  pub parts : runOf (decode t) ≡ reverseAux rest (c ∷ es)
+  pub place : size rest ≡ q
+  pub work : total ≡ size (withoutLast P (c ∷ rest))
+
+pub joined-indicators : (k : Context) → joined 10 k 10 ≡ k .odd
+unfolding joined among number
+joined-indicators k = cases (k .odd) (λ e. rw e refl) (λ e. rw e refl)
+
+-- the context counts for a regional indicator alone
+joined-context : (p c : ℕ) (k k′ : Context) → (c ≢ 10) → joined p k c ≡ joined p k′ c
+unfolding joined among number
+joined-context p c k k′ n = rw (ne-eqb c 10 n, and-false (k .odd), and-false (k′ .odd)) refl
+
+headOf : Scalar → List Scalar → Scalar
+headOf d [] = d
+headOf d (c ∷ s) = c
+
+module _ (P : Profile) where
+  -- the class at the start of a scalar
+  pub class-of : (t : List ℕ) (j k : ℕ) (d : Scalar) (rest es : List Scalar) → runOf (decode t) ≡ reverseAux rest (d ∷ es) → j ≡ size rest → k ≡ packedAt P t j / 8 % 16 → k ≡ number (P .class (d .code))
+  unfolding headOf
+  class-of t j k d rest es e p f =
+      let r : textAt t j ≡ d ∷ es = ap (λ (i : ℕ). runOf (decode (drop i t))) p ∙ run-drop rest (d ∷ es) t e in
+      let h : j < length t = rw p (run-inside d rest es t e) in
+      ⊎-elim
+      (λ (n : NoScalar t j (packedAt P t j)). absurd (no-head d es (sym (n .run) ∙ r)))
+      (λ (x : PackedScalar P t j (packedAt P t j)). f ∙ sym (x .class) ∙ ap (λ (y : Scalar). number (P .class (y .code))) (ap (headOf d) (sym (x .run) ∙ r)))
+      (packed-view P t j (packedAt P t j) h refl)
+
+  pub class-bound : (t : List ℕ) (j k : ℕ) → k ≡ packedAt P t j / 8 % 16 → k ≤ 11
+  class-bound t j k e =
+      cases (ltb j (length t))
+      (λ h. rw e (class-le P t j (packedAt P t j) (ltb-true j (length t) h) refl))
+      (λ h. rw (e, packed-past P t j (ltb-false j (length t) h)) (omega arith))
+
+  -- the code there
+  pub code-of : (t : List ℕ) (j : ℕ) (d : Scalar) (rest es : List Scalar) → runOf (decode t) ≡ reverseAux rest (d ∷ es) → j ≡ size rest → firstSequence (decode (drop j t)) .code ≡ d .code
+  code-of t j d rest es e p = ap (λ (i : ℕ). firstSequence (decode (drop i t)) .code) p ∙ run-head (drop (size rest) t) d es (run-drop rest (d ∷ es) t e) .coded
+
+  pub odd-begin : (t : List ℕ) (q : ℕ) (rest es : List Scalar) → runOf (decode t) ≡ reverseAux rest es → size rest ≡ q → Left P t q false (context P rest .odd)
+  unfolding flip
+  odd-begin t q rest es e p = record { rest = rest; es = es; parts = e; place = p; parity = refl }
+
+  pub odd-ri : (d : Scalar) (rest : List Scalar) → number (P .class (d .code)) ≡ 10 → context P (d ∷ rest) .odd ≡ not (context P rest .odd)
+  unfolding context after among
+  odd-ri d rest e = rw e refl
+
+  pub odd-other : (d : Scalar) (rest : List Scalar) → (number (P .class (d .code)) ≢ 10) → context P (d ∷ rest) .odd ≡ false
+  unfolding context after among
+  odd-other d rest e = rw (ne-eqb (number (P .class (d .code))) 10 e) refl
+
+  odd-none : context P [] .odd ≡ false
+  unfolding context
+  odd-none = refl
+
+  module _ (t : List ℕ) (i : ℕ) (odd total : Bool) (j k : ℕ) (pos : 0 < i) (e : j ≡ back t i) (f : k ≡ packedAt P t j / 8 % 16) where
+    on-by : (rest es : List Scalar) → runOf (decode t) ≡ reverseAux rest es → size rest ≡ i → total ≡ flip odd (context P rest .odd) → k ≡ 10 → Left P t j (not odd) total
+    unfolding size
+    on-by [] es p q w z = absurd (omega arith)
+    on-by (d ∷ rest) es p q w z =
+        let b : j ≡ size rest = e ∙ ap (back t) (sym q) ∙ back-scalar d rest es t p in
+        let r : number (P .class (d .code)) ≡ 10 = sym (class-of t j k d rest es p b f) ∙ z in
+        record { rest = rest; es = d ∷ es; parts = p; place = sym b; parity = w ∙ ap (flip odd) (odd-ri d rest r) ∙ flip-not odd (context P rest .odd) }
+
+    stop-by : (rest es : List Scalar) → runOf (decode t) ≡ reverseAux rest es → size rest ≡ i → total ≡ flip odd (context P rest .odd) → (k ≢ 10) → odd ≡ total
+    unfolding size
+    stop-by [] es p q w z = absurd (omega arith)
+    stop-by (d ∷ rest) es p q w z =
+        let b : j ≡ size rest = e ∙ ap (back t) (sym q) ∙ back-scalar d rest es t p in
+        let r : k ≡ number (P .class (d .code)) = class-of t j k d rest es p b f in
+        sym (w ∙ ap (flip odd) (odd-other d rest (λ x. z (r ∙ x))) ∙ flip-false odd)
+
+    pub odd-on : k ≡ 10 → Left P t i odd total → Left P t j (not odd) total
+    odd-on z l = on-by (l .rest) (l .es) (l .parts) (l .place) (l .parity) z
+
+    pub odd-stop : (k ≢ 10) → Left P t i odd total → odd ≡ total
+    odd-stop z l = stop-by (l .rest) (l .es) (l .parts) (l .place) (l .parity) z
+
+  end-by : (t : List ℕ) (odd total : Bool) (rest es : List Scalar) → runOf (decode t) ≡ reverseAux rest es → size rest ≤ 0 → total ≡ flip odd (context P rest .odd) → odd ≡ total
+  end-by t odd total [] es p q w = sym (w ∙ ap (flip odd) odd-none ∙ flip-false odd)
+  end-by t odd total (d ∷ rest) es p q w = let h = size-pos d rest es t p in absurd (omega arith)
+
+  pub odd-end : (t : List ℕ) (i : ℕ) (odd total : Bool) → i ≤ 0 → Left P t i odd total → odd ≡ total
+  odd-end t i odd total h l = end-by t odd total (l .rest) (l .es) (l .parts) (rw (l .place) h) (l .parity)
+
+  -- ---- a boundary
+
+  pub joins-zero : (t : List ℕ) (q : ℕ) → q ≡ 0 → JoinsAt P t q false
+  unfolding joins
+  joins-zero t q z c [] es p e = refl
+  joins-zero t q z c (d ∷ rest) es p e = let h = size-pos d rest (c ∷ es) t p in absurd (omega arith)
+
+  module _ (t : List ℕ) (q j p k : ℕ) (r : Bool) (z : q ≢ 0) (b : j ≡ back t q) (f : p ≡ packedAt P t j / 8 % 16)
+      (g : k ≡ packedAt P t q / 8 % 16) where
+    joins-by : ((d : Scalar) (rest es : List Scalar) → runOf (decode t) ≡ reverseAux (d ∷ rest) es → size (d ∷ rest) ≡ q → p ≡ number (P .class (d .code)) → r ≡ joined p (context P (d ∷ rest)) k) → JoinsAt P t q r
+    unfolding joins size
+    joins-by o c [] es h s = absurd (z (sym s))
+    joins-by o c (d ∷ rest) es h s =
+        let w : j ≡ size rest = b ∙ ap (back t) (sym s) ∙ back-scalar d rest (c ∷ es) t h in
+        let x : p ≡ number (P .class (d .code)) = class-of t j p d rest (c ∷ es) h w f in
+        let y : k ≡ number (P .class (c .code)) = class-of t q k c (d ∷ rest) es h (sym s) g in
+        o d rest (c ∷ es) h s x ∙ ap₂ (λ (m n : ℕ). joined m (context P (d ∷ rest)) n) x y
+
+    -- two regional indicators
+    pub joins-pair : (eqb p 10 && eqb k 10) ≡ true → OddTo P t q r → JoinsAt P t q r
+    joins-pair m o =
+        let w = and-T (eqb p 10) (eqb k 10) (true-T m) in
+        joins-by (λ d rest es h s x. rw (eqb→eq p 10 (w .0), eqb→eq k 10 (w .1)) (o (d ∷ rest) es h s ∙ sym (joined-indicators (context P (d ∷ rest)))))
+
+    -- of the two only one is a regional indicator, or none
+    pub joins-single : (eqb p 10 && eqb k 10) ≡ false → r ≡ joined p (stateContext p) k → JoinsAt P t q r
+    joins-single m e =
+        cases (eqb p 10)
+        (λ i. joins-by (λ d rest es h s x. e ∙ joined-context p k (stateContext p) (context P (d ∷ rest)) (eqb-false k 10 (rw i at m))))
+        (λ i. joins-by (λ d rest es h s x. e ∙ ap (λ (w : Bool). joined p (contextOf w) k) (i ∙ sym (odd-other d rest (λ w. eqb-false p 10 i (x ∙ w))))))
+
+  -- a class that joins nothing before it
+  joins-alone : (t : List ℕ) (q : ℕ) → alone (number (P .class (firstSequence (decode (drop q t)) .code))) ≡ true → JoinsAt P t q false
+  unfolding joins
+  joins-alone t q f c [] es p s = refl
+  joins-alone t q f c (d ∷ rest) es p s =
+      sym (alone-numbers (number (P .class (d .code))) (context P (d ∷ rest)) (number (P .class (c .code))) (rw (code-of t q c (d ∷ rest) es p (sym s)) at f))
+
+  -- ---- the last cluster
+
+  begin-by : (t : List ℕ) (q : ℕ) (rev : List Scalar) → runOf (decode t) ≡ reverseAux rev [] → size rev ≡ length t → (length t ≢ 0) → q ≡ back t (length t) → At P t q (size (withoutLast P rev))
+  unfolding size
+  begin-by t q [] e s h b = absurd (h (sym s))
+  begin-by t q (d ∷ rest) e s h b =
+      record { c = d; rest = rest; es = []; parts = e; place = sym (b ∙ ap (back t) (sym s) ∙ back-scalar d rest [] t e); work = refl }
+
+  pub last-begin : (t : List ℕ) (q : ℕ) → whole t → (length t ≢ 0) → q ≡ back t (length t) → At P t q (size (withoutLast P (reverse (runOf (decode t)))))
+  unfolding size
+  last-begin t q w h b =
+      let e : size (reverse (runOf (decode t))) ≡ length t = size-reverse (runOf (decode t)) ∙ size-is (runOf (decode t)) ∙ ap length w in
+      begin-by t q (reverse (runOf (decode t))) (sym (reverse-reverse (runOf (decode t)))) e h b
+
+  pub last-empty : (t : List ℕ) → length t ≡ 0 → 0 ≡ size (withoutLast P (reverse (runOf (decode t))))
+  unfolding size withoutLast runOf decode decodeFrom
+  last-empty [] h = refl
+  last-empty (b ∷ t) h = absurd (omega arith)
+
+  pub last-inside : (t : List ℕ) (q total : ℕ) → At P t q total → q < length t
+  last-inside t q total a = rw (a .place) at (run-inside (a .c) (a .rest) (a .es) t (a .parts))
+
+  module _ (t : List ℕ) (q total : ℕ) (r : Bool) (j : JoinsAt P t q r) where
+    pub last-stop : r ≡ false → At P t q total → q ≡ total
+    unfolding withoutLast
+    last-stop f a =
+        let e : joins P (a .rest) (a .c) ≡ false = sym (j (a .c) (a .rest) (a .es) (a .parts) (a .place)) ∙ f in
+        sym (rw e at (a .work) ∙ a .place)
+
+    go-by : (c : Scalar) (rest es : List Scalar) (p : ℕ) → runOf (decode t) ≡ reverseAux rest (c ∷ es) → size rest ≡ q → total ≡ size (withoutLast P (c ∷ rest))
+        → 0 < q → r ≡ true → p ≡ back t q → At P t p total
+    unfolding withoutLast size
+    go-by c [] es p e s w h f b = absurd (omega arith)
+    go-by c (d ∷ rest) es p e s w h f b =
+        let x : joins P (d ∷ rest) c ≡ true = sym (j c (d ∷ rest) es e s) ∙ f in
+        record { c = d; rest = rest; es = c ∷ es; parts = e; place = sym (b ∙ ap (back t) (sym s) ∙ back-scalar d rest (c ∷ es) t e); work = rw x at w }
+
+    pub last-on : (p : ℕ) → 0 < q → r ≡ true → p ≡ back t q → At P t q total → At P t p total
+    last-on p h f b a = go-by (a .c) (a .rest) (a .es) p (a .parts) (a .place) (a .work) h f b
+
+  last-by : (t : List ℕ) (total : ℕ) (c : Scalar) (rest es : List Scalar) → runOf (decode t) ≡ reverseAux rest (c ∷ es) → size rest ≤ 0 → total ≡ size (withoutLast P (c ∷ rest)) → 0 ≡ total
+  unfolding withoutLast size joins
+  last-by t total c [] es p q w = sym w
+  last-by t total c (d ∷ rest) es p q w = let h = size-pos d rest (c ∷ es) t p in absurd (omega arith)
+
+  pub last-end : (t : List ℕ) (q total : ℕ) → q ≤ 0 → At P t q total → q ≡ total
+  last-end t q total h a = let z : 0 ≡ total = last-by t total (a .c) (a .rest) (a .es) (a .parts) (rw (a .place) h) (a .work) in omega arith
+
+-- a byte below 80 at the end, LF apart
+pub last-lone : (v : code.Profile) (t : List ℕ) (b : ℕ) (r : Bool) → whole t → (length t ≢ 0) → b ≡ getD t (length t - 1) 0 → r ≡ neverJoinsBefore b → r ≡ true
+    → length t - 1 ≡ size (withoutLast (profileOf v) (reverse (runOf (decode t))))
+last-lone v t b r w h e f z =
+    let P : Profile = profileOf v in
+    let l : neverJoinsBefore b ≡ true = sym f ∙ z in
+    let low : isTail b ≡ false = low-tail b (lone-low b l) in
+    let one : sequenceOf b 1 ≡ firstSequence (decode (drop (length t - 1) t)) = ascii-sequence t (length t - 1) b (omega arith) e (lone-low b l) in
+    let j : JoinsAt P t (length t - 1) false = joins-alone P t (length t - 1) (ap (λ (u : Sequence). alone (number (P .class (u .code)))) (sym one) ∙ lone v b l) in
+    last-stop P t (length t - 1) _ false j refl (last-begin P t (length t - 1) w h (back-here t (length t) (length t - 1) b (omega arith) refl e low))

@@ -1,0 +1,89 @@
+use Rattle.text.proofs.Erasing.{kept-inside, last-added, last-erased, lone-added, lone-erased, nothing-erased, pair-erased, pair-long}
+use borrow.Author.Needs.{needs}
+use Rattle.text.proofs.backward.erase_last.Statement.{statement}
+use Rattle.text.proofs.backward.erase_last.Tie as tie
+
+returns : tie.Need-returns
+returns c = search nothing-erased
+
+ends-in-pair-requires : tie.Need-ends-in-pair-requires
+ends-in-pair-requires c κs = search needs
+
+sub-t10 : tie.Need-sub-t10
+sub-t10 c = search pair-long
+
+sub-t11 : tie.Need-sub-t11
+sub-t11 c = search pair-long
+
+returns-2 : tie.Need-returns-2
+returns-2 c = search pair-erased
+
+sub-byte-at : tie.Need-sub-byte-at
+sub-byte-at c = search needs
+
+byte-at-requires : tie.Need-byte-at-requires
+byte-at-requires c κs = search needs
+
+never-joins-before-requires : tie.Need-never-joins-before-requires
+never-joins-before-requires c κs = search needs
+
+is-control-requires : tie.Need-is-control-requires
+is-control-requires c κs = search needs
+
+returns-3 : tie.Need-returns-3
+returns-3 c = search lone-added
+
+sub-t15 : tie.Need-sub-t15
+sub-t15 c = search needs
+
+sub-even-before : tie.Need-sub-even-before
+sub-even-before c = search needs
+
+even-before-requires : tie.Need-even-before-requires
+even-before-requires c κs = search needs
+
+returns-4 : tie.Need-returns-4
+returns-4 c = search lone-erased
+
+last-start-requires : tie.Need-last-start-requires
+last-start-requires c κs = search needs
+
+decode-requires : tie.Need-decode-requires
+decode-requires c κs = search kept-inside
+
+is-control-requires-2 : tie.Need-is-control-requires-2
+is-control-requires-2 c κs = search needs
+
+returns-5 : tie.Need-returns-5
+returns-5 c = search last-added
+
+even-before-requires-2 : tie.Need-even-before-requires-2
+even-before-requires-2 c κs = search kept-inside
+
+returns-6 : tie.Need-returns-6
+returns-6 c = search last-erased
+
+pub erase-last-spec : {M : Type 1} → statement M
+erase-last-spec =
+    tie.close
+    (tie.spec
+    returns
+    ends-in-pair-requires
+    sub-t10
+    sub-t11
+    returns-2
+    sub-byte-at
+    byte-at-requires
+    never-joins-before-requires
+    is-control-requires
+    returns-3
+    sub-t15
+    sub-even-before
+    even-before-requires
+    returns-4
+    last-start-requires
+    decode-requires
+    is-control-requires-2
+    returns-5
+    even-before-requires-2
+    returns-6)

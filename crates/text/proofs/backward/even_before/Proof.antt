@@ -1,0 +1,37 @@
+use borrow.Author.Needs.{needs}
+use Rattle.text.proofs.Branch.{branch}
+use Rattle.text.proofs.backward.even_before.Statement.{statement}
+use Rattle.text.proofs.backward.even_before.Tie as tie
+
+is-between-indicators-requires : tie.Need-is-between-indicators-requires
+is-between-indicators-requires c κs = search needs
+
+returns : tie.Need-returns
+returns c = search branch depth 10 fits 20000
+
+returns-2 : tie.Need-returns-2
+returns-2 c = search branch depth 10 fits 20000
+
+returns-3 : tie.Need-returns-3
+returns-3 c = search branch depth 10 fits 20000
+
+is-between-indicators-requires-2 : tie.Need-is-between-indicators-requires-2
+is-between-indicators-requires-2 c κs = search needs
+
+returns-4 : tie.Need-returns-4
+returns-4 c = search branch depth 10 fits 20000
+
+returns-5 : tie.Need-returns-5
+returns-5 c = search branch depth 10 fits 20000
+
+pub even-before-spec : {M : Type 1} → statement M
+even-before-spec =
+    tie.close
+    (tie.spec
+    is-between-indicators-requires
+    returns
+    returns-2
+    returns-3
+    is-between-indicators-requires-2
+    returns-4
+    returns-5)

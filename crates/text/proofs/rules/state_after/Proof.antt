@@ -1,0 +1,12 @@
+use Rattle.text.proofs.Branch.{branch}
+use Rattle.text.proofs.rules.state_after.Statement.{statement}
+use Rattle.text.proofs.rules.state_after.Tie as tie
+
+returns : tie.Need-returns
+returns c = search branch
+
+returns-2 : tie.Need-returns-2
+returns-2 c = search branch
+
+pub state-after-spec : {M : Type 1} → statement M
+state-after-spec = tie.close (tie.spec returns returns-2)

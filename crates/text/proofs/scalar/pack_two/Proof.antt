@@ -1,0 +1,41 @@
+use Rattle.text.proofs.PackedScalars.{letter, greek-letter, mark}
+use borrow.Author.Needs.{needs}
+use Rattle.text.proofs.scalar.pack_two.Statement.{statement}
+use Rattle.text.proofs.scalar.pack_two.Tie as tie
+
+add-result : tie.Need-add-result
+add-result c = search needs
+
+returns : tie.Need-returns
+returns c = search letter
+
+add-result-2 : tie.Need-add-result-2
+add-result-2 c = search needs
+
+returns-2 : tie.Need-returns-2
+returns-2 c = search greek-letter
+
+add-result-3 : tie.Need-add-result-3
+add-result-3 c = search needs
+
+returns-3 : tie.Need-returns-3
+returns-3 c = search mark
+
+pack-requires : tie.Need-pack-requires
+pack-requires c κs = search needs
+
+returns-4 : tie.Need-returns-4
+returns-4 c = search needs
+
+pub pack-two-spec : {M : Type 1} → statement M
+pack-two-spec =
+    tie.close
+    (tie.spec
+    add-result
+    returns
+    add-result-2
+    returns-2
+    add-result-3
+    returns-3
+    pack-requires
+    returns-4)
