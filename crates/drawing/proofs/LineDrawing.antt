@@ -22,7 +22,7 @@ use Rattle.text.specs.Cluster.Walk.{size-is}
 use Rattle.text.specs.Code.{runOf, size, profileOf, sequenceOf, firstSequence, isTail, twoBytes, threeBytes, fourBytes}
 use Rattle.text.specs.Code.Laws.{ScalarAt, scalar-at, none-at, none-past, run-valid, run-front, run-fits, plain-width}
 use Rattle.text.proofs.Ascii.{ascii-first}
-use Rattle.text.proofs.Leads.{two-at, three-at, four-at}
+use Rattle.text.proofs.Leads.{two-is, three-is, four-is}
 use Rattle.text.proofs.Texts.{whole-prefix}
 use Rattle.text.specs.TextParts.{textAt}
 use Rattle.text.specs.declared.class.Profile as code
@@ -264,16 +264,16 @@ first-kept s p here e =
     cases (leb a 0xDF)
     (λ m.
     let hi : a ≤ 0xDF = leb-true a 0xDF m in
-    rw (← two-at s p a b c here refl refl refl (twoBytes a b) refl lo hi)
+    rw (← two-is s p a b c here refl refl refl lo hi)
     (kept-code (leb 0xC2 a && isTail b) (a % 32 * 64 + b % 64) 2 (λ t. let k : 0xC2 ≤ a = leb→le _ _ (and-T (leb 0xC2 a) (isTail b) t .0) in omega (arith, k, hi))))
     (λ m. let mid : 0xDF < a = leb-false a 0xDF m in
     cases (leb a 0xEF)
     (λ n.
-    rw (← three-at s p a b c here refl refl refl (threeBytes a b c) refl mid (leb-true a 0xEF n))
+    rw (← three-is s p a b c here refl refl refl mid (leb-true a 0xEF n))
     (kept-code ((isTail b && isTail c) && (leb 0x800 three && (ltb three 0xD800 || ltb 0xDFFF three))) three 3
     (λ t. let k : 0x800 ≤ three = leb→le _ _ (and-T (leb 0x800 three) _ (and-T (isTail b && isTail c) _ t .1) .0) in omega (arith, k))))
     (λ n.
-    rw (← four-at s p a b c here refl refl refl d (fourBytes a b c d) refl refl (leb-false a 0xEF n))
+    rw (← four-is s p a b c here refl refl refl d refl (leb-false a 0xEF n))
     (kept-code ((leb a 0xF4 && (isTail b && (isTail c && isTail d))) && (leb 0x10000 four && leb four 0x10FFFF)) four 4
     (λ t. let k : 0x10000 ≤ four = leb→le _ _ (and-T (leb 0x10000 four) _ (and-T (leb a 0xF4 && (isTail b && (isTail c && isTail d))) _ t .1) .0) in omega (arith, k))))))
 

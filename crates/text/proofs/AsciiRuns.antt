@@ -7,7 +7,7 @@ use mathlib.Core.List.{List, [], _∷_}
 use mathlib.Core.Logic.{_≢_}
 use lib.Dec.{leb, ltb, leb→le}
 use lib.ListN.{length, drop, getD, length-drop, drop-of-length-le}
-use lib.Seq.{drop-cons, drop-drop}
+use lib.Seq.{drop-cons, drop-drop, getD-drop}
 use borrow.Author.Tests.{lt-leb, le-leb, ltb-true, ltb-false, lt-ltb, le-ltb}
 use Rattle.text.specs.Tests.{cases, and-T, is-true, true-T}
 use Rattle.text.specs.Utf8.{decode, decodeFrom, value}
@@ -92,14 +92,32 @@ module _ (s : List ℕ) (p q : ℕ) (h : p ≤ length s) (e : q ≡ p + asciiLen
   ascii-inside : q ≤ length s
   ascii-inside = omega (arith, ascii-le (drop p s), length-drop p s)
 
+-- the byte behind those below 80 is none of them
+stops-high : (s : List ℕ) → asciiLength s < length s → 0x7F < getD s (asciiLength s) 0
+unfolding asciiLength
+stops-high [] h = absurd (omega arith)
+stops-high (b ∷ s) h =
+    cases (ltb b 0x80)
+    (λ e. rw e (stops-high s (let k : suc (asciiLength s) < suc (length s) = rw e at h in omega arith)))
+    (λ e. rw e (omega (arith, ltb-false b 0x80 e)))
+
+ascii-high : (s : List ℕ) (p q : ℕ) → p ≤ length s → q ≡ p + asciiLength (drop p s) → q < length s → 0x7F < getD s q 0
+ascii-high s p q h e k =
+    let l : asciiLength (drop p s) < length (drop p s) = omega (arith, length-drop p s) in
+    rw (e, ← getD-drop p s (asciiLength (drop p s)) 0) (stops-high (drop p s) l)
+
 pub record RunLoop (s : List ℕ) (at p : ℕ) : Type 0 where
   pub same : at + size (runOf (decode (drop at s))) ≡ p + size (runOf (decode (drop p s)))
   pub low : p ≤ length s
+  pub high : p < length s → 0x7F < getD s p 0
 
 pub run-begins : (s : List ℕ) (at q : ℕ) → at ≤ length s → q ≡ at + asciiLength (drop at s) → RunLoop s at q
-run-begins s at q h e = record { same = run-ascii s at q h e; low = ascii-inside s at q h e }
+run-begins s at q h e = record { same = run-ascii s at q h e; low = ascii-inside s at q h e; high = ascii-high s at q h e }
 
 module _ (s : List ℕ) (at p : ℕ) (w : RunLoop s at p) where
+  pub run-long : p < length s → (p < length s) × (0x7F < getD s p 0)
+  run-long h = (h, w .high h)
+
   pub run-ends : length s ≤ p → p ≡ at + size (runOf (decode (drop at s)))
   run-ends h = size-end s p (at + size (runOf (decode (drop at s)))) h (w .same)
 
@@ -117,6 +135,7 @@ module _ (s : List ℕ) (at p : ℕ) (w : RunLoop s at p) where
             record {
               same = size-on s p u h f (at + size (runOf (decode (drop at s)))) (w .same) z ∙ run-ascii s (p + u .len) q run-place e;
               low = ascii-inside s (p + u .len) q run-place e;
+              high = ascii-high s (p + u .len) q run-place e;
             }
 
         pub run-falls : length s - q < length s - p

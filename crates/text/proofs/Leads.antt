@@ -203,15 +203,15 @@ module _ (s : List ℕ) (p a b c : ℕ) (here : p < length s) (ea : a ≡ getD s
   by-test d n x true ed e f = decode-at s p a b c d n x here ea eb ec ed (by-chain a b c d n (sym e)) f
   by-test d n x false ed e f = decode-at s p a b c d 0 0 here ea eb ec ed (by-chain a b c d 0 (sym e)) refl
 
-  two-is : 0x7F < a → a ≤ 0xDF → cond (leb 0xC2 a && isTail b) (sequenceOf (a % 32 * 64 + b % 64) 2) (sequenceOf 0 0) ≡ firstSequence (decode (drop p s))
+  pub two-is : 0x7F < a → a ≤ 0xDF → cond (leb 0xC2 a && isTail b) (sequenceOf (a % 32 * 64 + b % 64) 2) (sequenceOf 0 0) ≡ firstSequence (decode (drop p s))
   unfolding value more
   two-is lo hi = by-test (getD s (p + 3) 0) 2 (a % 32 * 64 + b % 64) (leb 0xC2 a && isTail b) refl (two-chain a b c (getD s (p + 3) 0) lo hi) refl
 
-  three-is : 0xDF < a → a ≤ 0xEF → cond ((isTail b && isTail c) && isThree (x₃ a b c 0)) (sequenceOf (x₃ a b c 0) 3) (sequenceOf 0 0) ≡ firstSequence (decode (drop p s))
+  pub three-is : 0xDF < a → a ≤ 0xEF → cond ((isTail b && isTail c) && isThree (x₃ a b c 0)) (sequenceOf (x₃ a b c 0) 3) (sequenceOf 0 0) ≡ firstSequence (decode (drop p s))
   unfolding value more
   three-is lo hi = by-test (getD s (p + 3) 0) 3 (x₃ a b c 0) ((isTail b && isTail c) && isThree (x₃ a b c 0)) refl (three-chain a b c (getD s (p + 3) 0) lo hi) refl
 
-  four-is : (d : ℕ) → d ≡ getD s (p + 3) 0 → 0xEF < a → cond ((leb a 0xF4 && (isTail b && (isTail c && isTail d))) && isFour (x₄ a b c d)) (sequenceOf (x₄ a b c d) 4) (sequenceOf 0 0) ≡ firstSequence (decode (drop p s))
+  pub four-is : (d : ℕ) → d ≡ getD s (p + 3) 0 → 0xEF < a → cond ((leb a 0xF4 && (isTail b && (isTail c && isTail d))) && isFour (x₄ a b c d)) (sequenceOf (x₄ a b c d) 4) (sequenceOf 0 0) ≡ firstSequence (decode (drop p s))
   unfolding value more
   four-is d ed lo = by-test d 4 (x₄ a b c d) ((leb a 0xF4 && (isTail b && (isTail c && isTail d))) && isFour (x₄ a b c d)) ed (four-chain a b c d lo) refl
 

@@ -139,7 +139,7 @@ pub fn run_end(s: &[u8], at: usize) -> usize
 {
     let mut p = ascii_end(s, at);
     while p < s.len() {
-        let u = decode(s, p);
+        let u = decode_long(s, p);
         if u.len == 0 {
             return p;
         }

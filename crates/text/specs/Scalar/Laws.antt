@@ -3,7 +3,7 @@ use Prim.Native.Nat.{_%_, _*_, _+_, _/_, _<_, _≤_, suc, zero, ℕ}
 use native.Mathlib.Omega.{arith}
 use mathlib.Core.Bool.{Bool, _&&_, true}
 use mathlib.Core.List.{List, [], _∷_}
-use mathlib.Core.Logic.{_≢_, _⊎_, inl, inr}
+use mathlib.Core.Logic.{_≢_, _⊎_, inl, inr, ⊎-elim}
 use mathlib.Core.Path.{_∙_, _≡_, ap, refl, sym}
 use lib.Dec.{T, eqb, leb, leb→le, ltb}
 use lib.ListN.{drop, drop-of-length-le, length}
@@ -141,3 +141,6 @@ packed-view P s p v here read =
       some = rw n (z .some);
       room = rw n (z .fits);
     }))
+
+pub packed-scalar : (P : Profile) (s : List ℕ) (p v : ℕ) → v ≡ packedAt P s p → (v ≢ 0) → PackedScalar P s p v
+packed-scalar P s p v read z = ⊎-elim (λ (n : NoScalar s p v). absurd (z (n .zero))) (λ (x : PackedScalar P s p v). x) (packed-view P s p v (packed-inside P s p v read z) read)

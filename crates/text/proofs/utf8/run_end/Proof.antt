@@ -3,7 +3,7 @@ use lib.ListN.{length}
 use native.Mathlib.Omega.{arith}
 use Rattle.text.proofs.Units.{run-room}
 use borrow.Author.Needs.{needs}
-use Rattle.text.proofs.AsciiRuns.{RunLoop, run-begins, run-stops, run-place, run-falls, run-again, run-ends}
+use Rattle.text.proofs.AsciiRuns.{RunLoop, run-begins, run-long, run-stops, run-place, run-falls, run-again, run-ends}
 use Rattle.text.proofs.utf8.run_end.Statement.{statement}
 use Rattle.text.proofs.utf8.run_end.Tie as tie
 
@@ -19,14 +19,14 @@ ascii-end-requires c κs = search needs
 loop-holds : tie.Need-loop-holds Inv-loop μ-loop
 loop-holds c = search run-begins
 
-decode-requires : tie.Need-decode-requires Inv-loop μ-loop
-decode-requires c κs = search needs
+decode-long-requires : tie.Need-decode-long-requires Inv-loop μ-loop
+decode-long-requires c κs = run-long _ _ _ (c .before .loop .inv) (c .loop-test .taken)
 
 returns : tie.Need-returns Inv-loop μ-loop
 returns c = search run-stops
 
 add-ascii-end : tie.Need-add-ascii-end Inv-loop μ-loop
-add-ascii-end c = omega (arith, run-room _ _ _ (c .before .before .before .before .loop-test .taken) (c .before .before .before .decode .ensures) (c .before .if1 .left))
+add-ascii-end c = omega (arith, run-room _ _ _ (c .before .before .before .before .loop-test .taken) (c .before .before .before .decode-long .ensures) (c .before .if1 .left))
 
 ascii-end-requires-2 : tie.Need-ascii-end-requires-2 Inv-loop μ-loop
 ascii-end-requires-2 c κs = search run-place
@@ -48,7 +48,7 @@ run-end-spec =
     μ-loop
     ascii-end-requires
     loop-holds
-    decode-requires
+    decode-long-requires
     returns
     add-ascii-end
     ascii-end-requires-2
