@@ -1,0 +1,50 @@
+-- The rows program's input: the first line, then the line, "which is every byte from there to the end of input".
+use Prim.Native.Nat.{ℕ}
+use mathlib.Core.Bool.{true, cond}
+use mathlib.Core.List.{List, [], _∷_, _++_}
+use lib.ListN.{length, take, drop}
+use lib.Dec.{eqb, ltb}
+use Rattle.rows_io.specs.FirstLine.{empty, withBytes, behind}
+use Rattle.rows_io.specs.declared.first_line.FirstLine.{FirstLine}
+use Rattle.rows_io.specs.declared.input.Input.{Input}
+pub mod Laws
+
+-- the first line
+abbrev pub firstOf : List ℕ → FirstLine
+firstOf s = withBytes empty s
+
+-- the line: every byte behind the first newline
+unfoldable pub lineOf : List ℕ → List ℕ
+lineOf [] = []
+lineOf (b ∷ s) = let further : List ℕ = lineOf s in cond (eqb b 0x0A) s further
+
+-- what is held while it is read: what the code goes on with, and the lent buffer for the line
+pub record Held : Type 0 where
+  pub input : Input
+  pub buffer : List ℕ
+
+abbrev pub heldAs : Input → List ℕ → Held
+heldAs input buffer = record { input = input; buffer = buffer }
+
+-- a first line, and of the line as much as the buffer has room for, in its front. More is wanted while there is room: the program's
+-- buffer has 4,097 bytes, and question 1 refuses a line that fills it
+unfoldable pub held : FirstLine → (line buffer : List ℕ) → Held
+held f line buffer =
+    let kept : List ℕ = take (length buffer) line in
+    heldAs (record { first = f; count = length kept; more = ltb (length kept) (length buffer) }) (kept ++ drop (length kept) buffer)
+
+-- the bytes s of the input, all at once
+abbrev pub readInput : (buffer s : List ℕ) → Held
+readInput buffer s = held (firstOf s) (lineOf s) buffer
+
+-- nothing read yet; one part more; parts one after the other, which `in-parts` says are read as all their bytes at once
+abbrev pub start : Input
+start = record { first = empty; count = 0; more = true }
+
+unfoldable pub withPart : Held → List ℕ → Held
+withPart h s =
+    held (withBytes (h .input .first) s) (take (h .input .count) (h .buffer) ++ behind (h .input .first) s) (h .buffer)
+
+unfoldable pub withParts : Held → List (List ℕ) → Held
+withParts h [] = h
+withParts h (p ∷ ps) = withParts (withPart h p) ps
