@@ -37,14 +37,10 @@ held f line buffer =
 abbrev pub readInput : (buffer s : List ℕ) → Held
 readInput buffer s = held (firstOf s) (lineOf s) buffer
 
--- nothing read yet; one part more; parts one after the other, which `in-parts` says are read as all their bytes at once
+-- nothing read yet, and one part more: `in-parts` says that parts one after the other are read as all their bytes at once
 abbrev pub start : Input
 start = record { first = empty; count = 0; more = true }
 
 unfoldable pub withPart : Held → List ℕ → Held
 withPart h s =
     held (withBytes (h .input .first) s) (take (h .input .count) (h .buffer) ++ behind (h .input .first) s) (h .buffer)
-
-unfoldable pub withParts : Held → List (List ℕ) → Held
-withParts h [] = h
-withParts h (p ∷ ps) = withParts (withPart h p) ps

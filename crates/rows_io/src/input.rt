@@ -8,8 +8,8 @@ use buffer::smaller;
 
 // The first line, how many bytes of the line were read, and whether more are wanted.
 pub struct Input {
-    pub first: FirstLine,
-    pub count: usize,
+    pub(crate) first: FirstLine,
+    pub(crate) count: usize,
     pub more: bool,
 }
 

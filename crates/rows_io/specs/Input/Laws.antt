@@ -12,7 +12,7 @@ use borrow.Author.Tests.{ltb-false, lt-ltb, leb-true, leb-false}
 use Rattle.text.specs.Tests.{cases}
 use Rattle.rows_io.specs.FirstLine.{empty, withByte, withBytes, readOf, behind}
 use Rattle.rows_io.specs.FirstLine.Laws.{bytes-more, bytes-ended, bytes-append, behind-more, behind-ended, behind-append, newline-ends}
-use Rattle.rows_io.specs.Input.{firstOf, lineOf, Held, heldAs, held, readInput, start, withPart, withParts}
+use Rattle.rows_io.specs.Input.{firstOf, lineOf, Held, heldAs, held, readInput, start, withPart}
 use Rattle.rows_io.specs.declared.first_line.FirstLine.{FirstLine}
 
 -- ---- the line stands behind the first line
@@ -63,13 +63,9 @@ held-again f l x buffer =
 
 -- ---- parts
 
-nothing-read : (buffer : List ℕ) → 0 < length buffer → heldAs start buffer ≡ readInput buffer []
+pub nothing-read : (buffer : List ℕ) → 0 < length buffer → heldAs start buffer ≡ readInput buffer []
 unfolding held lineOf withBytes
 nothing-read buffer h = rw (take-nil {A = ℕ} (length buffer), lt-ltb 0 (length buffer) h)
-
-pub first-part : (buffer s : List ℕ) → withPart (heldAs start buffer) s ≡ readInput buffer s
-unfolding withPart
-first-part buffer s = rw (← line-behind s empty refl)
 
 pub next-part : (buffer s t : List ℕ) → withPart (readInput buffer s) t ≡ readInput buffer (s ++ t)
 unfolding withPart held
@@ -78,6 +74,10 @@ next-part buffer s t =
     ap (λ (l : List ℕ). held (withBytes (firstOf s) t) (l ++ behind (firstOf s) t) (held (firstOf s) (lineOf s) buffer .buffer)) (take-append-seam k (drop (length k) buffer))
     ∙ held-again (withBytes (firstOf s) t) (lineOf s) (behind (firstOf s) t) buffer
     ∙ ap₂ (λ (f : FirstLine) (l : List ℕ). held f l buffer) (sym (bytes-append s t empty)) (sym (line-append s t))
+
+unfoldable pub withParts : Held → List (List ℕ) → Held
+withParts h [] = h
+withParts h (p ∷ ps) = withParts (withPart h p) ps
 
 unfoldable pub joined : List (List ℕ) → List ℕ
 joined [] = []
@@ -91,14 +91,7 @@ more-parts (p ∷ ps) buffer s =
 
 -- the parts of an input, one after the other, are read as all their bytes at once
 pub in-parts : (ps : List (List ℕ)) (buffer : List ℕ) → 0 < length buffer → withParts (heldAs start buffer) ps ≡ readInput buffer (joined ps)
-unfolding withParts joined
-in-parts [] buffer h = nothing-read buffer h
-in-parts (p ∷ ps) buffer h = ap (λ (x : Held). withParts x ps) (first-part buffer p) ∙ more-parts ps buffer p
-
-pub last-part : (ps : List (List ℕ)) (h : Held) (p : List ℕ) → withParts h (ps ++ (p ∷ [])) ≡ withPart (withParts h ps) p
-unfolding withParts
-last-part [] h p = refl
-last-part (q ∷ ps) h p = last-part ps (withPart h q) p
+in-parts ps buffer h = ap (λ (x : Held). withParts x ps) (nothing-read buffer h) ∙ more-parts ps buffer []
 
 -- ---- a buffer that is full
 
