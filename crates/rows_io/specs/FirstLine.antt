@@ -6,6 +6,7 @@ use lib.ListN.{drop}
 use lib.Dec.{eqb, leb}
 use Rattle.rows_io.specs.declared.first_line.FirstLine.{FirstLine}
 use Rattle.rows_io.specs.declared.first_line.Part.{Part}
+pub mod Form
 pub mod Laws
 pub mod Vectors
 

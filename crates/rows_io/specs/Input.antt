@@ -18,29 +18,29 @@ unfoldable pub lineOf : List ℕ → List ℕ
 lineOf [] = []
 lineOf (b ∷ s) = let further : List ℕ = lineOf s in cond (eqb b 0x0A) s further
 
--- what is held while it is read: what the code goes on with, and the lent buffer for the line
-pub record Held : Type 0 where
+-- what was read so far: what the code goes on with, and the lent buffer for the line
+pub record InputState : Type 0 where
   pub input : Input
   pub buffer : List ℕ
 
-abbrev pub heldAs : Input → List ℕ → Held
-heldAs input buffer = record { input = input; buffer = buffer }
+abbrev pub stateOf : Input → List ℕ → InputState
+stateOf input buffer = record { input = input; buffer = buffer }
 
 -- a first line, and of the line as much as the buffer has room for, in its front. More is wanted while there is room: the program's
 -- buffer has 4,097 bytes, and question 1 refuses a line that fills it
-unfoldable pub held : FirstLine → (line buffer : List ℕ) → Held
-held f line buffer =
+unfoldable pub readInto : FirstLine → (line buffer : List ℕ) → InputState
+readInto f line buffer =
     let kept : List ℕ = take (length buffer) line in
-    heldAs (record { first = f; count = length kept; more = ltb (length kept) (length buffer) }) (kept ++ drop (length kept) buffer)
+    stateOf (record { first = f; count = length kept; more = ltb (length kept) (length buffer) }) (kept ++ drop (length kept) buffer)
 
 -- the bytes s of the input, all at once
-abbrev pub readInput : (buffer s : List ℕ) → Held
-readInput buffer s = held (firstOf s) (lineOf s) buffer
+abbrev pub readInput : (buffer s : List ℕ) → InputState
+readInput buffer s = readInto (firstOf s) (lineOf s) buffer
 
 -- nothing read yet, and one part more: `in-parts` says that parts one after the other are read as all their bytes at once
 abbrev pub start : Input
 start = record { first = empty; count = 0; more = true }
 
-unfoldable pub withPart : Held → List ℕ → Held
+unfoldable pub withPart : InputState → List ℕ → InputState
 withPart h s =
-    held (withBytes (h .input .first) s) (take (h .input .count) (h .buffer) ++ behind (h .input .first) s) (h .buffer)
+    readInto (withBytes (h .input .first) s) (take (h .input .count) (h .buffer) ++ behind (h .input .first) s) (h .buffer)

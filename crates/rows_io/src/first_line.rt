@@ -6,17 +6,17 @@ ghost use Rattle.rows_io.specs.FirstLine.{digit, more, empty, withDigit,
 // What was read of it: in the width (stage 0), in the mode (1) or in a line of another form (2), whether the number there has a digit,
 // and whether the newline was read.
 pub struct FirstLine {
-    pub stage: usize,
-    pub digits: bool,
-    pub width: usize,
-    pub mode: usize,
-    pub ended: bool,
+    pub(crate) stage: usize,
+    pub(crate) digits: bool,
+    pub(crate) width: usize,
+    pub(crate) mode: usize,
+    pub(crate) ended: bool,
 }
 
 // The first line so far, and the place behind it.
 pub(crate) struct Part {
-    pub first: FirstLine,
-    pub at: usize,
+    pub(crate) first: FirstLine,
+    pub(crate) at: usize,
 }
 
 pub(crate) fn nothing() -> FirstLine

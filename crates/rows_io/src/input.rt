@@ -1,6 +1,6 @@
 // The program's input: the first line, and the line behind it as far as question 1 looks.
 ghost use mathlib.Core.Path.{_≡_};
-ghost use Rattle.rows_io.specs.Input.{start, heldAs, withPart};
+ghost use Rattle.rows_io.specs.Input.{start, stateOf, withPart};
 use super::first_line::FirstLine;
 use super::first_line::nothing;
 use super::first_line::read_part;
@@ -27,7 +27,7 @@ pub fn begin() -> Input
 // One more part of the input: the bytes of the first line, then those of the line as far as it has room. A line that fills its room is
 // one that question 1 refuses.
 pub fn with_part(line: &mut [u8], state: Input, part: &[u8]) -> Input
-    ensures { λ r. ⌜ heldAs r (now (line .exit)) ≡ withPart (heldAs state (now (line .entry))) (now (part .entry)) ⌝ }
+    ensures { λ r. ⌜ stateOf r (now (line .exit)) ≡ withPart (stateOf state (now (line .entry))) (now (part .entry)) ⌝ }
 {
     let p = read_part(state.first, part);
     let first = p.first;

@@ -12,7 +12,7 @@ use borrow.Author.Tests.{ltb-false, lt-ltb, leb-true, leb-false}
 use Rattle.text.specs.Tests.{cases}
 use Rattle.rows_io.specs.FirstLine.{empty, withByte, withBytes, readOf, behind}
 use Rattle.rows_io.specs.FirstLine.Laws.{bytes-more, bytes-ended, bytes-append, behind-more, behind-ended, behind-append, newline-ends}
-use Rattle.rows_io.specs.Input.{firstOf, lineOf, Held, heldAs, held, readInput, start, withPart}
+use Rattle.rows_io.specs.Input.{firstOf, lineOf, InputState, stateOf, readInto, readInput, start, withPart}
 use Rattle.rows_io.specs.declared.first_line.FirstLine.{FirstLine}
 
 -- ---- the line stands behind the first line
@@ -36,7 +36,7 @@ line-behind (b ∷ s) f e =
 line-append : (s t : List ℕ) → lineOf (s ++ t) ≡ lineOf s ++ behind (firstOf s) t
 line-append s t = rw (line-behind (s ++ t) empty refl, line-behind s empty refl) (behind-append s t empty)
 
--- ---- a buffer that is held, and more of the line
+-- ---- a line that was read into its buffer, and more of it
 
 take-again : (n : ℕ) (l x : List ℕ) → take n (take n l ++ x) ≡ take n (l ++ x)
 take-again n l x = cases (leb (length l) n)
@@ -50,32 +50,32 @@ drop-again n m k b e h =
     let q′ : n + (m - n) ≡ m = omega arith in
     ap (λ (i : ℕ). drop i (k ++ drop n b)) q ∙ drop-append-add k (drop n b) (m - n) ∙ drop-drop (m - n) n b ∙ ap (λ (i : ℕ). drop i b) q′
 
-held-length : (f : FirstLine) (l buffer : List ℕ) → length (held f l buffer .buffer) ≡ length buffer
-unfolding held
-held-length f l buffer = simp (length-append, length-drop, length-take) (omega arith)
+into-length : (f : FirstLine) (l buffer : List ℕ) → length (readInto f l buffer .buffer) ≡ length buffer
+unfolding readInto
+into-length f l buffer = simp (length-append, length-drop, length-take) (omega arith)
 
-held-again : (f : FirstLine) (l x buffer : List ℕ) → held f (take (length buffer) l ++ x) (held f l buffer .buffer) ≡ held f (l ++ x) buffer
-unfolding held
-held-again f l x buffer =
+into-again : (f : FirstLine) (l x buffer : List ℕ) → readInto f (take (length buffer) l ++ x) (readInto f l buffer .buffer) ≡ readInto f (l ++ x) buffer
+unfolding readInto
+into-again f l x buffer =
     let n : ℕ = length buffer in
     let h : length (take n l) ≤ length (take n (l ++ x)) = simp (length-take, length-append) (omega arith) in
-    rw (held-length f l buffer, take-again n l x, drop-again (length (take n l)) (length (take n (l ++ x))) (take n l) buffer refl h)
+    rw (into-length f l buffer, take-again n l x, drop-again (length (take n l)) (length (take n (l ++ x))) (take n l) buffer refl h)
 
 -- ---- parts
 
-pub nothing-read : (buffer : List ℕ) → 0 < length buffer → heldAs start buffer ≡ readInput buffer []
-unfolding held lineOf withBytes
+pub nothing-read : (buffer : List ℕ) → 0 < length buffer → stateOf start buffer ≡ readInput buffer []
+unfolding readInto lineOf withBytes
 nothing-read buffer h = rw (take-nil {A = ℕ} (length buffer), lt-ltb 0 (length buffer) h)
 
 pub next-part : (buffer s t : List ℕ) → withPart (readInput buffer s) t ≡ readInput buffer (s ++ t)
-unfolding withPart held
+unfolding withPart readInto
 next-part buffer s t =
     let k : List ℕ = take (length buffer) (lineOf s) in
-    ap (λ (l : List ℕ). held (withBytes (firstOf s) t) (l ++ behind (firstOf s) t) (held (firstOf s) (lineOf s) buffer .buffer)) (take-append-seam k (drop (length k) buffer))
-    ∙ held-again (withBytes (firstOf s) t) (lineOf s) (behind (firstOf s) t) buffer
-    ∙ ap₂ (λ (f : FirstLine) (l : List ℕ). held f l buffer) (sym (bytes-append s t empty)) (sym (line-append s t))
+    ap (λ (l : List ℕ). readInto (withBytes (firstOf s) t) (l ++ behind (firstOf s) t) (readInto (firstOf s) (lineOf s) buffer .buffer)) (take-append-seam k (drop (length k) buffer))
+    ∙ into-again (withBytes (firstOf s) t) (lineOf s) (behind (firstOf s) t) buffer
+    ∙ ap₂ (λ (f : FirstLine) (l : List ℕ). readInto f l buffer) (sym (bytes-append s t empty)) (sym (line-append s t))
 
-unfoldable pub withParts : Held → List (List ℕ) → Held
+unfoldable pub withParts : InputState → List (List ℕ) → InputState
 withParts h [] = h
 withParts h (p ∷ ps) = withParts (withPart h p) ps
 
@@ -87,11 +87,11 @@ more-parts : (ps : List (List ℕ)) (buffer s : List ℕ) → withParts (readInp
 unfolding withParts joined
 more-parts [] buffer s = ap (readInput buffer) (sym (append-nil s))
 more-parts (p ∷ ps) buffer s =
-    ap (λ (h : Held). withParts h ps) (next-part buffer s p) ∙ more-parts ps buffer (s ++ p) ∙ ap (readInput buffer) (append-assoc s p (joined ps))
+    ap (λ (h : InputState). withParts h ps) (next-part buffer s p) ∙ more-parts ps buffer (s ++ p) ∙ ap (readInput buffer) (append-assoc s p (joined ps))
 
 -- the parts of an input, one after the other, are read as all their bytes at once
-pub in-parts : (ps : List (List ℕ)) (buffer : List ℕ) → 0 < length buffer → withParts (heldAs start buffer) ps ≡ readInput buffer (joined ps)
-in-parts ps buffer h = ap (λ (x : Held). withParts x ps) (nothing-read buffer h) ∙ more-parts ps buffer []
+pub in-parts : (ps : List (List ℕ)) (buffer : List ℕ) → 0 < length buffer → withParts (stateOf start buffer) ps ≡ readInput buffer (joined ps)
+in-parts ps buffer h = ap (λ (x : InputState). withParts x ps) (nothing-read buffer h) ∙ more-parts ps buffer []
 
 -- ---- a buffer that is full
 
@@ -106,12 +106,12 @@ line-after (b ∷ s) f e h =
     cases (eqb b 0x0A) (λ p. ap (λ (g : FirstLine). g .ended) (bytes-more f b s e ∙ bytes-ended s (withByte f b) (n ∙ p)) ∙ n ∙ p)
     (λ p. ap (λ (g : FirstLine). g .ended) (bytes-more f b s e) ∙ line-after s (withByte f b) (n ∙ p) (rw (line-more b s p) at h))
 
-held-full : (f : FirstLine) (l x buffer : List ℕ) → length buffer ≤ length l → held f (l ++ x) buffer ≡ held f l buffer
-unfolding held
-held-full f l x buffer h = rw (take-append-le (length buffer) l x h)
+into-full : (f : FirstLine) (l x buffer : List ℕ) → length buffer ≤ length l → readInto f (l ++ x) buffer ≡ readInto f l buffer
+unfolding readInto
+into-full f l x buffer h = rw (take-append-le (length buffer) l x h)
 
-full : (f : FirstLine) (l buffer : List ℕ) → held f l buffer .input .more ≡ false → length buffer ≤ length l
-unfolding held
+full : (f : FirstLine) (l buffer : List ℕ) → readInto f l buffer .input .more ≡ false → length buffer ≤ length l
+unfolding readInto
 full f l buffer e = omega (arith, length-take (length buffer) l, ltb-false (length (take (length buffer) l)) (length buffer) e)
 
 -- once no more is wanted, what follows changes nothing
@@ -119,4 +119,4 @@ pub enough : (buffer s t : List ℕ) → 0 < length buffer → readInput buffer 
 enough buffer s t h e =
     let w : length buffer ≤ length (lineOf s) = full (firstOf s) (lineOf s) buffer e in
     let a : firstOf (s ++ t) ≡ firstOf s = bytes-append s t empty ∙ bytes-ended t (firstOf s) (line-after s empty refl (omega arith)) in
-    ap₂ (λ (f : FirstLine) (l : List ℕ). held f l buffer) a (line-append s t) ∙ held-full (firstOf s) (lineOf s) (behind (firstOf s) t) buffer w
+    ap₂ (λ (f : FirstLine) (l : List ℕ). readInto f l buffer) a (line-append s t) ∙ into-full (firstOf s) (lineOf s) (behind (firstOf s) t) buffer w

@@ -21,7 +21,7 @@ use Rattle.rows.specs.Calls.{Wrapped, rowsCall, modeAndWidth, modeOf, numbersOf
 use Rattle.rows.specs.Calls.Laws.{rows-refused, rows-five, rows-six, rows-accepted}
 use Rattle.rows.specs.Contracts.Laws.{numbersOf-length}
 use Rattle.rows_io.specs.FirstLine.{widthOf}
-use Rattle.rows_io.specs.Input.{firstOf, lineOf, held, readInput}
+use Rattle.rows_io.specs.Input.{firstOf, lineOf, readInto, readInput}
 use Rattle.rows_io.specs.Output.{withoutZeros, decimal, rowLine, rowLines, refusal, answerText, printed, rowsProgram}
 use Rattle.rows_io.specs.declared.first_line.FirstLine.{FirstLine}
 
@@ -121,7 +121,7 @@ as-far f line = cases (leb (length line) 4097)
 
 -- what is printed of an input that was read into 4,097 bytes is what the program prints for it
 pub program-prints : (buffer s : List ℕ) → length buffer ≡ 4097 → printed (readInput buffer s .input .first) (take (readInput buffer s .input .count) (readInput buffer s .buffer)) ≡ rowsProgram s
-unfolding held
+unfolding readInto
 program-prints buffer s n =
     let kept : List ℕ = take (length buffer) (lineOf s) in
     ap (printed (firstOf s)) (take-append-seam kept (drop (length kept) buffer) ∙ ap (λ (k : ℕ). take k (lineOf s)) n) ∙ as-far (firstOf s) (lineOf s)

@@ -1,4 +1,4 @@
-use Rattle.rows_io.proofs.LineBuffer.{part-within, part-held}
+use Rattle.rows_io.proofs.LineBuffer.{part-within, part-pushed}
 use borrow.Author.Needs.{needs}
 use Rattle.rows_io.proofs.input.with_part.Statement.{statement}
 use Rattle.rows_io.proofs.input.with_part.Tie as tie
@@ -28,7 +28,7 @@ returns : tie.Need-returns
 returns c =
     let pushed = c .before .before .before in
     let read = pushed .before .before .before .before in
-    part-held (read .before .before .before .args .state) _ (pushed .push-bytes .last .0) _ (read .read-part .result) (pushed .push-bytes .result) (c .smaller .result) (read .read-part .ensures) (pushed .push-bytes .ensures) (search needs) (c .smaller .ensures)
+    part-pushed (read .before .before .before .args .state) _ (pushed .push-bytes .last .0) _ (read .read-part .result) (pushed .push-bytes .result) (c .smaller .result) (read .read-part .ensures) (pushed .push-bytes .ensures) (search needs) (c .smaller .ensures)
 
 pub with-part-spec : {M : Type 1} → statement M
 with-part-spec =
