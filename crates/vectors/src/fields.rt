@@ -134,7 +134,7 @@ pub(crate) fn numbers(s: &[u8], at: usize, out: &mut [usize]) -> usize
 }
 
 // The hexadecimal byte whose first digit is at `at`.
-fn hex_byte(s: &[u8], at: usize) -> u8 {
+pub(crate) fn hex_byte(s: &[u8], at: usize) -> u8 {
     if at < s.len() {
         return ((digit(s[at]) * 16 + digit(byte_at(s, at + 1))) % 256) as u8;
     }

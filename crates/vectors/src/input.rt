@@ -104,6 +104,7 @@ pub(crate) fn all(buf: &mut [u8]) -> Counts {
         draw_row: 0,
         scalars: 0,
         clusters: 0,
+        program: 0,
         different: 0,
     };
     let mut state = Input {

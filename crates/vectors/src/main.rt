@@ -1,6 +1,8 @@
-// Replays recorded answers of the Rust source, and published vectors: lines of text on standard input, each a case with its answer.
+// Replays recorded answers of the Rust source, published vectors and inputs of the rows program: lines of text on standard input, each a
+// case with its answer.
 mod fields;
 mod input;
+mod program;
 mod published;
 mod recorded;
 
@@ -14,10 +16,12 @@ use recorded::HEIGHT;
 use recorded::READ;
 use recorded::ROWS;
 
-// The kinds of published vectors, behind the calls.
+// The kinds of published vectors, behind the calls, and the rows program's inputs.
 const SCALARS: usize = 7;
 
 const CLUSTERS: usize = 8;
+
+const PROGRAM: usize = 9;
 
 // How many cases of each kind were replayed, and how many were not answered as recorded.
 pub struct Counts {
@@ -29,6 +33,7 @@ pub struct Counts {
     pub draw_row: u64,
     pub scalars: u64,
     pub clusters: u64,
+    pub program: u64,
     pub different: u64,
 }
 
@@ -45,7 +50,7 @@ fn is_vector_met(s: &[u8], at: usize, clusters: bool) -> bool
     published::decodes(&line[..n], s, list)
 }
 
-// The kind of the case at `at`: a call, scalars or clusters, 0 for none of these.
+// The kind of the case at `at`: a call, scalars, clusters or the rows program, 0 for none of these.
 fn kind_of(s: &[u8], at: usize) -> usize
     requires { ⌜ at ≤ length (now s) ⌝ }
 {
@@ -73,6 +78,9 @@ fn kind_of(s: &[u8], at: usize) -> usize
     if fields::is_word(s, at, b"clusters ") {
         return CLUSTERS;
     }
+    if fields::is_word(s, at, b"program ") {
+        return PROGRAM;
+    }
     0
 }
 
@@ -82,6 +90,9 @@ fn is_met(s: &[u8], at: usize, kind: usize) -> bool
 {
     if kind < SCALARS {
         return recorded::is_met(kind, s, at);
+    }
+    if kind == PROGRAM {
+        return program::is_met(s, at);
     }
     is_vector_met(s, at, kind == CLUSTERS)
 }
@@ -105,6 +116,7 @@ fn with_case(counts: Counts, kind: usize, met: bool) -> Counts {
         draw_row: with_one(counts.draw_row, kind == DRAW_ROW),
         scalars: with_one(counts.scalars, kind == SCALARS),
         clusters: with_one(counts.clusters, kind == CLUSTERS),
+        program: with_one(counts.program, kind == PROGRAM),
         different: with_one(counts.different, !met),
     }
 }
@@ -152,5 +164,6 @@ fn main() {
     print(b"draw_row ", counts.draw_row);
     print(b"scalars ", counts.scalars);
     print(b"clusters ", counts.clusters);
+    print(b"program ", counts.program);
     print(b"different ", counts.different);
 }

@@ -1,60 +1,39 @@
 use mathlib.Core.Path.{sym}
+use Prim.Native.Nat.{ℕ, _≤_}
+use lib.ListN.{length, length-replicate}
 use lib.Seq.{length-take-le}
+use Rattle.rows_program.proofs.Parts.{printed-fits}
 use borrow.Author.Needs.{needs}
 use Rattle.rows_program.proofs.main.Statement.{statement}
 use Rattle.rows_program.proofs.main.Tie as tie
-use Rattle.rows_program.proofs.main.Reads as reads
-use Rattle.rows_program.proofs.main.Lts as lts
-use Rattle.rows.proofs.numbers.rows_numbers.Reads as rows-numbers-reads
-use Rattle.rows_program.proofs.first_line.width_of.Reads as width-of-reads
-use Rattle.rows_program.proofs.input.all.Reads as all-reads
-use Rattle.rows_program.proofs.print_answer.Reads as print-answer-reads
 
--- src/main.rt:40:26
+fits : (c : tie.After-print) → c .print .result ≤ length (c .print .last .0)
+fits c = printed-fits _ _ _ _ _ (length-replicate {A = ℕ} 258048 0) (c .print .kept .0) (c .print .ensures)
+
 slice-aggregate-all : tie.Need-slice-aggregate-all
 slice-aggregate-all c = search needs
 
--- src/main.rt:40:9
 all-requires : tie.Need-all-requires
 all-requires c κs = search needs
 
--- src/main.rt:44:9
-array-share-prefix-line : tie.Need-array-share-prefix-line
-array-share-prefix-line c = search needs
+slice-aggregate-print : tie.Need-slice-aggregate-print
+slice-aggregate-print c = search needs
 
--- src/main.rt:44:9
-slice-aggregate-rows-numbers : tie.Need-slice-aggregate-rows-numbers
-slice-aggregate-rows-numbers c = sym (length-take-le _ _ (search needs))
+slice-aggregate-print-2 : tie.Need-slice-aggregate-print-2
+slice-aggregate-print-2 c = search needs
 
--- src/main.rt:45:9
-width-of-requires : tie.Need-width-of-requires
-width-of-requires c κs = search needs
+print-requires : tie.Need-print-requires
+print-requires c κs = search needs
 
--- src/main.rt:47:9
-slice-aggregate-rows-numbers-2 : tie.Need-slice-aggregate-rows-numbers-2
-slice-aggregate-rows-numbers-2 c = search needs
+array-share-prefix-out : tie.Need-array-share-prefix-out
+array-share-prefix-out c = fits (c .before)
 
--- src/main.rt:48:9
-slice-aggregate-rows-numbers-3 : tie.Need-slice-aggregate-rows-numbers-3
-slice-aggregate-rows-numbers-3 c = search needs
+slice-aggregate-write-all : tie.Need-slice-aggregate-write-all
+slice-aggregate-write-all c = sym (length-take-le _ _ (fits (c .before .before)))
 
--- src/main.rt:49:9
-slice-aggregate-rows-numbers-4 : tie.Need-slice-aggregate-rows-numbers-4
-slice-aggregate-rows-numbers-4 c = search needs
+write-all-requires : tie.Need-write-all-requires
+write-all-requires c κs = search needs
 
--- src/main.rt:43:9
-rows-numbers-requires : tie.Need-rows-numbers-requires
-rows-numbers-requires c κs = search needs
-
--- src/main.rt:51:21
-slice-aggregate-print-answer : tie.Need-slice-aggregate-print-answer
-slice-aggregate-print-answer c = search needs
-
--- src/main.rt:51:5
-print-answer-requires : tie.Need-print-answer-requires
-print-answer-requires c κs = search needs
-
--- src/main.rt:35:1
 returns : tie.Need-returns
 returns c = search needs
 
@@ -64,13 +43,10 @@ main-spec =
     (tie.spec
     slice-aggregate-all
     all-requires
-    array-share-prefix-line
-    slice-aggregate-rows-numbers
-    width-of-requires
-    slice-aggregate-rows-numbers-2
-    slice-aggregate-rows-numbers-3
-    slice-aggregate-rows-numbers-4
-    rows-numbers-requires
-    slice-aggregate-print-answer
-    print-answer-requires
+    slice-aggregate-print
+    slice-aggregate-print-2
+    print-requires
+    array-share-prefix-out
+    slice-aggregate-write-all
+    write-all-requires
     returns)

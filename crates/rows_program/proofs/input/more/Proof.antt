@@ -1,7 +1,4 @@
-use Rattle.buffer.specs.Numbers.Laws.{smaller-right}
-use native.Mathlib.Omega.{arith}
-use mathlib.Core.Path.{sym}
-use lib.Seq.{length-take-le}
+use Rattle.rows_program.proofs.Parts.{part-read}
 use borrow.Author.Needs.{needs}
 use Rattle.rows_program.proofs.input.more.Statement.{statement}
 use Rattle.rows_program.proofs.input.more.Tie as tie
@@ -15,23 +12,20 @@ slice-aggregate-read-full c = search needs
 read-full-requires : tie.Need-read-full-requires
 read-full-requires c κs = search needs
 
-smaller-requires : tie.Need-smaller-requires
-smaller-requires c κs = search needs
-
 array-share-prefix-buf : tie.Need-array-share-prefix-buf
-array-share-prefix-buf c = omega (arith, smaller-right (c .before .before .before .read-full .result) 4096 (c .before .smaller .result) (c .before .smaller .ensures))
+array-share-prefix-buf c = search needs
 
-slice-aggregate-with-bytes : tie.Need-slice-aggregate-with-bytes
-slice-aggregate-with-bytes c = sym (length-take-le _ _ (omega (arith, smaller-right (c .before .before .before .before .read-full .result) 4096 (c .before .before .smaller .result) (c .before .before .smaller .ensures))))
+slice-aggregate-with-part : tie.Need-slice-aggregate-with-part
+slice-aggregate-with-part c = search needs
 
-with-bytes-requires : tie.Need-with-bytes-requires
-with-bytes-requires c κs = search needs
+with-part-requires : tie.Need-with-part-requires
+with-part-requires c κs = search needs
 
 same-length : tie.Need-same-length
 same-length c = search needs
 
 returns : tie.Need-returns
-returns c = search needs
+returns c = search part-read
 
 pub more-spec : {M : Type 1} → statement M
 more-spec =
@@ -40,9 +34,8 @@ more-spec =
     buffer-requires
     slice-aggregate-read-full
     read-full-requires
-    smaller-requires
     array-share-prefix-buf
-    slice-aggregate-with-bytes
-    with-bytes-requires
+    slice-aggregate-with-part
+    with-part-requires
     same-length
     returns)

@@ -1,0 +1,4 @@
+pub mod Smaller
+pub mod Reading
+pub mod LineBuffer
+pub mod Lines

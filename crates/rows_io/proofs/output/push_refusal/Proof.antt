@@ -1,0 +1,33 @@
+use Rattle.rows_io.proofs.Lines.{refusal-pushed}
+use borrow.Author.Needs.{needs}
+use Rattle.rows_io.proofs.output.push_refusal.Statement.{statement}
+use Rattle.rows_io.proofs.output.push_refusal.Tie as tie
+
+slice-aggregate-push-bytes : tie.Need-slice-aggregate-push-bytes
+slice-aggregate-push-bytes c = search needs
+
+push-bytes-requires : tie.Need-push-bytes-requires
+push-bytes-requires c κs = search needs
+
+push-decimal-requires : tie.Need-push-decimal-requires
+push-decimal-requires c κs = search needs
+
+push-byte-requires : tie.Need-push-byte-requires
+push-byte-requires c κs = search needs
+
+same-length : tie.Need-same-length
+same-length c = search needs
+
+returns : tie.Need-returns
+returns c = search refusal-pushed
+
+pub push-refusal-spec : {M : Type 1} → statement M
+push-refusal-spec =
+    tie.close
+    (tie.spec
+    slice-aggregate-push-bytes
+    push-bytes-requires
+    push-decimal-requires
+    push-byte-requires
+    same-length
+    returns)
