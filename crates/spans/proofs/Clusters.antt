@@ -120,11 +120,11 @@ module _ (P : Profile) (s : List ℕ) (g : List Scalar) (gs : List (List Scalar)
   second : 1 < length (bytesOf g) → getD s 1 0 ≡ getD (bytesOf g) 1 0
   second h = sym (ap (λ (l : List ℕ). getD l 1 0) (sym (cluster-bytes P s g gs e)) ∙ getD-take (length (bytesOf g)) s 1 0 h)
 
-  a-first : getD (bytesOf g) 0 0 ≡ getD s 0 0
-  a-first = ap (λ (l : List ℕ). getD l 0 0) (sym (cluster-bytes P s g gs e)) ∙ getD-take (length (bytesOf g)) s 0 0 (cluster-some P s g gs e)
+  pub first-byte : getD (bytesOf g) 0 0 ≡ getD s 0 0
+  first-byte = ap (λ (l : List ℕ). getD l 0 0) (sym (cluster-bytes P s g gs e)) ∙ getD-take (length (bytesOf g)) s 0 0 (cluster-some P s g gs e)
 
   by-seen : (t : List ℕ) → seen P g t ≡ seenOf g (length (bytesOf g)) (getD s 0 0) (getD s 1 0) (widthOf P g) (parse t)
-  by-seen t = rw (← a-first) (seen-by P g (getD s 1 0) t (bytesOf g) refl second)
+  by-seen t = rw (← first-byte) (seen-by P g (getD s 1 0) t (bytesOf g) refl second)
 
   plain-bytes : plainCluster P g ≡ plainBytes (length (bytesOf g)) (getD s 0 0) (getD s 1 0) (widthOf P g)
   unfolding plainCluster

@@ -4,6 +4,7 @@ pub mod KnownParameters
 pub mod Sequences
 pub mod Clusters
 pub mod Single
+pub mod Bases
 pub mod ReaderLaws
 pub mod Searching
 pub mod StretchLaws

@@ -35,13 +35,13 @@ use Rattle.spans.specs.Sequence.{sgr, eraseToEnd, ignored, hyperlink, li
 use Rattle.spans.specs.Sequence.Laws.{parse-length, parse-last}
 use Rattle.spans.specs.Spans.{Content, Span, span, Seen, plain, special, seen, spansAt, text, control, invalid, unprintable, escape, tab, crlf, lf, Record, aRecord, kindOf, matchOf, recordOf, records}
 use Rattle.spans.specs.Spans.Steps.{extent, isPlain, plainCluster, plain-same, plainSize, plainText, skipped, step-text, step-special, step-invalid, NoText, seen-noText}
-use Rattle.spans.specs.Contracts.{alone, clustersAt, PlainTo, ClustersTo, runAt, Part, Within, Ahead, SkipReady, Skip, told, escapeLook, lookBytes, aLook, Fresh, Ready, isMatch, matchIn, textRecord, recordsFrom, invalidAt, Stepped, ControlReady, Escaping, Mark, SpecialStep}
+use Rattle.spans.specs.Contracts.{alone, clustersAt, PlainTo, clustersSize, ClustersTo, runAt, Part, Within, Ahead, SkipReady, Skip, told, escapeLook, lookBytes, aLook, Fresh, Ready, isMatch, matchIn, textRecord, recordsFrom, invalidAt, Stepped, ControlReady, Escaping, Mark, SpecialStep}
 use Rattle.spans.specs.declared.sequence.Sequence as sequence
 use Rattle.spans.specs.declared.reader.Look.{Look}
 use Rattle.spans.specs.declared.reader.Place.{Place}
 use Rattle.spans.specs.declared.reader.Matched.{Matched}
 use Rattle.spans.specs.declared.reader.NextSpan.{NextSpan}
-use Rattle.spans.proofs.Clusters.{plain-width, look-bytes, lookOf}
+use Rattle.spans.proofs.Clusters.{plain-width, first-byte, look-bytes, lookOf}
 use Rattle.spans.proofs.Single.{control-single, control-special, low, plain-here, plain-on, run-byte}
 use Rattle.spans.proofs.Sequences.{part-slice}
 
@@ -93,9 +93,10 @@ run-inside t at = rw (size-is (runOf (decode (drop at t))), ← length-drop at t
 pub record ClustersLoop (P : Profile) (t : List ℕ) (at p u : ℕ) : Type 0 where
   pub to : PlainTo P t at p
   pub scalar : u ≡ packedAt P t p
+  pub work : p + clustersSize P false (clustersAt P (drop p t)) ≡ at + clustersSize P false (clustersAt P (drop at t))
 
 pub clusters-begin : (P : Profile) (t : List ℕ) (at u : ℕ) → at < length t → u ≡ packedAt P t at → ClustersLoop P t at at u
-clusters-begin P t at u h e = record { to = plain-here P t at (omega (arith, h)); scalar = e }
+clusters-begin P t at u h e = record { to = plain-here P t at (omega (arith, h)); scalar = e; work = refl }
 
 -- a printable byte begins a cluster that has a width
 printable-wide : (v : code.Profile) (t : List ℕ) (p : ℕ) → printable (getD t p 0) ≡ true → 1 ≤ widthOf (profileOf v) (firstOf (clusters (profileOf v) (textAt t p)))
@@ -109,12 +110,28 @@ no-first : (P : Profile) → widthOf P (firstOf (clusters P [])) ≡ 0
 unfolding widthOf firstOf clusters clustersAfter
 no-first P = refl
 
+-- clusters behind others, by the byte that they begin with
+module _ (P : Profile) (t : List ℕ) (e : ℕ) where
+  begins : (g : List Scalar) (gs : List (List Scalar)) → clustersAt P (drop e t) ≡ g ∷ gs → getD (bytesOf g) 0 0 ≡ getD t e 0
+  begins g gs q = first-byte P (drop e t) g gs q ∙ byte-here P t e
+
+  behind-same : (gs : List (List Scalar)) → clustersAt P (drop e t) ≡ gs → printable (getD t e 0) ≡ false → clustersSize P true gs ≡ clustersSize P false gs
+  unfolding clustersSize
+  behind-same [] q k = refl
+  behind-same (g ∷ gs) q k = rw (begins g gs q, k) refl
+
+  behind-none : (gs : List (List Scalar)) → clustersAt P (drop e t) ≡ gs → printable (getD t e 0) ≡ true → clustersSize P true gs ≡ 0
+  unfolding clustersSize
+  behind-none [] q k = refl
+  behind-none (g ∷ gs) q k = rw (begins g gs q, k) refl
+
 module _ (v : code.Profile) (t : List ℕ) (at p u : ℕ) (z : ClustersLoop (profileOf v) t at p u) where
   pub clusters-past : u ≡ 0 → ClustersTo (profileOf v) t at p
-  unfolding plainSize clusters clustersAfter
+  unfolding plainSize clustersSize clusters clustersAfter
   clusters-past e =
       let n : textAt t p ≡ [] = packed-none (profileOf v) t p u (z .scalar) e in
       record {
+        is = omega (arith, z .work, ap (λ (l : List Scalar). clustersSize (profileOf v) false (clusters (profileOf v) l)) n);
         to = z .to;
         ends = λ k. ap (λ (l : List Scalar). plainSize (profileOf v) (clusters (profileOf v) l)) n;
         further = λ k. absurd (omega (arith, printable-wide v t p k, ap (λ (l : List Scalar). widthOf (profileOf v) (firstOf (clusters (profileOf v) l))) n, no-first (profileOf v)));
@@ -146,10 +163,12 @@ module _ (v : code.Profile) (t : List ℕ) (at p u : ℕ) (z : ClustersLoop (pro
       plain-is = plain-width v (drop p t) (first .g) (first .gs) (first .is) ∙ ap (λ (k : ℕ). not (eqb k 0)) (sym (n .part .width ∙ ap (widthOf (profileOf v)) (first .same)))
 
       pub clusters-stop : r .part .width .0 ≡ 0 → ClustersTo (profileOf v) t at p
-      unfolding plainSize
+      unfolding plainSize clustersSize
       clusters-stop e =
           let b : plainCluster (profileOf v) (first .g) ≡ false = plain-is ∙ rw e refl in
+          let m : clustersSize (profileOf v) false (clustersAt (profileOf v) (drop p t)) ≡ 0 = rw (first .is, b) refl in
           record {
+            is = omega (arith, z .work, m);
             to = z .to;
             ends = λ k. rw (first .is, b) refl;
             further = λ k. absurd (omega (arith, printable-wide v t p k, n .part .width, e));
@@ -159,29 +178,43 @@ module _ (v : code.Profile) (t : List ℕ) (at p u : ℕ) (z : ClustersLoop (pro
       clusters-less = omega (arith, end-is, cluster-some (profileOf v) (drop p t) (first .g) (first .gs) (first .is), clusters-ready .inside)
 
       module _ (wide : r .part .width .0 ≢ 0) where
+        plain-here-is : plainCluster (profileOf v) (first .g) ≡ true
+        plain-here-is = plain-is ∙ rw (ne-eqb (r .part .width .0) 0 wide) refl
+
+        others : clustersAt (profileOf v) (drop (r .part .end .0) t) ≡ first .gs
+        others = ap (λ (k : ℕ). clustersAt (profileOf v) (drop k t)) end-is ∙ behind-clusters (profileOf v) t p (first .g) (first .gs) (first .is)
+
         clusters-on : PlainTo (profileOf v) t at (r .part .end .0)
         unfolding plainSize
         clusters-on =
-            let b : plainCluster (profileOf v) (first .g) ≡ true = plain-is ∙ rw (ne-eqb (r .part .width .0) 0 wide) refl in
-            let m : plainSize (profileOf v) (clustersAt (profileOf v) (drop p t)) ≡ extent (first .g) + plainSize (profileOf v) (first .gs) = rw (first .is, b) refl in
-            let o : clustersAt (profileOf v) (drop (r .part .end .0) t) ≡ first .gs = ap (λ (k : ℕ). clustersAt (profileOf v) (drop k t)) end-is ∙ behind-clusters (profileOf v) t p (first .g) (first .gs) (first .is) in
+            let m : plainSize (profileOf v) (clustersAt (profileOf v) (drop p t)) ≡ extent (first .g) + plainSize (profileOf v) (first .gs) = rw (first .is, plain-here-is) refl in
             plain-on (profileOf v) t at p (r .part .end .0) (z .to) (record {
-              same = rw o (omega (arith, end-is, m));
+              same = rw others (omega (arith, end-is, m));
               up = omega (arith, end-is);
               low = n .part .inside;
             })
 
-        pub clusters-more : ClustersLoop (profileOf v) t at (r .part .end .0) (r .next)
-        clusters-more = record { to = clusters-on; scalar = n .next }
+        work-on : r .part .end .0 + clustersSize (profileOf v) true (first .gs) ≡ at + clustersSize (profileOf v) false (clustersAt (profileOf v) (drop at t))
+        unfolding clustersSize
+        work-on =
+            let m : clustersSize (profileOf v) false (clustersAt (profileOf v) (drop p t)) ≡ extent (first .g) + clustersSize (profileOf v) true (first .gs) = rw (first .is, plain-here-is) refl in
+            omega (arith, end-is, m, z .work)
 
-        pub clusters-printable : (b : ℕ) (x : Bool) → b ≡ getD t (r .part .end .0) 0 → x ≡ printable b → x ≡ true → ClustersTo (profileOf v) t at (r .part .end .0)
-        clusters-printable b x e f q =
-            let k : printable (getD t (r .part .end .0) 0) ≡ true = rw e at (sym f ∙ q) in
-            record {
-              to = clusters-on;
-              ends = λ y. absurd (true≢false (sym k ∙ y));
-              further = λ y. omega (arith, clusters-less, z .to .up, n .part .inside);
-            }
+        module _ (b : ℕ) (x : Bool) (e : b ≡ getD t (r .part .end .0) 0) (f : x ≡ printable b) where
+          pub clusters-more : x ≡ false → ClustersLoop (profileOf v) t at (r .part .end .0) (r .next)
+          clusters-more q =
+              let k : printable (getD t (r .part .end .0) 0) ≡ false = rw e at (sym f ∙ q) in
+              record { to = clusters-on; scalar = n .next; work = rw (others, ← behind-same (profileOf v) t (r .part .end .0) (first .gs) others k) work-on }
+
+          pub clusters-printable : x ≡ true → ClustersTo (profileOf v) t at (r .part .end .0)
+          clusters-printable q =
+              let k : printable (getD t (r .part .end .0) 0) ≡ true = rw e at (sym f ∙ q) in
+              record {
+                is = omega (arith, work-on, behind-none (profileOf v) t (r .part .end .0) (first .gs) others k);
+                to = clusters-on;
+                ends = λ y. absurd (true≢false (sym k ∙ y));
+                further = λ y. omega (arith, clusters-less, z .to .up, n .part .inside);
+              }
 
 -- ---- `text_end`
 

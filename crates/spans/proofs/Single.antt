@@ -7,10 +7,10 @@ use native.Mathlib.Omega.{arith}
 use mathlib.Core.Bool.{Bool, true, false, not, cond, _&&_, _||_, true≢false}
 use mathlib.Core.List.{List, [], _∷_, map, append-nil}
 use mathlib.Core.Logic.{_≢_, _⊎_, inl, inr, ⊎-elim}
-use lib.ListN.{length, take, drop, getD, List·getD-map}
+use lib.ListN.{length, take, drop, drop-of-length-le, getD, List·getD-map}
 use lib.Seq.{drop-cons}
-use lib.Dec.{eqb, leb, leb→le}
-use borrow.Author.Tests.{eqb-true, eqb-false, le-leb, ne-eqb, not-true}
+use lib.Dec.{eqb, leb, leb→le, ltb}
+use borrow.Author.Tests.{eqb-true, eqb-false, le-leb, le-ltb, lt-ltb, ltb-false, ltb-true, ne-eqb, not-true}
 use Rattle.text.specs.Tests.{cases, and-T, is-true, true-T}
 use Rattle.text.specs.Utf8.{Scalar, ascii, decode, decodeFrom, sequence, lengthIn, fits, table, scalar, value, runOf, bytesOf}
 use Rattle.text.specs.Utf8.Laws.{decode-good}
@@ -24,7 +24,7 @@ use Rattle.text.specs.Scalar.{packedAt}
 use Rattle.text.specs.Scalar.Laws.{NoScalar, PackedScalar, packed-view}
 use Rattle.text.specs.declared.class.Profile as code
 use Rattle.spans.specs.Spans.Steps.{plainCluster, plainSize}
-use Rattle.spans.specs.Contracts.{alone, base, clustersAt, PlainTo}
+use Rattle.spans.specs.Contracts.{alone, base, clustersAt, PlainTo, PrintableTo, printableSize}
 use Rattle.spans.proofs.Clusters.{plain-width}
 
 unfoldable upFrom : ℕ → ℕ → List ℕ
@@ -158,10 +158,10 @@ module _ (t : List ℕ) (at a : ℕ) (h : at < length t) (e : a ≡ getD t at 0)
 
 -- one stands from i to `next`
 pub record BaseAt (t : List ℕ) (i next : ℕ) : Type 0 where
-  one : Scalar
-  run : runOf (decode (drop i t)) ≡ one ∷ runOf (decode (drop next t))
-  class : base (number (class01 (one .code))) ≡ true
-  len : i + length (one .bytes) ≡ next
+  pub one : Scalar
+  pub run : runOf (decode (drop i t)) ≡ one ∷ runOf (decode (drop next t))
+  pub class : base (number (class01 (one .code))) ≡ true
+  pub len : i + length (one .bytes) ≡ next
   pub some : i < next
   pub inside : next ≤ length t
 
@@ -260,6 +260,74 @@ module _ (p : code.Profile) (t : List ℕ) (at i next : ℕ) (z : BasesLoop t at
 
   pub bases-byte : (b : ℕ) → next < length t → b ≡ getD t next 0 → b < 0x80 → PlainTo (profileOf p) t at next
   bases-byte b h e k = further-on (on-low t i next (z .one) (ascii b) (runOf (decode (drop (next + 1) t))) (run-byte t next b h e (omega arith)) (omega arith))
+
+-- ---- printable bytes
+
+two-bytes : (t : List ℕ) (i : ℕ) → i + 1 < length t → drop i t ≡ getD t i 0 ∷ getD t (i + 1) 0 ∷ drop (suc (i + 1)) t
+two-bytes t i h = drop-cons t i 0 (omega (arith, h)) ∙ ap (λ (l : List ℕ). getD t i 0 ∷ l) (ap (λ (k : ℕ). drop k t) (sym (add-one i)) ∙ drop-cons t (i + 1) 0 h)
+
+last-byte : (t : List ℕ) (i : ℕ) → i < length t → length t ≤ i + 1 → drop i t ≡ getD t i 0 ∷ []
+last-byte t i h k = let m : length t ≤ suc i = omega (arith, k) in drop-cons t i 0 h ∙ ap (λ (l : List ℕ). getD t i 0 ∷ l) (drop-of-length-le t m)
+
+no-printable : (t : List ℕ) (i : ℕ) → printable (getD t i 0) ≡ false → printableSize (drop i t) ≡ 0
+unfolding printableSize
+no-printable t i e =
+    cases (ltb i (length t))
+    (λ h.
+    let k : i < length t = ltb-true _ _ h in
+    cases (ltb (i + 1) (length t))
+    (λ l. rw (two-bytes t i (ltb-true _ _ l), e) refl)
+    (λ l. rw (last-byte t i k (ltb-false _ _ l), e) refl))
+    (λ h. let k : length t ≤ i = ltb-false _ _ h in rw (drop-of-length-le t k) refl)
+
+-- printable bytes from `at` to i and at i
+pub record PrintableLoop (t : List ℕ) (at i : ℕ) : Type 0 where
+  pub bases : BasesLoop t at i (i + 1)
+  pub one : printable (getD t i 0) ≡ true
+  pub work : i + printableSize (drop i t) ≡ at + printableSize (drop at t)
+
+pub printable-begin : (t : List ℕ) (at b : ℕ) (x : Bool) → at < length t → b ≡ getD t at 0 → x ≡ printable b → x ≡ true → PrintableLoop t at at
+printable-begin t at b x h e f q = record { bases = bases-begin t at (at + 1) (printable-at t at b x h e f q); one = rw e at (sym f ∙ q); work = refl }
+
+pub printable-none : (p : code.Profile) (t : List ℕ) (at b : ℕ) (x : Bool) → at < length t → b ≡ getD t at 0 → x ≡ printable b → x ≡ false → PrintableTo (profileOf p) t at at
+printable-none p t at b x h e f q = record { is = omega (arith, no-printable t at (rw e at (sym f ∙ q))); to = plain-here (profileOf p) t at (omega (arith, h)) }
+
+module _ (t : List ℕ) (at i : ℕ) (z : PrintableLoop t at i) where
+  module _ (b : ℕ) (h : i + 1 < length t) (e : b ≡ getD t (i + 1) 0) where
+    size-next : b < 0x80 → printableSize (drop i t) ≡ suc (printableSize (drop (i + 1) t))
+    unfolding printableSize
+    size-next l =
+        let m : drop (i + 1) t ≡ getD t (i + 1) 0 ∷ drop (suc (i + 1)) t = drop-cons t (i + 1) 0 h in
+        rw (two-bytes t i h, m, z .one, ← e, lt-ltb b 0x80 l) refl
+
+    size-left : 0x80 ≤ b → printableSize (drop i t) ≡ 0
+    unfolding printableSize
+    size-left l = rw (two-bytes t i h, z .one, ← e, le-ltb b 0x80 l) refl
+
+    module _ (x : Bool) (f : x ≡ printable b) where
+      pub printable-more : x ≡ true → PrintableLoop t at (i + 1)
+      printable-more q =
+          let w = low b (sym f ∙ q) in
+          record {
+            bases = bases-more t at i (i + 1) (i + 1 + 1) (z .bases) (printable-at t (i + 1) b x h e f q);
+            one = rw e at (sym f ∙ q);
+            work = omega (arith, z .work, size-next (omega (arith, w .1)));
+          }
+
+      pub printable-byte : (p : code.Profile) → x ≡ false → b < 0x80 → PrintableTo (profileOf p) t at (i + 1)
+      printable-byte p q l = record {
+        is = omega (arith, z .work, size-next l, no-printable t (i + 1) (rw e at (sym f ∙ q)));
+        to = bases-byte p t at i (i + 1) (z .bases) b h e l;
+      }
+
+    pub printable-last : (p : code.Profile) → 0x80 ≤ b → PrintableTo (profileOf p) t at i
+    printable-last p l = record { is = omega (arith, z .work, size-left l); to = bases-last p t at i (i + 1) (z .bases) }
+
+  pub printable-past : (p : code.Profile) → length t ≤ i + 1 → PrintableTo (profileOf p) t at (i + 1)
+  unfolding printableSize
+  printable-past p l =
+      let m : printableSize (drop i t) ≡ 1 = rw (last-byte t i (omega (arith, z .bases .one .inside)) l, z .one) refl in
+      record { is = omega (arith, z .work, m); to = bases-past p t at i (i + 1) (z .bases) l }
 
 -- plain clusters from `at` to i, and at i nothing yet or one of these scalars
 pub record BasesAhead (t : List ℕ) (at i next : ℕ) : Type 0 where

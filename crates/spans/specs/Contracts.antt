@@ -10,7 +10,7 @@ use lib.Dec.{eqb, leb, ltb}
 use Rattle.buffer.specs.Numbers.{smallerOf}
 use Rattle.buffer.specs.Sink.{landed}
 use Rattle.text.specs.Utf8.{Scalar, decode, runOf, bytesOf}
-use Rattle.text.specs.Class.{Profile}
+use Rattle.text.specs.Class.{Profile, number}
 use Rattle.text.specs.Cluster.{clusters}
 use Rattle.text.specs.Code.{size, firstSize, printable}
 use Rattle.text.specs.Segmentation.{neverJoinsBefore}
@@ -155,8 +155,40 @@ pub record PlainTo (P : Profile) (t : List ℕ) (at r : ℕ) : Type 0 where
   pub up : at ≤ r
   pub low : r ≤ length t
 
--- and r is where they end, or a printable byte behind the first of them
+-- the number of the printable bytes in front, without the last where a byte of 80 or above follows it
+unfoldable pub printableSize : List ℕ → ℕ
+printableSize [] = 0
+printableSize (a ∷ []) = cond (printable a) 1 0
+printableSize (a ∷ b ∷ s) = let more : ℕ = suc (printableSize (b ∷ s)) in cond (printable a && ltb b 0x80) more 0
+
+-- r is where these end that begin at a place
+pub record PrintableTo (P : Profile) (t : List ℕ) (at r : ℕ) : Type 0 where
+  pub is : r ≡ at + printableSize (drop at t)
+  pub to : PlainTo P t at r
+
+-- what stands behind a scalar of class LV, LVT or other leaves it a cluster by itself: another of these, a byte below 80, or the text's end
+unfoldable pub leavesBase : Profile → Bool → List Scalar → Bool
+leavesBase P damaged [] = not damaged
+leavesBase P damaged (c ∷ s) = base (number (P .class (c .code))) || ltb (getD (c .bytes) 0 0) 0x80
+
+-- the bytes of the scalars of these classes in front that are left so
+unfoldable pub basesSize : Profile → Bool → List Scalar → ℕ
+unfolding leavesBase
+basesSize P damaged [] = 0
+basesSize P damaged (c ∷ s) =
+    let more : ℕ = length (c .bytes) + basesSize P damaged s in
+    cond (base (number (P .class (c .code))) && leavesBase P damaged s) more 0
+
+-- the bytes of the plain clusters in front, up to one that begins with a printable byte; the first may begin with one where nothing stands before
+unfoldable pub clustersSize : Profile → Bool → List (List Scalar) → ℕ
+clustersSize P behind [] = 0
+clustersSize P behind (g ∷ gs) =
+    let more : ℕ = length (bytesOf g) + clustersSize P true gs in
+    cond (behind && printable (getD (bytesOf g) 0 0)) 0 (cond (plainCluster P g) more 0)
+
+-- r is where these end that begin at a place: where the plain ones end, or before a printable byte
 pub record ClustersTo (P : Profile) (t : List ℕ) (at r : ℕ) : Type 0 where
+  pub is : r ≡ at + clustersSize P false (clustersAt P (drop at t))
   pub to : PlainTo P t at r
   pub ends : printable (getD t r 0) ≡ false → plainSize P (clustersAt P (drop r t)) ≡ 0
   pub further : printable (getD t r 0) ≡ true → at < r
@@ -189,6 +221,11 @@ pub record Part (t : List ℕ) (at end : ℕ) : Type 0 where
 -- the end of the run at a place
 abbrev pub runAt : List ℕ → ℕ → ℕ
 runAt t at = at + size (runOf (decode (drop at t)))
+
+-- r is where these end that begin at a place
+pub record BasesTo (P : Profile) (t : List ℕ) (at r : ℕ) : Type 0 where
+  pub is : r ≡ at + basesSize P (ltb (runAt t at) (length t)) (runOf (decode (drop at t)))
+  pub to : PlainTo P t at r
 
 abbrev pub Ahead : List ℕ → ℕ → ℕ → Type 0
 Ahead t at stop = stop ≤ runAt t at

@@ -20,7 +20,7 @@ ghost use Rattle.text.specs.Code.{profileOf};
 ghost use Rattle.spans.specs.Sequence.{missing};
 ghost use Rattle.spans.specs.Spans.{aRecord};
 ghost use Rattle.spans.specs.Spans.Steps.{plainSize};
-ghost use Rattle.spans.specs.Contracts.{alone, base, clustersAt, PlainTo, ClustersTo, escapeLook, lookBytes, Part, SkipReady, Skip, runAt, textRecord, invalidAt, Escaping, Mark, ControlReady, SpecialStep, Ready, Stepped};
+ghost use Rattle.spans.specs.Contracts.{alone, base, clustersAt, PrintableTo, BasesTo, ClustersTo, escapeLook, lookBytes, Part, SkipReady, Skip, runAt, textRecord, invalidAt, Escaping, Mark, ControlReady, SpecialStep, Ready, Stepped};
 
 // What a cluster that is no part of a text is: a kind of span, and its length.
 pub struct Look {
@@ -57,7 +57,7 @@ fn is_alone(b: u8) -> bool
 // Past printable bytes, each a plain cluster by itself; the last of them is left where what follows may join it.
 fn printable_end(profile: Profile, t: &[u8], at: usize) -> usize
     requires { ⌜ at < length (now t) ⌝ }
-    ensures { λ r. ⌜ PlainTo (profileOf profile) (now (t .entry)) at r ⌝ }
+    ensures { λ r. ⌜ PrintableTo (profileOf profile) (now (t .entry)) at r ⌝ }
 {
     if is_printable(t[at] as u32) {
         let mut i = at;
@@ -87,7 +87,7 @@ fn is_base(class: u8) -> bool
 // Past scalars of these classes, in the same way.
 fn bases_end(profile: Profile, t: &[u8], at: usize) -> usize
     requires { ⌜ at ≤ length (now t) ⌝ }
-    ensures { λ r. ⌜ PlainTo (profileOf profile) (now (t .entry)) at r ⌝ }
+    ensures { λ r. ⌜ BasesTo (profileOf profile) (now (t .entry)) at r ⌝ }
 {
     let mut i = at;
     let mut next = at;

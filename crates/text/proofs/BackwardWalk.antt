@@ -69,7 +69,7 @@ joined-context : (p c : ℕ) (k k′ : Context) → (c ≢ 10) → joined p k c 
 unfolding joined among number
 joined-context p c k k′ n = rw (ne-eqb c 10 n, and-false (k .odd), and-false (k′ .odd)) refl
 
-headOf : Scalar → List Scalar → Scalar
+unfoldable pub headOf : Scalar → List Scalar → Scalar
 headOf d [] = d
 headOf d (c ∷ s) = c
 
@@ -107,10 +107,6 @@ module _ (P : Profile) where
   unfolding context after among
   odd-other d rest e = rw (ne-eqb (number (P .class (d .code))) 10 e) refl
 
-  odd-none : context P [] .odd ≡ false
-  unfolding context
-  odd-none = refl
-
   module _ (t : List ℕ) (i : ℕ) (odd total : Bool) (j k : ℕ) (pos : 0 < i) (e : j ≡ back t i) (f : k ≡ packedAt P t j / 8 % 16) where
     on-by : (rest es : List Scalar) → runOf (decode t) ≡ reverseAux rest es → size rest ≡ i → total ≡ flip odd (context P rest .odd) → k ≡ 10 → Left P t j (not odd) total
     unfolding size
@@ -120,26 +116,8 @@ module _ (P : Profile) where
         let r : number (P .class (d .code)) ≡ 10 = sym (class-of t j k d rest es p b f) ∙ z in
         record { rest = rest; es = d ∷ es; parts = p; place = sym b; parity = w ∙ ap (flip odd) (odd-ri d rest r) ∙ flip-not odd (context P rest .odd) }
 
-    stop-by : (rest es : List Scalar) → runOf (decode t) ≡ reverseAux rest es → size rest ≡ i → total ≡ flip odd (context P rest .odd) → (k ≢ 10) → odd ≡ total
-    unfolding size
-    stop-by [] es p q w z = absurd (omega arith)
-    stop-by (d ∷ rest) es p q w z =
-        let b : j ≡ size rest = e ∙ ap (back t) (sym q) ∙ back-scalar d rest es t p in
-        let r : k ≡ number (P .class (d .code)) = class-of t j k d rest es p b f in
-        sym (w ∙ ap (flip odd) (odd-other d rest (λ x. z (r ∙ x))) ∙ flip-false odd)
-
     pub odd-on : k ≡ 10 → Left P t i odd total → Left P t j (not odd) total
     odd-on z l = on-by (l .rest) (l .es) (l .parts) (l .place) (l .parity) z
-
-    pub odd-stop : (k ≢ 10) → Left P t i odd total → odd ≡ total
-    odd-stop z l = stop-by (l .rest) (l .es) (l .parts) (l .place) (l .parity) z
-
-  end-by : (t : List ℕ) (odd total : Bool) (rest es : List Scalar) → runOf (decode t) ≡ reverseAux rest es → size rest ≤ 0 → total ≡ flip odd (context P rest .odd) → odd ≡ total
-  end-by t odd total [] es p q w = sym (w ∙ ap (flip odd) odd-none ∙ flip-false odd)
-  end-by t odd total (d ∷ rest) es p q w = let h = size-pos d rest es t p in absurd (omega arith)
-
-  pub odd-end : (t : List ℕ) (i : ℕ) (odd total : Bool) → i ≤ 0 → Left P t i odd total → odd ≡ total
-  odd-end t i odd total h l = end-by t odd total (l .rest) (l .es) (l .parts) (rw (l .place) h) (l .parity)
 
   -- ---- a boundary
 

@@ -2,7 +2,7 @@
 use Prim.Native.Nat.{_+_, _-_, _<_, _≤_, ℕ}
 use native.Mathlib.Numerals.{add-one}
 use native.Mathlib.Omega.{arith}
-use mathlib.Core.Bool.{Bool, _&&_, cond, false, true}
+use mathlib.Core.Bool.{Bool, cond, false, true}
 use mathlib.Core.List.{List, [], _++_, _∷_, reverse, reverse-reverse, reverseAux, reverseAux-append, reverseAux-eq}
 use mathlib.Core.Logic.{_≢_}
 use mathlib.Core.Path.{_∙_, _≡_, ap, refl, sym}
@@ -10,7 +10,7 @@ use lib.Dec.{eqb, leb, ltb}
 use lib.ListN.{drop, getD, length, length-set, set, take}
 use lib.Seq.{length-take-le, take-all, take-length, take-suc-set, take-take}
 use borrow.Author.Tests.{eq-eqb, eqb-true, le-ltb, lt-ltb, ltb-false, ne-eqb}
-use Rattle.text.specs.Backward.{Erased, EvenAt, Kept, back, backward, betweenIndicators, endsInPair, evenBefore, indicatorAt, withoutLast}
+use Rattle.text.specs.Backward.{Erased, EvenAt, Kept, back, backward, betweenIndicators, endsInPair, evenAfter, evenBefore, indicatorAt, withoutLast}
 use Rattle.text.specs.Class.{Profile, isControl, number}
 use Rattle.text.specs.Cluster.{Context, context, joins}
 use Rattle.text.specs.Code.{firstSequence, profileOf, sequenceOf, size, whole}
@@ -143,13 +143,20 @@ module _ (v : code.Profile) (t : List ℕ) (w : whole t) (some : length t ≢ 0)
       (λ b. rw (rw (l, n, b) at ch) (even-between b))
       (λ b. rw (rw (l, n, b) at ch) (even-front t q i (ltb-false q i l) e))))
 
-  module _ (i : ℕ) (u : Sequence) (b p : Bool) (e : EvenAt t i) (read : u ≡ firstSequence (decode (drop q t))) (test : b ≡ isControl (u .code)) where
-    pub last-erased : (r : ℕ) → r ≡ evenBefore (profileOf v) t q i → b ≡ false → p ≡ endsInPair (profileOf v) t i → p ≡ false → Erased (profileOf v) t i (record { at = q; even = r })
-    last-erased r ch z ep np = record {
+  module _ (i : ℕ) (u : Sequence) (b : Bool) (e : EvenAt t i) (read : u ≡ firstSequence (decode (drop q t))) (test : b ≡ isControl (u .code)) where
+    last-at : (r : ℕ) → r ≡ evenBefore (profileOf v) t q i → b ≡ false → r ≡ evenAfter (profileOf v) t i q → Erased (profileOf v) t i (record { at = q; even = r })
+    last-at r ch z pl = record {
       kept = kept-place (profileOf v) t w some q eq (u .code) (ap (λ (x : Sequence). x .code) read) b test z;
-      place = rw (ne-eqb q (length t) (λ y. omega (arith, kept-inside (profileOf v) t w some q eq, y)), sym ep ∙ np) ch;
+      place = pl;
       even = even-choice i r e ch;
     }
+
+    short : eqb q (length t) ≡ false
+    short = ne-eqb q (length t) (λ y. omega (arith, kept-inside (profileOf v) t w some q eq, y))
+
+    pub last-erased : (r a : ℕ) (n p : Bool) → a ≡ getD t (length t - 1) 0 → n ≡ neverJoinsBefore a → n ≡ false → p ≡ endsInPair (profileOf v) t i → p ≡ false → r ≡ evenBefore (profileOf v) t q i → b ≡ false
+        → Erased (profileOf v) t i (record { at = q; even = r })
+    last-erased r a n p ea en nn ep np ch z = last-at r ch z (rw (short, ← ea, sym en ∙ nn, sym ep ∙ np) ch)
 
     pub last-added : b ≡ true → Erased (profileOf v) t i (record { at = length t; even = i })
     last-added z = record {
@@ -163,12 +170,17 @@ module _ (v : code.Profile) (t : List ℕ) (b : ℕ) (w : whole t) (some : lengt
   lone-code : sequenceOf b 1 ≡ firstSequence (decode (drop (length t - 1) t))
   lone-code = ascii-sequence t (length t - 1) b (omega arith) e (lone-low b (sym f ∙ z))
 
-  module _ (i : ℕ) (a p : Bool) (ev : EvenAt t i) (test : a ≡ isControl b) where
-    pub lone-added : a ≡ true → Erased (profileOf v) t i (record { at = length t; even = i })
-    lone-added y = last-added v t w some (length t - 1) (last-lone v t b r w some e f z) i (sequenceOf b 1) a p ev lone-code test y
+  lone-place : length t - 1 ≡ size (withoutLast (profileOf v) (reverse (runOf (decode t))))
+  lone-place = last-lone v t b r w some e f z
 
-    pub lone-erased : (j : ℕ) → j ≡ evenBefore (profileOf v) t (length t - 1) i → a ≡ false → p ≡ endsInPair (profileOf v) t i → p ≡ false → Erased (profileOf v) t i (record { at = length t - 1; even = j })
-    lone-erased j ch y ep np = last-erased v t w some (length t - 1) (last-lone v t b r w some e f z) i (sequenceOf b 1) a p ev lone-code test j ch y ep np
+  module _ (i : ℕ) (a : Bool) (ev : EvenAt t i) (test : a ≡ isControl b) where
+    pub lone-added : a ≡ true → Erased (profileOf v) t i (record { at = length t; even = i })
+    lone-added y = last-added v t w some (length t - 1) lone-place i (sequenceOf b 1) a ev lone-code test y
+
+    pub lone-erased : (j : ℕ) → j ≡ evenBefore (profileOf v) t (length t - 1) i → a ≡ false → Erased (profileOf v) t i (record { at = length t - 1; even = j })
+    lone-erased j ch y =
+        last-at v t w some (length t - 1) lone-place i (sequenceOf b 1) a ev lone-code test j ch y
+        (rw (short v t w some (length t - 1) lone-place i (sequenceOf b 1) a ev lone-code test, ← e, sym f ∙ z) ch)
 
 -- the last two scalars
 record Pair (P : Profile) (t : List ℕ) (i : ℕ) : Type 0 where
@@ -191,8 +203,8 @@ pub pair-long : (P : Profile) (t : List ℕ) (i : ℕ) (r : Bool) → r ≡ ends
 pair-long P t i r e z = pair P t i (sym e ∙ z) .long
 
 -- a pair of regional indicators that ends in an even place
-pub pair-erased : (v : code.Profile) (t : List ℕ) (i : ℕ) (r : Bool) → whole t → (length t ≢ 0) → EvenAt t i → r ≡ endsInPair (profileOf v) t i → r ≡ true → Erased (profileOf v) t i (record { at = length t - 8; even = length t - 8 })
-pair-erased v t i r w some e f z =
+pub pair-erased : (v : code.Profile) (t : List ℕ) (i a : ℕ) (r n : Bool) → whole t → (length t ≢ 0) → EvenAt t i → a ≡ getD t (length t - 1) 0 → n ≡ neverJoinsBefore a → n ≡ false → r ≡ endsInPair (profileOf v) t i → r ≡ true → Erased (profileOf v) t i (record { at = length t - 8; even = length t - 8 })
+pair-erased v t i a r n w some e ea en nn f z =
     let p = pair (profileOf v) t i (sym f ∙ z) in
     let n : EvenAt t (length t) = rw (p .here) at e in
     let es : runOf (decode (drop (size (n .rest)) t)) ≡ n .es = run-drop (n .rest) (n .es) t (n .parts) in
@@ -205,7 +217,7 @@ pair-erased v t i r w some e f z =
     let ctl = indicator-control v t (length t - 8) (p .other) in
     let c = kept-place (profileOf v) t w some (length t - 8) q (firstSequence (decode (drop (length t - 8) t)) .code) refl false ctl refl in
     let x : runOf (decode (take (length t - 8) t)) ≡ reverse (k .left) = pair-front v t (n .rest) (length t - 8) rev k in
-    record { kept = c; place = rw (ne-eqb (length t - 8) (length t) (λ y. omega (arith, p .long, y)), sym f ∙ z) refl; even = record { rest = k .left; es = []; parts = x; place = k .place; even = λ u. ap (λ (y : Context). y .odd) (same-context u v (k .left)) ∙ k .before } }
+    record { kept = c; place = rw (ne-eqb (length t - 8) (length t) (λ y. omega (arith, p .long, y)), ← ea, sym en ∙ nn, sym f ∙ z) refl; even = record { rest = k .left; es = []; parts = x; place = k .place; even = λ u. ap (λ (y : Context). y .odd) (same-context u v (k .left)) ∙ k .before } }
 
 pub kept-empty : (P : Profile) (t : List ℕ) → length t ≡ 0 → Kept P t 0
 unfolding backward backspace eraseFrom runOf decode decodeFrom
@@ -263,11 +275,19 @@ module _ (P : Profile) (t : List ℕ) where
   pub pair-elsewhere : (i : ℕ) → 8 ≤ length t → (i ≢ length t) → false ≡ endsInPair P t i
   pair-elsewhere i h n = rw (le-ltb (length t) 8 h, ne-eqb i (length t) n) refl
 
-  pub pair-tells : (i : ℕ) (a b : Bool) → 8 ≤ length t → i ≡ length t → a ≡ indicatorAt P t (length t - 4) → b ≡ indicatorAt P t (length t - 8) → (a && b) ≡ endsInPair P t i
-  pair-tells i a b h e f g = rw (le-ltb (length t) 8 h, eq-eqb i (length t) e, f, g) refl
+  module _ (i : ℕ) (a : Bool) (h : 8 ≤ length t) (e : i ≡ length t) (f : a ≡ indicatorAt P t (length t - 4)) where
+    pub pair-tells : (b : Bool) → a ≡ true → b ≡ indicatorAt P t (length t - 8) → b ≡ endsInPair P t i
+    pair-tells b z g = rw (le-ltb (length t) 8 h, eq-eqb i (length t) e, sym f ∙ z) g
+
+    pub pair-none : a ≡ false → false ≡ endsInPair P t i
+    pair-none z = rw (le-ltb (length t) 8 h, eq-eqb i (length t) e, sym f ∙ z) refl
 
   pub between-low : (q : ℕ) → q < 4 → false ≡ betweenIndicators P t q
   between-low q h = rw (lt-ltb q 4 h) refl
 
-  pub between-tells : (q : ℕ) (a b : Bool) → 4 ≤ q → a ≡ indicatorAt P t q → b ≡ indicatorAt P t (q - 4) → (a && b) ≡ betweenIndicators P t q
-  between-tells q a b h f g = rw (le-ltb q 4 h, f, g) refl
+  module _ (q : ℕ) (a : Bool) (h : 4 ≤ q) (f : a ≡ indicatorAt P t q) where
+    pub between-tells : (b : Bool) → a ≡ true → b ≡ indicatorAt P t (q - 4) → b ≡ betweenIndicators P t q
+    between-tells b z g = rw (le-ltb q 4 h, sym f ∙ z) g
+
+    pub between-none : a ≡ false → false ≡ betweenIndicators P t q
+    between-none z = rw (le-ltb q 4 h, sym f ∙ z) refl

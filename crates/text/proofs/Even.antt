@@ -1,17 +1,17 @@
 -- Places at which an even number of regional indicators ends: what keeps them, and the pair that ends at one.
-use Prim.Native.Nat.{_+_, _-_, _/_, _%_, _≤_, ℕ}
+use Prim.Native.Nat.{_%_, _+_, _-_, _/_, _<_, _≤_, ℕ}
 use native.Mathlib.Nat.{add-zero}
 use native.Mathlib.Omega.{arith}
-use mathlib.Core.Bool.{Bool, _||_, and-false, false, not, true}
+use mathlib.Core.Bool.{Bool, _||_, and-false, cond, false, not, true, true≢false}
 use mathlib.Core.List.{List, [], _++_, _∷_, append-assoc, reverse, reverse-append, reverse-reverse, reverseAux, reverseAux-eq}
-use mathlib.Core.Logic.{⊎-elim}
+use mathlib.Core.Logic.{_≢_, ⊎-elim}
 use mathlib.Core.Path.{_∙_, _≡_, ap, ap₂, refl, sym}
 use lib.Dec.{T, eqb, leb}
 use lib.ListN.{drop, length, take, take-append-drop}
 use lib.Seq.{getD-drop, take-take}
 use borrow.Author.Tests.{eqb-true, leb-false, leb-true}
 use Rattle.text.specs.Backward.{EvenAt, back, indicatorAt, withoutLast}
-use Rattle.text.specs.Class.{Profile, among, class01, inAny, isControl, number}
+use Rattle.text.specs.Class.{Class, Profile, among, class01, classL, classLV, classLVT, classT, classV, control, controls, cr, extend, extends, inAny, isControl, lf, number, other, regionalIndicator, zwj}
 use Rattle.text.specs.Cluster.{Context, classOf, context, joined, joins}
 use Rattle.text.specs.Code.{firstSequence, profileOf, size}
 use Rattle.text.specs.Overstrike.{push}
@@ -19,13 +19,20 @@ use Rattle.text.specs.Scalar.{packedAt}
 use Rattle.text.specs.Scalar.Laws.{NoScalar, PackedScalar, packed-inside, packed-view}
 use Rattle.text.specs.Tests.{cases}
 use Rattle.text.specs.TextParts.{textAt}
-use Rattle.text.specs.Utf8.{Scalar, bytesOf, decode, runOf, sequence, to}
+use Rattle.text.specs.Utf8.{Scalar, bytesOf, decode, runOf, sequence, to, within}
 use Rattle.text.proofs.Ascii.{clear, clear-any, each-at, eachFrom}
-use Rattle.text.proofs.BackwardWalk.{Left, class-of, flip, flip-false, joined-indicators, odd-ri}
-use Rattle.text.proofs.Runs.{Head, back-scalar, run-head, size-reverse}
+use Rattle.text.proofs.BackwardWalk.{Left, class-of, flip, flip-false, headOf, joined-indicators, odd-on, odd-other, odd-ri}
+use Rattle.text.proofs.Branch.{in-range}
+use Rattle.text.proofs.Leads.{high-len}
+use Rattle.text.proofs.PackedScalars.{indicator}
+use Rattle.text.proofs.Runs.{Head, back-scalar, run-drop, run-head, run-inside, size-reverse}
 use Rattle.text.proofs.Tails.{back-to, seq-lead, seq-tails}
 use Rattle.text.proofs.Texts.{run-append, run-prefix}
 use Rattle.text.specs.declared.class.Profile as code
+
+context-none : (P : Profile) → context P [] .odd ≡ false
+unfolding context
+context-none P = refl
 
 -- ---- a regional indicator at a place
 
@@ -74,11 +81,79 @@ module _ (P : Profile) (t : List ℕ) (j : ℕ) (e : indicatorAt P t j ≡ true)
 pub indicator-control : (v : code.Profile) (t : List ℕ) (j : ℕ) → indicatorAt (profileOf v) t j ≡ true → false ≡ isControl (firstSequence (decode (drop j t)) .code)
 indicator-control v t j e = sym (ap isControl (head (profileOf v) t j e .coded) ∙ indicator-code v (there (profileOf v) t j e .c .code) (there (profileOf v) t j e .class))
 
--- ---- even places
+-- ---- every scalar of this class is one
 
-context-none : (P : Profile) → context P [] .odd ≡ false
-unfolding context
-context-none P = refl
+not-ten : (b : Bool) (k rest : Class) → (number k ≢ 10) → number (cond b k rest) ≡ 10 → number rest ≡ 10
+not-ten true k rest n e = absurd (n e)
+not-ten false k rest n e = e
+
+indicator-range : (v : code.Profile) (x : ℕ) → number (profileOf v .class x) ≡ 10 → within (to 0x1F1E6 0x1F1FF) x ≡ true
+unfolding profileOf class01 number
+indicator-range v x e =
+    let e₁ = not-ten (eqb x 0x0D) cr _ (λ z. omega (arith, z)) e in
+    let e₂ = not-ten (eqb x 0x0A) lf _ (λ z. omega (arith, z)) e₁ in
+    let e₃ = not-ten (inAny controls x) control _ (λ z. omega (arith, z)) e₂ in
+    let e₄ = not-ten (inAny extends x) extend _ (λ z. omega (arith, z)) e₃ in
+    let e₅ = not-ten (eqb x 0x200D) zwj _ (λ z. omega (arith, z)) e₄ in
+    let e₆ = not-ten (inAny (to 0x1100 0x115F ∷ to 0xA960 0xA97C ∷ []) x) classL _ (λ z. omega (arith, z)) e₅ in
+    let e₇ = not-ten (inAny (to 0x1160 0x11A7 ∷ to 0xD7B0 0xD7C6 ∷ []) x) classV _ (λ z. omega (arith, z)) e₆ in
+    let e₈ = not-ten (inAny (to 0x11A8 0x11FF ∷ to 0xD7CB 0xD7FB ∷ []) x) classT _ (λ z. omega (arith, z)) e₇ in
+    let e₉ = not-ten (within (to 0xAC00 0xD7A3) x) (cond (eqb ((x - 0xAC00) % 28) 0) classLV classLVT) _ (no-syllable (eqb ((x - 0xAC00) % 28) 0)) e₈ in
+    last (within (to 0x1F1E6 0x1F1FF) x) e₉
+  where
+    no-syllable : (b : Bool) → number (cond b classLV classLVT) ≢ 10
+    no-syllable true z = omega (arith, z)
+    no-syllable false z = omega (arith, z)
+
+    last : (b : Bool) → number (cond b regionalIndicator other) ≡ 10 → b ≡ true
+    last true z = refl
+    last false z = absurd (omega (arith, z))
+
+module _ (v : code.Profile) (t : List ℕ) (d : Scalar) (rest es : List Scalar) (p : runOf (decode t) ≡ reverseAux rest (d ∷ es)) (k : number (profileOf v .class (d .code)) ≡ 10) where
+  pub indicator-there : indicatorAt (profileOf v) t (size rest) ≡ true
+  unfolding packedAt
+  indicator-there =
+      let h = run-head (drop (size rest) t) d es (run-drop rest (d ∷ es) t p) in
+      let r = indicator-range v (d .code) k in
+      let w = in-range 0x1F1E6 0x1F1FF (d .code) r in
+      let n : firstSequence (decode (drop (size rest) t)) .len ≡ 4 = high-len t (size rest) (run-inside d rest es t p) (rw (h .coded) (omega (arith, w .0))) in
+      rw (n, h .coded, ← indicator v (d .code) r) refl
+
+  pub indicator-size : length (d .bytes) ≡ 4
+  unfolding headOf
+  indicator-size =
+      let x = there (profileOf v) t (size rest) indicator-there in
+      let s : x .c ≡ d = ap (headOf d) (sym (x .run) ∙ run-drop rest (d ∷ es) t p) in
+      ap (λ (y : Scalar). length (y .bytes)) (sym s) ∙ x .len
+
+-- ---- an odd number that ends at a place
+
+module _ (v : code.Profile) (t : List ℕ) (i : ℕ) (odd total : Bool) (l : Left (profileOf v) t i odd total) where
+  -- the scalar before is none
+  odd-last : ((d : Scalar) (rest : List Scalar) → runOf (decode t) ≡ reverseAux (d ∷ rest) (l .es) → size (d ∷ rest) ≡ i → number (profileOf v .class (d .code)) ≢ 10) → odd ≡ total
+  odd-last f = go (l .rest) (l .parts) (l .place) (l .parity)
+    where
+      go : (rest : List Scalar) → runOf (decode t) ≡ reverseAux rest (l .es) → size rest ≡ i → total ≡ flip odd (context (profileOf v) rest .odd) → odd ≡ total
+      go [] p s w = sym (w ∙ ap (flip odd) (context-none (profileOf v)) ∙ flip-false odd)
+      go (d ∷ rest) p s w = sym (w ∙ ap (flip odd) (odd-other (profileOf v) d rest (f d rest p s)) ∙ flip-false odd)
+
+  pub odd-few : i < 4 → odd ≡ total
+  unfolding size
+  odd-few h = odd-last (λ d rest p s k. omega (arith, h, s, indicator-size v t d rest (l .es) p k))
+
+  module _ (r : Bool) (f : r ≡ indicatorAt (profileOf v) t (i - 4)) (h : 4 ≤ i) where
+    pub odd-stops : r ≡ false → odd ≡ total
+    unfolding size
+    odd-stops z = odd-last (λ d rest p s k.
+        let n : size rest ≡ i - 4 = omega (arith, s, indicator-size v t d rest (l .es) p k) in
+        true≢false (sym (rw n at (indicator-there v t d rest (l .es) p k)) ∙ sym f ∙ z))
+
+    pub odd-turns : r ≡ true → Left (profileOf v) t (i - 4) (not odd) total
+    odd-turns z =
+        let e : indicatorAt (profileOf v) t (i - 4) ≡ true = sym f ∙ z in
+        odd-on (profileOf v) t i odd total (i - 4) 10 (omega (arith, h)) (sym (indicator-back (profileOf v) t (i - 4) e i h refl)) (ap (λ (n : ℕ). n / 8 % 16) (reads (profileOf v) t (i - 4) e)) refl l
+
+-- ---- even places
 
 pub even-zero : (t : List ℕ) → EvenAt t 0
 unfolding size

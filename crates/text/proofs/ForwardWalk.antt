@@ -4,17 +4,17 @@ use native.Mathlib.Nat.{add-assoc, add-zero}
 use native.Mathlib.Omega.{arith}
 use mathlib.Core.Bool.{Bool, _&&_, _||_, and-false, cond, false, not, true}
 use mathlib.Core.List.{List, [], _∷_}
-use mathlib.Core.Logic.{_≢_, _⊎_, inl, inr, ⊎-elim}
+use mathlib.Core.Logic.{_≢_, _⊎_, ⊎-elim}
 use mathlib.Core.Path.{_∙_, _≡_, ap, refl, sym}
 use lib.Dec.{T, eqb, eqb→eq, leb, leb→le, ltb, ltb→lt}
 use lib.ListN.{List·getD-eq-default, drop, getD, length, length-drop, take}
 use borrow.Author.Tests.{eq-eqb, eqb-false, eqb-true, le-ltb, ltb-false, ltb-true, ne-eqb, not-true}
-use Rattle.text.specs.Class.{Class, Profile, among, classL, classLV, classLVT, classT, classV, control, cr, extend, lf, number, other, regionalIndicator, zwj}
+use Rattle.text.specs.Class.{Profile, among, number, other}
 use Rattle.text.specs.Cluster.{Context, after, classOf, clusters, context, joined, joins, start}
 use Rattle.text.specs.Cluster.Laws.{clusters-first, further}
 use Rattle.text.specs.Code.{firstOf, firstSequence, firstSize, printable, profileOf, size, sequenceOf}
 use Rattle.text.specs.Rules.{contextOf}
-use Rattle.text.specs.Code.Laws.{none-at, none-past, plain-cluster, plain-width, run-fits, run-valid, scalar-at, width-size, width-two}
+use Rattle.text.specs.Code.Laws.{none-past, plain-cluster, plain-width, run-fits, run-valid, width-size, width-two}
 use Rattle.text.specs.Each.{All, all-split}
 use Rattle.text.specs.Rules.{stateAfter, stateContext}
 use Rattle.text.specs.Scalar.{packedAt}
@@ -23,17 +23,16 @@ use Rattle.text.specs.Scalar.Laws.{NoScalar, PackedScalar, number-le, pa
 use Rattle.text.specs.Tests.{and-T, cases, is-true, or-T, true-T}
 use Rattle.text.specs.TextParts.{Measured, column, place, textAt}
 use Rattle.text.specs.TextParts.Laws.{first-all}
-use Rattle.text.specs.Utf8.{Range, Scalar, ascii, decode, decodeFrom, fits, lengthIn, sequence, table}
+use Rattle.text.specs.Utf8.{Scalar, ascii, decode}
 use Rattle.text.specs.Utf8.Valid.{Valid}
 use Rattle.text.specs.Width.{profile01, widthOf}
 use Rattle.text.specs.Code.Boundaries.{alone-numbers}
 use Rattle.text.proofs.Ascii.{apart, ascii-sequence, breaks, each-at, eachFrom, lone, lone-low, other-alone}
 use Rattle.text.proofs.Branch.{in-range, met, on-false, on-true}
 use Rattle.text.proofs.PackedScalars.{first-packed, printable-one}
-use Rattle.text.proofs.Units.{first-by, run-good, run-size, scalarAt}
+use Rattle.text.proofs.Units.{run-good, run-size, scalarAt}
 use Rattle.text.specs.declared.segmentation.ClusterStep.{ClusterStep}
 use Rattle.text.specs.declared.class.Profile as code
-use Rattle.text.specs.declared.utf8.Sequence.{Sequence}
 
 -- ---- a packed scalar
 

@@ -4,7 +4,7 @@ use native.Mathlib.Omega.{arith}
 use mathlib.Core.Bool.{Bool, _&&_, _||_, and-false, and-true, cond, false, true}
 use mathlib.Core.List.{List, [], _∷_}
 use mathlib.Core.Logic.{_≢_}
-use mathlib.Core.Path.{_∙_, _≡_, refl, sym}
+use mathlib.Core.Path.{_∙_, _≡_, ap, refl, sym}
 use lib.Dec.{T, leb, leb→le, ltb, ltb→lt}
 use lib.ListN.{drop, getD, length, take}
 use borrow.Author.Tests.{le-leb, le-ltb, leb-false, leb-true, lt-leb, lt-ltb, ne-eqb}
@@ -12,6 +12,7 @@ use Rattle.text.specs.Code.{firstSequence, fourBytes, isTail, sequenceFo
 use Rattle.text.specs.Tests.{and-T, cases, iff, is-true, or-T, true-T}
 use Rattle.text.specs.Utf8.{decode, more, to, value, within}
 use Rattle.text.specs.declared.utf8.Sequence.{Sequence}
+use Rattle.text.proofs.Ascii.{ascii-first}
 use Rattle.text.proofs.Units.{by-chain, chain, decode-at}
 use Rattle.text.specs.declared.class.Profile as code
 
@@ -214,6 +215,35 @@ module _ (s : List ℕ) (p a b c : ℕ) (here : p < length s) (ea : a ≡ getD s
   pub four-is : (d : ℕ) → d ≡ getD s (p + 3) 0 → 0xEF < a → cond ((leb a 0xF4 && (isTail b && (isTail c && isTail d))) && isFour (x₄ a b c d)) (sequenceOf (x₄ a b c d) 4) (sequenceOf 0 0) ≡ firstSequence (decode (drop p s))
   unfolding value more
   four-is d ed lo = by-test d 4 (x₄ a b c d) ((leb a 0xF4 && (isTail b && (isTail c && isTail d))) && isFour (x₄ a b c d)) ed (four-chain a b c d lo) refl
+
+-- ---- a scalar above FFFF has four bytes
+
+code-of : (t : Bool) (y n : ℕ) (u : Sequence) → cond t (sequenceOf y n) (sequenceOf 0 0) ≡ u → u .code ≤ y
+code-of true y n u e = rw (← e) (omega arith)
+code-of false y n u e = rw (← e) (omega arith)
+
+len-of : (t : Bool) (y n : ℕ) (u : Sequence) → cond t (sequenceOf y n) (sequenceOf 0 0) ≡ u → (u .code ≢ 0) → u .len ≡ n
+len-of true y n u e z = rw (← e) refl
+len-of false y n u e z = absurd (z (rw (← e) refl))
+
+pub high-len : (s : List ℕ) (p : ℕ) → p < length s → 0x10000 ≤ firstSequence (decode (drop p s)) .code → firstSequence (decode (drop p s)) .len ≡ 4
+high-len s p h k =
+    let u : Sequence = firstSequence (decode (drop p s)) in
+    let a : ℕ = getD s p 0 in
+    let b : ℕ = getD s (p + 1) 0 in
+    let c : ℕ = getD s (p + 2) 0 in
+    cases (leb a 0x7F)
+    (λ e. let m : a ≤ 0x7F = leb-true a 0x7F e in
+    absurd (omega (arith, k, m, ap (λ (x : Sequence). x .code) (ascii-first s p a h refl m))))
+    (λ e. let l : 0x7F < a = leb-false a 0x7F e in
+    cases (leb a 0xDF)
+    (λ f. absurd (omega (arith, k, code-of (leb 0xC2 a && isTail b) (a % 32 * 64 + b % 64) 2 u (two-is s p a b c h refl refl refl l (leb-true a 0xDF f)))))
+    (λ f. let m : 0xDF < a = leb-false a 0xDF f in
+    cases (leb a 0xEF)
+    (λ g. absurd (omega (arith, k, code-of ((isTail b && isTail c) && isThree (x₃ a b c 0)) (x₃ a b c 0) 3 u (three-is s p a b c h refl refl refl m (leb-true a 0xEF g)))))
+    (λ g.
+    let d : ℕ = getD s (p + 3) 0 in
+    len-of ((leb a 0xF4 && (isTail b && (isTail c && isTail d))) && isFour (x₄ a b c d)) (x₄ a b c d) 4 u (four-is s p a b c h refl refl refl d refl (leb-false a 0xEF g)) (λ z. omega (arith, k, z)))))
 
 -- ---- by the scalar, 0 where there is none
 

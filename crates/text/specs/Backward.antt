@@ -10,6 +10,7 @@ use Rattle.text.specs.Cluster.{context, joins}
 use Rattle.text.specs.Code.{isTail, profileOf, runOf, size, whole}
 use Rattle.text.specs.Overstrike.{backspace}
 use Rattle.text.specs.Scalar.{packedAt}
+use Rattle.text.specs.Segmentation.{neverJoinsBefore}
 use Rattle.text.specs.Utf8.{Scalar, ascii, decode}
 use Rattle.text.specs.declared.backward.Erasure.{Erasure}
 use Rattle.text.specs.declared.class.Profile as code
@@ -67,7 +68,10 @@ module _ (P : Profile) where
 
   -- the same behind an erasure that leaves the first n bytes
   abbrev pub evenAfter : List ℕ → ℕ → ℕ → ℕ
-  evenAfter t even n = cond (eqb n (length t)) even (cond (endsInPair t even) n (evenBefore t n even))
+  evenAfter t even n =
+      cond (eqb n (length t)) even
+      (cond (neverJoinsBefore (getD t (length t - 1) 0)) (evenBefore t n even)
+      (cond (endsInPair t even) n (evenBefore t n even)))
 
 -- ---- erasing
 

@@ -10,6 +10,6 @@ pub mod Calls
 pub mod Code
 pub mod Rules
 pub mod Scalar
-pub mod Backward
 pub mod TextParts
 pub mod Segmentation
+pub mod Backward

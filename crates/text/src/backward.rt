@@ -50,6 +50,14 @@ fn class_at(profile: Profile, s: &[u8], at: usize) -> u8
     (scalar_at(profile, s, at) / 8 % 16) as u8
 }
 
+// Does a regional indicator stand at a place?
+fn is_indicator(profile: Profile, t: &[u8], at: usize) -> bool
+    requires { ⌜ at < length (now t) ⌝ }
+    ensures { λ r. ⌜ r ≡ indicatorAt (profileOf profile) (now (t .entry)) at ⌝ }
+{
+    scalar_at(profile, t, at) == 4 + INDICATOR
+}
+
 // Does an odd number of regional indicators end at q, the end of a scalar of the text? An even number is known to end at `even`.
 fn odd_to(profile: Profile, t: &[u8], q: usize, even: usize) -> bool
     requires { ⌜ (q ≤ length (now t)) × EvenAt (now t) even ⌝ }
@@ -57,14 +65,13 @@ fn odd_to(profile: Profile, t: &[u8], q: usize, even: usize) -> bool
 {
     let mut odd = false;
     let mut i = q;
-    while 0 < i {
+    while 4 <= i {
         if i == even {
             return odd;
         }
-        let j = scalar_start(t, i);
-        if class_at(profile, t, j) == REGIONAL_INDICATOR {
+        if is_indicator(profile, t, i - 4) {
             odd = !odd;
-            i = j;
+            i -= 4;
         } else {
             return odd;
         }
@@ -108,14 +115,6 @@ fn last_start(profile: Profile, t: &[u8], even: usize) -> usize
     q
 }
 
-// Does a regional indicator stand at a place?
-fn is_indicator(profile: Profile, t: &[u8], at: usize) -> bool
-    requires { ⌜ at < length (now t) ⌝ }
-    ensures { λ r. ⌜ r ≡ indicatorAt (profileOf profile) (now (t .entry)) at ⌝ }
-{
-    scalar_at(profile, t, at) == 4 + INDICATOR
-}
-
 // Are the last two scalars of the text regional indicators, an even number of which is known to end there?
 fn ends_in_pair(profile: Profile, t: &[u8], even: usize) -> bool
     ensures { λ r. ⌜ r ≡ endsInPair (profileOf profile) (now (t .entry)) even ⌝ }
@@ -125,7 +124,10 @@ fn ends_in_pair(profile: Profile, t: &[u8], even: usize) -> bool
         return false;
     }
     if even == n {
-        return is_indicator(profile, t, n - 4) & is_indicator(profile, t, n - 8);
+        if is_indicator(profile, t, n - 4) {
+            return is_indicator(profile, t, n - 8);
+        }
+        return false;
     }
     false
 }
@@ -138,7 +140,10 @@ fn is_between_indicators(profile: Profile, t: &[u8], q: usize) -> bool
     if q < 4 {
         return false;
     }
-    is_indicator(profile, t, q) & is_indicator(profile, t, q - 4)
+    if is_indicator(profile, t, q) {
+        return is_indicator(profile, t, q - 4);
+    }
+    false
 }
 
 // The even place of the text without its last cluster, which begins at q: the one known while it is near, so that what is written and
@@ -171,12 +176,6 @@ pub(crate) fn erase_last(profile: Profile, t: &[u8], even: usize) -> Erasure
     if n == 0 {
         return Erasure { at: 0, even: even };
     }
-    if ends_in_pair(profile, t, even) {
-        return Erasure {
-            at: n - 8,
-            even: n - 8,
-        };
-    }
     let b = byte_at(t, n - 1);
     if never_joins_before(b) {
         if is_control(b) {
@@ -185,6 +184,12 @@ pub(crate) fn erase_last(profile: Profile, t: &[u8], even: usize) -> Erasure
         return Erasure {
             at: n - 1,
             even: even_before(profile, t, n - 1, even),
+        };
+    }
+    if ends_in_pair(profile, t, even) {
+        return Erasure {
+            at: n - 8,
+            even: n - 8,
         };
     }
     let q = last_start(profile, t, even);

@@ -1,13 +1,13 @@
 use Prim.Native.Nat.{_+_, _-_}
 use native.Mathlib.Omega.{arith}
 use lib.ListN.{length}
-use Rattle.spans.proofs.Single.{printable-at, plain-here, BasesLoop, bases-begin, bases-more, bases-last, bases-past, bases-byte}
+use Rattle.spans.proofs.Single.{PrintableLoop, printable-begin, printable-byte, printable-last, printable-more, printable-none, printable-past}
 use borrow.Author.Needs.{needs}
 use Rattle.spans.proofs.reader.printable_end.Statement.{statement}
 use Rattle.spans.proofs.reader.printable_end.Tie as tie
 
 abbrev Inv-loop : tie.InvT-loop
-Inv-loop t at i₀ i = BasesLoop t at i (i + 1)
+Inv-loop t at i₀ i = PrintableLoop t at i
 
 abbrev μ-loop : tie.MeasureT-loop
 μ-loop t at i₀ i = length t - i
@@ -22,7 +22,7 @@ is-printable-requires : tie.Need-is-printable-requires Inv-loop μ-loop
 is-printable-requires c κs = search needs
 
 loop-holds : tie.Need-loop-holds Inv-loop μ-loop
-loop-holds c = search (bases-begin, printable-at)
+loop-holds c = search printable-begin
 
 add-loop : tie.Need-add-loop Inv-loop μ-loop
 add-loop c = search needs
@@ -46,25 +46,25 @@ loop-less : tie.Need-loop-less Inv-loop μ-loop
 loop-less c = search needs
 
 loop-again : tie.Need-loop-again Inv-loop μ-loop
-loop-again c = search (bases-more, printable-at)
+loop-again c = search printable-more
 
 add-result : tie.Need-add-result Inv-loop μ-loop
 add-result c = search needs
 
 returns : tie.Need-returns Inv-loop μ-loop
-returns c = search bases-byte
+returns c = search printable-byte
 
 returns-2 : tie.Need-returns-2 Inv-loop μ-loop
-returns-2 c = search bases-last
+returns-2 c = search printable-last
 
 add-result-2 : tie.Need-add-result-2 Inv-loop μ-loop
 add-result-2 c = search needs
 
 returns-3 : tie.Need-returns-3 Inv-loop μ-loop
-returns-3 c = search bases-past
+returns-3 c = search printable-past
 
 returns-4 : tie.Need-returns-4 Inv-loop μ-loop
-returns-4 c = search (needs, plain-here)
+returns-4 c = search printable-none
 
 pub printable-end-spec : {M : Type 1} → statement M
 printable-end-spec =

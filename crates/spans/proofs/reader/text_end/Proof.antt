@@ -54,13 +54,13 @@ is-printable-requires : tie.Need-is-printable-requires Inv-loop μ-loop
 is-printable-requires c κs = search needs
 
 loop-less : tie.Need-loop-less Inv-loop μ-loop
-loop-less c = text-falls _ _ _ _ _ (c .before .before .before .before .before .before .before .before .before .before .before .before .before .loop .inv) (c .before .before .before .before .before .before .before .before .before .before .before .printable-end .ensures) _ (c .before .before .before .before .before .before .before .bases-end .ensures) _ _ (c .before .before .before .clusters-end .ensures) (c .before .before .byte-at3 .ensures) _ (c .before .is-printable .ensures) (c .if3 .taken)
+loop-less c = text-falls _ _ _ _ _ (c .before .before .before .before .before .before .before .before .before .before .before .before .before .loop .inv) (c .before .before .before .before .before .before .before .before .before .before .before .printable-end .ensures .to) _ (c .before .before .before .before .before .before .before .bases-end .ensures .to) _ _ (c .before .before .before .clusters-end .ensures) (c .before .before .byte-at3 .ensures) _ (c .before .is-printable .ensures) (c .if3 .taken)
 
 loop-again : tie.Need-loop-again Inv-loop μ-loop
-loop-again c = text-more _ _ _ _ _ (c .before .before .before .before .before .before .before .before .before .before .before .before .before .loop .inv) (c .before .before .before .before .before .before .before .before .before .before .before .printable-end .ensures) _ (c .before .before .before .before .before .before .before .bases-end .ensures) _ _ (c .before .before .before .clusters-end .ensures) (c .before .before .byte-at3 .ensures) _ (c .before .is-printable .ensures) (c .if3 .taken)
+loop-again c = text-more _ _ _ _ _ (c .before .before .before .before .before .before .before .before .before .before .before .before .before .loop .inv) (c .before .before .before .before .before .before .before .before .before .before .before .printable-end .ensures .to) _ (c .before .before .before .before .before .before .before .bases-end .ensures .to) _ _ (c .before .before .before .clusters-end .ensures) (c .before .before .byte-at3 .ensures) _ (c .before .is-printable .ensures) (c .if3 .taken)
 
 returns-3 : tie.Need-returns-3 Inv-loop μ-loop
-returns-3 c = text-stops _ _ _ _ _ (c .before .before .before .before .before .before .before .before .before .before .before .before .before .loop .inv) (c .before .before .before .before .before .before .before .before .before .before .before .printable-end .ensures) _ (c .before .before .before .before .before .before .before .bases-end .ensures) _ _ (c .before .before .before .clusters-end .ensures) (c .before .before .byte-at3 .ensures) _ (c .before .is-printable .ensures) (c .if3 .left)
+returns-3 c = text-stops _ _ _ _ _ (c .before .before .before .before .before .before .before .before .before .before .before .before .before .loop .inv) (c .before .before .before .before .before .before .before .before .before .before .before .printable-end .ensures .to) _ (c .before .before .before .before .before .before .before .bases-end .ensures .to) _ _ (c .before .before .before .clusters-end .ensures) (c .before .before .byte-at3 .ensures) _ (c .before .is-printable .ensures) (c .if3 .left)
 
 returns-4 : tie.Need-returns-4 Inv-loop μ-loop
 returns-4 c = search text-past

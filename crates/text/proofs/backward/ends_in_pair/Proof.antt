@@ -1,5 +1,5 @@
+use Rattle.text.proofs.Erasing.{pair-elsewhere, pair-none, pair-short, pair-tells}
 use borrow.Author.Needs.{needs}
-use Rattle.text.proofs.Erasing.{pair-elsewhere, pair-short, pair-tells}
 use Rattle.text.proofs.backward.ends_in_pair.Statement.{statement}
 use Rattle.text.proofs.backward.ends_in_pair.Tie as tie
 
@@ -19,7 +19,10 @@ returns-2 : tie.Need-returns-2
 returns-2 c = search pair-tells
 
 returns-3 : tie.Need-returns-3
-returns-3 c = search pair-elsewhere
+returns-3 c = search pair-none
+
+returns-4 : tie.Need-returns-4
+returns-4 c = search pair-elsewhere
 
 pub ends-in-pair-spec : {M : Type 1} → statement M
 ends-in-pair-spec =
@@ -30,4 +33,5 @@ ends-in-pair-spec =
     is-indicator-requires
     is-indicator-requires-2
     returns-2
-    returns-3)
+    returns-3
+    returns-4)

@@ -6,18 +6,6 @@ use Rattle.text.proofs.backward.erase_last.Tie as tie
 returns : tie.Need-returns
 returns c = search nothing-erased
 
-ends-in-pair-requires : tie.Need-ends-in-pair-requires
-ends-in-pair-requires c κs = search needs
-
-sub-t10 : tie.Need-sub-t10
-sub-t10 c = search pair-long
-
-sub-t11 : tie.Need-sub-t11
-sub-t11 c = search pair-long
-
-returns-2 : tie.Need-returns-2
-returns-2 c = search pair-erased
-
 sub-byte-at : tie.Need-sub-byte-at
 sub-byte-at c = search needs
 
@@ -30,11 +18,11 @@ never-joins-before-requires c κs = search needs
 is-control-requires : tie.Need-is-control-requires
 is-control-requires c κs = search needs
 
-returns-3 : tie.Need-returns-3
-returns-3 c = search lone-added
+returns-2 : tie.Need-returns-2
+returns-2 c = search lone-added
 
-sub-t15 : tie.Need-sub-t15
-sub-t15 c = search needs
+sub-t12 : tie.Need-sub-t12
+sub-t12 c = search needs
 
 sub-even-before : tie.Need-sub-even-before
 sub-even-before c = search needs
@@ -42,8 +30,20 @@ sub-even-before c = search needs
 even-before-requires : tie.Need-even-before-requires
 even-before-requires c κs = search needs
 
+returns-3 : tie.Need-returns-3
+returns-3 c = search lone-erased
+
+ends-in-pair-requires : tie.Need-ends-in-pair-requires
+ends-in-pair-requires c κs = search needs
+
+sub-t16 : tie.Need-sub-t16
+sub-t16 c = search pair-long
+
+sub-t17 : tie.Need-sub-t17
+sub-t17 c = search pair-long
+
 returns-4 : tie.Need-returns-4
-returns-4 c = search lone-erased
+returns-4 c = search pair-erased
 
 last-start-requires : tie.Need-last-start-requires
 last-start-requires c κs = search needs
@@ -61,25 +61,25 @@ even-before-requires-2 : tie.Need-even-before-requires-2
 even-before-requires-2 c κs = search kept-inside
 
 returns-6 : tie.Need-returns-6
-returns-6 c = search last-erased
+returns-6 c = last-erased _ (c .before .before .before .before .before .before .before .before .before .before .before .before .args .t .now) (c .before .before .before .before .before .before .before .before .before .before .before .before .pre .0) (c .before .before .before .before .before .before .before .before .before .before .if1 .left) _ (c .before .before .before .before .last-start .ensures) (c .before .before .before .before .before .before .before .before .before .before .before .before .args .even) _ _ (c .before .before .before .before .before .before .before .before .before .before .before .before .pre .1) (c .before .before .before .decode .ensures) (c .before .before .is-control2 .ensures) _ _ _ _ (c .before .before .before .before .before .before .before .before .before .byte-at .ensures) (c .before .before .before .before .before .before .before .before .never-joins-before .ensures) (c .before .before .before .before .before .before .before .if2 .left) (c .before .before .before .before .before .before .ends-in-pair .ensures) (c .before .before .before .before .before .if4 .left) (c .even-before2 .ensures) (c .before .if5 .left)
 
 pub erase-last-spec : {M : Type 1} → statement M
 erase-last-spec =
     tie.close
     (tie.spec
     returns
-    ends-in-pair-requires
-    sub-t10
-    sub-t11
-    returns-2
     sub-byte-at
     byte-at-requires
     never-joins-before-requires
     is-control-requires
-    returns-3
-    sub-t15
+    returns-2
+    sub-t12
     sub-even-before
     even-before-requires
+    returns-3
+    ends-in-pair-requires
+    sub-t16
+    sub-t17
     returns-4
     last-start-requires
     decode-requires
