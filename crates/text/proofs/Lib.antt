@@ -1,14 +1,14 @@
 pub mod Branch
 pub mod Units
-pub mod Tails
+pub mod ContinuationBytes
 pub mod Runs
 pub mod Ascii
-pub mod Leads
+pub mod LeadBytes
 pub mod PackedScalars
 pub mod ForwardWalk
 pub mod BackwardWalk
 pub mod Texts
-pub mod Even
+pub mod RegionalIndicators
 pub mod Erasing
 pub mod Pushing
 pub mod Steps
