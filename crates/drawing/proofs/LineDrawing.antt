@@ -22,7 +22,7 @@ use Rattle.text.specs.Cluster.Walk.{size-is}
 use Rattle.text.specs.Code.{runOf, size, profileOf, sequenceOf, firstSequence, isTail, twoBytes, threeBytes, fourBytes}
 use Rattle.text.specs.Code.Laws.{ScalarAt, scalar-at, none-at, none-past, run-valid, run-front, run-fits, plain-width}
 use Rattle.text.proofs.Ascii.{ascii-first}
-use Rattle.text.proofs.Leads.{two-is, three-is, four-is}
+use Rattle.text.proofs.LeadBytes.{two-is, three-is, four-is}
 use Rattle.text.proofs.Texts.{whole-prefix}
 use Rattle.text.specs.TextParts.{textAt}
 use Rattle.text.specs.declared.class.Profile as code

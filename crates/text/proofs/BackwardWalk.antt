@@ -25,7 +25,7 @@ use Rattle.text.specs.Code.Boundaries.{alone, alone-numbers}
 use Rattle.text.proofs.Ascii.{ascii-sequence, lone, lone-low, low-tail}
 use Rattle.text.proofs.ForwardWalk.{class-le}
 use Rattle.text.proofs.Runs.{back-scalar, no-head, run-drop, run-head, run-inside, size-pos, size-reverse}
-use Rattle.text.proofs.Tails.{back-here}
+use Rattle.text.proofs.ContinuationBytes.{back-here}
 use Rattle.text.specs.declared.class.Profile as code
 
 unfoldable pub flip : Bool → Bool → Bool

@@ -23,7 +23,7 @@ use Rattle.text.specs.declared.backward.Erasure.{Erasure}
 use Rattle.text.specs.declared.utf8.Sequence.{Sequence}
 use Rattle.text.proofs.Ascii.{ascii-sequence, lone-low}
 use Rattle.text.proofs.BackwardWalk.{last-lone}
-use Rattle.text.proofs.Even.{even-front, even-more, even-zero, indicator-back, indicator-class, indicator-control, pair-by, pair-front, pair-odd, push-reversed}
+use Rattle.text.proofs.RegionalIndicators.{even-front, even-more, even-zero, indicator-back, indicator-class, indicator-control, pair-by, pair-front, pair-odd, push-reversed}
 use Rattle.text.proofs.Runs.{back-scalar, run-drop, run-head, run-inside, size-reverse}
 use Rattle.text.proofs.Texts.{run-append, run-prefix, whole-append, whole-prefix}
 use Rattle.text.proofs.Units.{run-end}

@@ -14,7 +14,7 @@ use Rattle.text.specs.Scalar.{packed, packedAs, packedAt}
 use Rattle.text.specs.Width.{width01}
 use Rattle.text.proofs.Ascii.{ascii-sequence, clear, each-at, eachFrom, other-class, quiet-test, syllable-class, syllable-width, wide-width}
 use Rattle.text.proofs.Branch.{in-range}
-use Rattle.text.proofs.Leads.{four-at, no-second, no-third, three-at, two-at}
+use Rattle.text.proofs.LeadBytes.{four-at, no-second, no-third, three-at, two-at}
 use Rattle.text.specs.declared.class.Profile as code
 
 is : ℕ → ℕ → Bool

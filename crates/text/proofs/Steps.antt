@@ -23,7 +23,7 @@ use Rattle.text.specs.Utf8.Valid.{valid}
 use Rattle.text.specs.declared.overstrike.Conversion.{Conversion}
 use Rattle.text.specs.declared.backward.Erasure.{Erasure}
 use Rattle.text.specs.declared.overstrike.Overstrike.{Overstrike}
-use Rattle.text.proofs.Even.{even-more, push-reversed}
+use Rattle.text.proofs.RegionalIndicators.{even-more, push-reversed}
 use Rattle.text.proofs.Pushing.{front-push}
 use Rattle.text.proofs.Runs.{part-slice, size-reverse}
 use Rattle.text.proofs.Texts.{run-append, whole-append}

@@ -1,6 +1,6 @@
 use borrow.Author.Needs.{needs}
 use Rattle.text.proofs.BackwardWalk.{class-bound, joins-pair, joins-single, joins-zero}
-use Rattle.text.proofs.Tails.{back-inside}
+use Rattle.text.proofs.ContinuationBytes.{back-inside}
 use Rattle.text.proofs.backward.joins_at.Statement.{statement}
 use Rattle.text.proofs.backward.joins_at.Tie as tie
 

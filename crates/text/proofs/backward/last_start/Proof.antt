@@ -5,7 +5,7 @@ use Rattle.text.specs.Backward.{withoutLast}
 use Rattle.text.specs.Code.{profileOf, runOf, size}
 use Rattle.text.specs.Utf8.{decode}
 use Rattle.text.proofs.BackwardWalk.{At, last-begin, last-empty, last-end, last-inside, last-on, last-stop}
-use Rattle.text.proofs.Tails.{back-lt}
+use Rattle.text.proofs.ContinuationBytes.{back-lt}
 use Rattle.text.proofs.backward.last_start.Statement.{statement}
 use Rattle.text.proofs.backward.last_start.Tie as tie
 

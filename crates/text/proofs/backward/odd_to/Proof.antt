@@ -6,7 +6,7 @@ use Rattle.text.specs.Cluster.{context}
 use Rattle.text.specs.Code.{profileOf, size}
 use Rattle.text.specs.Utf8.{Scalar, decode, runOf}
 use Rattle.text.proofs.BackwardWalk.{Left, odd-begin}
-use Rattle.text.proofs.Even.{odd-even, odd-few, odd-stops, odd-turns}
+use Rattle.text.proofs.RegionalIndicators.{odd-even, odd-few, odd-stops, odd-turns}
 use borrow.Author.Needs.{needs}
 use Rattle.text.proofs.backward.odd_to.Statement.{statement}
 use Rattle.text.proofs.backward.odd_to.Tie as tie

@@ -3,7 +3,7 @@ use mathlib.Core.Path.{_≡_}
 use lib.ListN.{length}
 use borrow.Author.Needs.{needs}
 use Rattle.text.specs.Backward.{back}
-use Rattle.text.proofs.Tails.{back-end, back-found, back-on}
+use Rattle.text.proofs.ContinuationBytes.{back-end, back-found, back-on}
 use Rattle.text.proofs.backward.scalar_start.Statement.{statement}
 use Rattle.text.proofs.backward.scalar_start.Tie as tie
 

@@ -1,5 +1,5 @@
 use native.Mathlib.Omega.{arith}
-use Rattle.text.proofs.Leads.{four-at, no-second, no-third, three-at, two-at}
+use Rattle.text.proofs.LeadBytes.{four-at, no-second, no-third, three-at, two-at}
 use borrow.Author.Needs.{needs}
 use Rattle.text.proofs.utf8.decode_long.Statement.{statement}
 use Rattle.text.proofs.utf8.decode_long.Tie as tie

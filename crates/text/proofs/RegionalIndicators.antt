@@ -1,4 +1,4 @@
--- Places at which an even number of regional indicators ends: what keeps them, and the pair that ends at one.
+-- Regional indicators: one at a place, whether an odd number of them ends there, and places at which an even number does.
 use Prim.Native.Nat.{_%_, _+_, _-_, _/_, _<_, _≤_, ℕ}
 use native.Mathlib.Nat.{add-zero}
 use native.Mathlib.Omega.{arith}
@@ -23,10 +23,10 @@ use Rattle.text.specs.Utf8.{Scalar, bytesOf, decode, runOf, sequence, to
 use Rattle.text.proofs.Ascii.{clear, clear-any, each-at, eachFrom}
 use Rattle.text.proofs.BackwardWalk.{Left, class-of, flip, flip-false, headOf, joined-indicators, odd-on, odd-other, odd-ri}
 use Rattle.text.proofs.Branch.{in-range}
-use Rattle.text.proofs.Leads.{high-len}
+use Rattle.text.proofs.LeadBytes.{high-len}
 use Rattle.text.proofs.PackedScalars.{indicator}
 use Rattle.text.proofs.Runs.{Head, back-scalar, run-drop, run-head, run-inside, size-reverse}
-use Rattle.text.proofs.Tails.{back-to, seq-lead, seq-tails}
+use Rattle.text.proofs.ContinuationBytes.{back-to, seq-lead, seq-tails}
 use Rattle.text.proofs.Texts.{run-append, run-prefix}
 use Rattle.text.specs.declared.class.Profile as code
 
