@@ -1,4 +1,5 @@
-// Converts each line of standard input and writes it.
+// Converts each line of standard input and writes it. A line is of any bytes and any
+// length; one that is refused is named on standard error, and the next one follows.
 use std::io::{self, BufRead, Write};
 
 #[repr(C)]
@@ -25,10 +26,12 @@ fn convert(line: &[u8]) -> Result<Vec<u8>, usize> {
 fn main() -> io::Result<()> {
     let mut input = io::stdin().lock();
     let mut line = Vec::new();
+    let mut number = 0;
     while input.read_until(b'\n', &mut line)? > 0 {
+        number += 1;
         match convert(&line) {
             Ok(bytes) => io::stdout().write_all(&bytes)?,
-            Err(number) => eprintln!("refused {number}"),
+            Err(question) => eprintln!("line {number}: refused {question}"),
         }
         line.clear();
     }
