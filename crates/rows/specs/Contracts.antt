@@ -34,15 +34,6 @@ pub mod Laws
 abbrev pub byteBelongs : Bool → ℕ → Bool
 byteBelongs sep b = cond sep (eqb b 0x20) ((leb 0x21 b && leb b 0x7E) && not (eqb b 0x2D))
 
--- the bytes of the `-` that a text begins with
-unfoldable pub hyphenSize : List Scalar → ℕ
-hyphenSize [] = 0
-hyphenSize (c ∷ s) = cond (eqb (c .code) 0x2D) (length (c .bytes)) 0
-
-pub record HyphenAt (s : List ℕ) (at r : ℕ) : Type 0 where
-  pub size : r ≡ hyphenSize (textAt s at)
-  pub inside : at + r ≤ length s
-
 -- a word with its separator
 abbrev pub bothOf : Word → List Scalar
 bothOf v = v .word ++ v .sep

@@ -7,12 +7,11 @@ use text::class::is_whitespace;
 use text::utf8::decode;
 use text::width::width;
 ghost use mathlib.Core.Path.{_≡_};
-ghost use Prim.Native.Nat.{_≤_, _<_};
+ghost use Prim.Native.Nat.{_<_};
 ghost use lib.ListN.{length};
 ghost use Rattle.text.specs.Code.{profileOf};
-ghost use Rattle.text.specs.TextParts.{textAt, Measured};
-ghost use Rattle.rows.specs.Words.Laws.{belongs, leading};
-ghost use Rattle.rows.specs.Contracts.{byteBelongs, HyphenAt, WordAt};
+ghost use Rattle.rows.specs.Words.Laws.{belongs};
+ghost use Rattle.rows.specs.Contracts.{byteBelongs, WordAt};
 
 // Is x a scalar of a separator, or else of a word before a `-`?
 fn belongs(sep: bool, x: u32) -> bool
@@ -35,69 +34,40 @@ fn byte_belongs(sep: bool, b: u8) -> bool
     ((0x21 <= b) & (b <= 0x7E)) & (b != 0x2D)
 }
 
-// The leading scalars that belong.
-fn leading(profile: Profile, text: &[u8], at: BytePlace, sep: bool) -> TextPart
-    requires { ⌜ at .0 ≤ length (now text) ⌝ }
-    ensures { λ r. ⌜ Measured (profileOf profile) (now (text .entry)) (at .0) (leading sep (textAt (now (text .entry)) (at .0))) r ⌝ }
+// The word at a place with its separator.
+pub(crate) fn next_word(profile: Profile, text: &[u8], at: BytePlace) -> TextPart
+    requires { ⌜ at .0 < length (now text) ⌝ }
+    ensures { λ r. ⌜ WordAt (profileOf profile) (now (text .entry)) (at .0) r ⌝ }
 {
     let mut p = at;
     let mut w = Column(0);
+    let mut sep = false;
     while p.0 < text.len() {
         let i = p.0;
         if byte_belongs(sep, text[i]) {
             w = Column(w.0 + 1);
             p = BytePlace(i + 1);
         } else {
-            let u = decode(text, p.0);
+            let u = decode(text, i);
             if u.len == 0 {
                 return TextPart { end: p, width: w };
             }
             if belongs(sep, u.code) {
                 w = Column(w.0 + width(profile, u.code));
-                p = BytePlace(p.0 + u.len);
+                p = BytePlace(i + u.len);
             } else {
-                return TextPart { end: p, width: w };
+                if sep {
+                    return TextPart { end: p, width: w };
+                }
+                if u.code == 0x2D {
+                    return TextPart {
+                        end: BytePlace(i + u.len),
+                        width: Column(w.0 + 1),
+                    };
+                }
+                sep = true;
             }
         }
     }
     TextPart { end: p, width: w }
-}
-
-// The number of bytes of the `-` at a place, or 0.
-fn hyphen_len(text: &[u8], at: BytePlace) -> usize
-    requires { ⌜ at .0 ≤ length (now text) ⌝ }
-    ensures { λ r. ⌜ HyphenAt (now (text .entry)) (at .0) r ⌝ }
-{
-    if at.0 < text.len() {
-        let u = decode(text, at.0);
-        if u.code == 0x2D {
-            return u.len;
-        }
-        return 0;
-    }
-    0
-}
-
-// The word at a place with its separator.
-pub fn next_word(profile: Profile, text: &[u8], at: BytePlace) -> TextPart
-    requires { ⌜ at .0 < length (now text) ⌝ }
-    ensures { λ r. ⌜ WordAt (profileOf profile) (now (text .entry)) (at .0) r ⌝ }
-{
-    let w = leading(profile, text, at, false);
-    let word = w.end;
-    let columns = w.width;
-    let n = hyphen_len(text, word);
-    if n != 0 {
-        return TextPart {
-            end: BytePlace(word.0 + n),
-            width: Column(columns.0 + 1),
-        };
-    }
-    let s = leading(profile, text, word, true);
-    let sep = s.end;
-    let more = s.width;
-    TextPart {
-        end: sep,
-        width: Column(columns.0 + more.0),
-    }
 }

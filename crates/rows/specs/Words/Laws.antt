@@ -2,7 +2,7 @@
 use mathlib.Core.Path.{_≡_, refl, sym, ap, _∙_}
 use Prim.Native.Nat.{ℕ}
 use native.Mathlib.Omega.{arith}
-use mathlib.Core.Bool.{Bool, true, false, cond, not, _&&_}
+use mathlib.Core.Bool.{Bool, true, false, true≢false, cond, not, _&&_}
 use mathlib.Core.List.{List, [], _∷_, _++_, append-assoc, append-nil}
 use lib.Dec.{eqb, eqb→eq}
 use Rattle.text.specs.Tests.{cases, true-T}
@@ -167,3 +167,46 @@ first-word-some c s =
     (λ e. cases (eqb (c .code) 0x2D)
     (λ h. ([], rw (hyphen-first c s e h .0)))
     (λ h. (firstWord s .word ++ firstWord s .sep, rw (letter-first c s e h .0))))
+
+-- ---- of a word with its separator, what is still to come: in the word, or in the separator
+
+unfoldable pub stillOf : Bool → List Scalar → List Scalar
+unfolding firstWord leading
+stillOf false s = firstWord s .word ++ firstWord s .sep
+stillOf true s = leading true s
+
+pub still-none : (sep : Bool) → stillOf sep [] ≡ []
+unfolding stillOf firstWord wordFrom leading beyond
+still-none true = refl
+still-none false = refl
+
+belongs-letter : (v : ℕ) → belongs false v ≡ true → (whitespace v ≡ false) × (eqb v 0x2D ≡ false)
+unfolding belongs
+belongs-letter v e =
+    cases (whitespace v)
+    (λ h. absurd (true≢false (sym e ∙ rw h)))
+    (λ h. (h, cases (eqb v 0x2D) (λ k. absurd (true≢false (sym e ∙ rw (h, k)))) (λ k. k)))
+
+module _ (c : Scalar) (s : List Scalar) where
+  pub still-on : (sep : Bool) → belongs sep (c .code) ≡ true → stillOf sep (c ∷ s) ≡ c ∷ stillOf sep s
+  unfolding stillOf leading
+  still-on true e = rw e
+  still-on false e = let w = belongs-letter (c .code) e in rw (letter-first c s (w .0) (w .1) .0)
+
+  pub still-ends : belongs true (c .code) ≡ false → stillOf true (c ∷ s) ≡ []
+  unfolding stillOf leading
+  still-ends e = rw e
+
+  pub still-hyphen : (c .code) ≡ 0x2D → stillOf false (c ∷ s) ≡ c ∷ []
+  unfolding stillOf
+  still-hyphen e =
+      let h : eqb (c .code) 0x2D ≡ true = rw e refl in
+      let w : whitespace (c .code) ≡ false = cases (whitespace (c .code)) (λ k. absurd (true≢false (sym h ∙ space-not-hyphen (c .code) k))) (λ k. k) in
+      rw (hyphen-first c s w h .0)
+
+  pub still-turns : belongs false (c .code) ≡ false → (c .code ≡ 0x2D → ⊥) → stillOf false (c ∷ s) ≡ stillOf true (c ∷ s)
+  unfolding stillOf belongs
+  still-turns e h =
+      cases (whitespace (c .code))
+      (λ k. rw (space-first c s k .0) (sym (space-on c s k .0)))
+      (λ k. cases (eqb (c .code) 0x2D) (λ y. absurd (h (eqb→eq (c .code) 0x2D (true-T y)))) (λ y. absurd (true≢false (rw (k, y) at e))))
