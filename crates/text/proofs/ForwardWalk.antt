@@ -290,14 +290,17 @@ module _ (v : code.Profile) (s : List ℕ) (p : ℕ) (here : p < length s) where
       let P : Profile = profileOf v in
       let a : ℕ = getD s p 0 in
       let c : ℕ = number (P .class a) in
-      let q = and-T (ltb a 0x20 || (ltb a 0x80 && ltb (getD s (p + 1) 0) 0x80)) (not (eqb a 0x0D)) (true-T (sym e ∙ t)) in
-      let n : a ≢ 13 = eqb-false _ _ (not-true _ (is-true _ (q .1))) in
-      or-T (ltb a 0x20) _ (q .0)
-      (λ f. let l : a < 0x20 = ltb→lt _ _ f in first-byte P s p a here refl (omega (arith, l)) (more-none P (textAt s (p + 1)) c (after start c) (λ d. breaks v a (after start c) d l n)))
+      cases (ltb a 0x20)
       (λ f.
-      let w = and-T (ltb a 0x80) (ltb (getD s (p + 1) 0) 0x80) f in
+      let l : a < 0x20 = ltb-true _ _ f in
+      let n : a ≢ 13 = eqb-false _ _ (not-true _ (rw f at (sym e ∙ t))) in
+      first-byte P s p a here refl (omega (arith, l)) (more-none P (textAt s (p + 1)) c (after start c) (λ d. breaks v a (after start c) d l n)))
+      (λ f.
+      let w = and-T (ltb a 0x80) (ltb (getD s (p + 1) 0) 0x80) (true-T (rw f at (sym e ∙ t))) in
       let l : a < 128 = ltb→lt _ _ (w .0) in
       let m : getD s (p + 1) 0 < 128 = ltb→lt _ _ (w .1) in
+      let h : 0x20 ≤ a = ltb-false _ _ f in
+      let n : a ≢ 13 = λ x. absurd (omega (arith, x, h)) in
       first-byte P s p a here refl l (more-ascii P s (p + 1) c (after start c) (apart v a (getD s (p + 1) 0) (after start c) l m n) m))
 
   -- a byte below 80, LF apart, behind the first scalar
