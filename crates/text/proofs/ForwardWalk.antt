@@ -10,7 +10,7 @@ use lib.Dec.{T, eqb, eqb→eq, leb, leb→le, ltb, ltb→lt}
 use lib.ListN.{List·getD-eq-default, drop, getD, length, length-drop, take}
 use borrow.Author.Tests.{eq-eqb, eqb-false, eqb-true, le-ltb, ltb-false, ltb-true, ne-eqb, not-true}
 use Rattle.text.specs.Class.{Profile, among, number, other}
-use Rattle.text.specs.Cluster.{Context, after, classOf, clusters, context, joined, joins, start}
+use Rattle.text.specs.Cluster.{Context, after, classOf, clusters, clustersAfter, context, joined, joins, start}
 use Rattle.text.specs.Cluster.Laws.{clusters-first, further}
 use Rattle.text.specs.Code.{firstOf, firstSequence, firstSize, printable, profileOf, size, sequenceOf}
 use Rattle.text.specs.Rules.{contextOf}
@@ -315,5 +315,10 @@ module _ (v : code.Profile) (s : List ℕ) (p : ℕ) (here : p < length s) where
   pub walked : (r : ClusterStep) → NextCluster (profileOf v) s p r → r .part .end .0 ≡ p + firstSize (profileOf v) (textAt s p)
   unfolding firstSize
   walked r n = n .part .end
+
+-- past the end there is none
+pub no-cluster : (P : Profile) (s : List ℕ) (p : ℕ) → length s ≤ p → p ≡ p + firstSize P (textAt s p)
+unfolding firstSize size clusters clustersAfter firstOf
+no-cluster P s p h = sym (ap (λ (cs : List Scalar). p + size (firstOf (clustersAfter P [] cs))) (none-past s p h) ∙ add-zero p)
 
 pub ruleset rules = (rule-is, on-false, on-true, met, eq-eqb, ne-eqb)

@@ -131,3 +131,13 @@ pub fn cluster_end(profile: Profile, s: &[u8], at: usize) -> usize
     let end = part.end;
     end.0
 }
+
+// The same for any place: the next boundary, which is the place where a damaged byte or nothing stands there.
+pub fn next_boundary(profile: Profile, s: &[u8], at: usize) -> usize
+    ensures { λ r. ⌜ r ≡ at + firstSize (profileOf profile) (textAt (now (s .entry)) at) ⌝ }
+{
+    if at < s.len() {
+        return cluster_end(profile, s, at);
+    }
+    at
+}
