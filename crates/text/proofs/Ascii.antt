@@ -6,7 +6,7 @@ use mathlib.Core.List.{List, [], _∷_}
 use mathlib.Core.Logic.{_≢_}
 use mathlib.Core.Path.{_∙_, _≡_, ap, refl, sym}
 use lib.Dec.{T, eqb, leb, leb→le, ltb, ltb→lt}
-use lib.ListN.{drop, getD, length}
+use lib.ListN.{drop, drop-of-length-le, getD, length}
 use lib.Seq.{drop-cons}
 use borrow.Author.Tests.{eqb-false, eqb-true, le-leb, lt-leb, ne-eqb, not-true}
 use Rattle.text.specs.Class.{Profile, among, class01, control, controls, cr, extends, inAny, lf, number, other}
@@ -16,7 +16,7 @@ use Rattle.text.specs.Code.{firstSequence, isTail, jamo, printable, prof
 use Rattle.text.specs.Segmentation.{neverJoinsBefore}
 use Rattle.text.specs.Code.Boundaries.{alone, alone-numbers, lone-alone}
 use Rattle.text.specs.Tests.{and-T, cases, is-false, is-true, or-T, true-T}
-use Rattle.text.specs.Utf8.{Range, decode, to, value, within}
+use Rattle.text.specs.Utf8.{Range, decode, decodeFrom, to, value, within}
 use Rattle.text.specs.Utf8.Ascii.{low-sequence}
 use Rattle.text.specs.Width.{wides, width01}
 use Rattle.text.proofs.Branch.{in-range}
@@ -101,6 +101,11 @@ ascii-sequence s p a h e l =
 
 pub ascii-first : (s : List ℕ) (p a : ℕ) → p < length s → a ≡ getD s p 0 → a ≤ 0x7F → sequenceOf a 1 ≡ firstSequence (decode (drop p s))
 ascii-first s p a h e l = ascii-sequence s p a h e (omega arith)
+
+-- past the end no sequence begins
+pub no-sequence : (s : List ℕ) (p : ℕ) → length s ≤ p → sequenceOf 0 0 ≡ firstSequence (decode (drop p s))
+unfolding firstSequence decode decodeFrom
+no-sequence s p h = rw (drop-of-length-le s h) refl
 
 -- of two bytes below 80, the first not CR, no rule of the profile joins the second to the first
 pub apart : (p : code.Profile) (b a : ℕ) (k : Context) → b < 128 → a < 128 → (b ≢ 13) → joined (number (profileOf p .class b)) k (number (profileOf p .class a)) ≡ false

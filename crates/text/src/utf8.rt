@@ -92,9 +92,11 @@ fn decode_long(s: &[u8], at: usize) -> Sequence
 
 // The sequence at a place.
 pub fn decode(s: &[u8], at: usize) -> Sequence
-    requires { ⌜ at < length (now s) ⌝ }
     ensures { λ r. ⌜ r ≡ firstSequence (decode (drop at (now (s .entry)))) ⌝ }
 {
+    if s.len() <= at {
+        return Sequence { code: 0, len: 0 };
+    }
     let a = s[at] as u32;
     if a <= 0x7F {
         return Sequence { code: a, len: 1 };

@@ -56,7 +56,7 @@ pub(crate) fn segments(line: &[u8], s: &[u8], at: usize) -> bool
     let mut i = 0;
     let mut list = at;
     while i < line.len() {
-        let end = text::segmentation::cluster_end(Profile { version: 0 }, line, i);
+        let end = text::segmentation::next_boundary(Profile { version: 0 }, line, i);
         if end <= i {
             return false;
         }
