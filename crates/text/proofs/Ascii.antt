@@ -6,7 +6,7 @@ use mathlib.Core.List.{List, [], _∷_}
 use mathlib.Core.Logic.{_≢_}
 use mathlib.Core.Path.{_∙_, _≡_, ap, refl, sym}
 use lib.Dec.{T, eqb, leb, leb→le, ltb, ltb→lt}
-use lib.ListN.{drop, drop-of-length-le, getD, length}
+use lib.ListN.{drop, getD, length}
 use lib.Seq.{drop-cons}
 use borrow.Author.Tests.{eqb-false, eqb-true, le-leb, lt-leb, ne-eqb, not-true}
 use Rattle.text.specs.Class.{Profile, among, class01, control, controls, cr, extends, inAny, lf, number, other}
@@ -102,10 +102,11 @@ ascii-sequence s p a h e l =
 pub ascii-first : (s : List ℕ) (p a : ℕ) → p < length s → a ≡ getD s p 0 → a ≤ 0x7F → sequenceOf a 1 ≡ firstSequence (decode (drop p s))
 ascii-first s p a h e l = ascii-sequence s p a h e (omega arith)
 
--- past the end no sequence begins
-pub no-sequence : (s : List ℕ) (p : ℕ) → length s ≤ p → sequenceOf 0 0 ≡ firstSequence (decode (drop p s))
+-- no bytes begin with a sequence
+pub no-sequence : (s : List ℕ) → length s ≡ 0 → sequenceOf 0 0 ≡ firstSequence (decode s)
 unfolding firstSequence decode decodeFrom
-no-sequence s p h = rw (drop-of-length-le s h) refl
+no-sequence [] h = refl
+no-sequence (b ∷ s) h = absurd (omega arith)
 
 -- of two bytes below 80, the first not CR, no rule of the profile joins the second to the first
 pub apart : (p : code.Profile) (b a : ℕ) (k : Context) → b < 128 → a < 128 → (b ≢ 13) → joined (number (profileOf p .class b)) k (number (profileOf p .class a)) ≡ false

@@ -92,16 +92,24 @@ fn decode_long(s: &[u8], at: usize) -> Sequence
 
 // The sequence at a place.
 pub fn decode(s: &[u8], at: usize) -> Sequence
+    requires { ⌜ at < length (now s) ⌝ }
     ensures { λ r. ⌜ r ≡ firstSequence (decode (drop at (now (s .entry)))) ⌝ }
 {
-    if s.len() <= at {
-        return Sequence { code: 0, len: 0 };
-    }
     let a = s[at] as u32;
     if a <= 0x7F {
         return Sequence { code: a, len: 1 };
     }
     decode_long(s, at)
+}
+
+// The sequence that the bytes begin with.
+pub fn first_sequence(s: &[u8]) -> Sequence
+    ensures { λ r. ⌜ r ≡ firstSequence (decode (now (s .entry))) ⌝ }
+{
+    if s.len() == 0 {
+        return Sequence { code: 0, len: 0 };
+    }
+    decode(s, 0)
 }
 
 // Do four bytes below 80 stand at a place?
