@@ -10,7 +10,7 @@ use lib.Seq.{take-append-seam, drop-append-seam, drop-drop, getD-drop}
 use lib.Dec.{T, eqb, eqb→eq, leb, leb→le}
 use borrow.Author.Tests.{le-leb, eqb-false}
 use mathlib.Core.Bool.{Bool, true, false, not, _&&_, _||_}
-use Rattle.text.specs.Tests.{cases, and-T, is-true, or-T, true-T}
+use Rattle.text.specs.Tests.{cases, and-T, is-true, or-T, true-T, every, every-one}
 use Rattle.text.specs.Each.{All, all-nil, all-cons, all-split}
 use Rattle.text.specs.Utf8.{Scalar, scalar, value, ascii, Decoded, wellFormed, illFormed, sequence, lengthIn, fits, table, decode, decodeFrom, bytesOf}
 use Rattle.text.specs.Utf8.Laws.{decode-good, bytesOf-append, decodedBytes, decodedBytes-decode}
@@ -191,20 +191,6 @@ first-cluster P c s =
 
 -- ---- printable ASCII, 20 to 7E
 
--- n numbers from a on pass a test
-unfoldable pub every : (ℕ → Bool) → ℕ → ℕ → Bool
-every f a zero = true
-every f a (suc n) = f a && every f (suc a) n
-
-pub every-one : (f : ℕ → Bool) (n a v : ℕ) → T (every f a n) → a ≤ v → v < a + n → T (f v)
-unfolding every
-every-one f zero a v t h k = absurd (omega arith)
-every-one f (suc n) a v t h k =
-    let w = and-T (f a) (every f (suc a) n) t in
-    cases (eqb a v)
-    (λ e. rw (eqb→eq a v (true-T e)) at (w .0))
-    (λ e. let d : a ≢ v = eqb-false a v e in every-one f n (suc a) v (w .1) (omega arith) (omega arith))
-
 plain : ℕ → Bool
 unfolding class01 width01 number
 plain v = eqb (number (class01 v)) 11 && eqb (width01 v) 1
@@ -216,7 +202,7 @@ plain-all = tt
 module _ (v : ℕ) (low : 0x20 ≤ v) (high : v ≤ 0x7E) where
   plain-both : T (eqb (number (class01 v)) 11) × T (eqb (width01 v) 1)
   unfolding plain
-  plain-both = and-T (eqb (number (class01 v)) 11) (eqb (width01 v) 1) (every-one plain 95 0x20 v plain-all low (omega arith))
+  plain-both = and-T (eqb (number (class01 v)) 11) (eqb (width01 v) 1) (true-T (every-one plain 95 0x20 v plain-all low (omega arith)))
 
   pub plain-class : number (class01 v) ≡ 11
   plain-class = eqb→eq (number (class01 v)) 11 (plain-both .0)
@@ -274,7 +260,7 @@ pub control-width : (f : code.Profile) (v : ℕ) → (leb v 0x1F || eqb v 0x7F) 
 unfolding profileOf profile01 widthOf widthless runOf decode decodeFrom
 control-width f v e =
     let h = control-low v e in
-    let k : eqb (width01 v) 0 ≡ true = is-true _ (rw e at (every-one widthless 128 0 v widthless-all (omega arith) (omega (arith, h)))) in
+    let k : eqb (width01 v) 0 ≡ true = rw e at (every-one widthless 128 0 v widthless-all (omega arith) (omega (arith, h))) in
     rw (plain-decode v [] h, eqb→eq (width01 v) 0 (true-T k)) refl
 
 -- nor have CR and LF
