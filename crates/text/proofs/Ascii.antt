@@ -1,7 +1,7 @@
 -- What the short cuts rest on: scalars below 80, and ranges in which every scalar is of class other.
 use Prim.Native.Nat.{_%_, _+_, _-_, _<_, _≤_, suc, zero, ℕ}
 use native.Mathlib.Omega.{arith}
-use mathlib.Core.Bool.{Bool, _&&_, _||_, and-false, false, not, true}
+use mathlib.Core.Bool.{Bool, _&&_, _||_, false, not, true}
 use mathlib.Core.List.{List, [], _∷_}
 use mathlib.Core.Logic.{_≢_}
 use mathlib.Core.Path.{_∙_, _≡_, ap, refl, sym}
@@ -11,14 +11,16 @@ use lib.Seq.{drop-cons}
 use borrow.Author.Tests.{eqb-false, eqb-true, le-leb, lt-leb, ne-eqb, not-true}
 use Rattle.text.specs.Class.{Profile, among, class01, control, controls, cr, extends, inAny, lf, number, other}
 use Rattle.text.specs.Cluster.{Context, joined}
-use Rattle.text.specs.Code.{firstSequence, isTail, jamo, printable, profileOf, runOf, sequenceOf, size, syllable}
+use Rattle.text.specs.Cluster.Ascii.{after-control}
+use Rattle.text.specs.Code.{firstSequence, isTail, jamo, printable, profileOf, sequenceOf, syllable}
 use Rattle.text.specs.Segmentation.{neverJoinsBefore}
 use Rattle.text.specs.Code.Boundaries.{alone, alone-numbers, lone-alone}
 use Rattle.text.specs.Tests.{and-T, cases, is-false, is-true, or-T, true-T}
-use Rattle.text.specs.Utf8.{Range, decode, fits, lengthIn, sequence, table, to, value, within}
+use Rattle.text.specs.Utf8.{Range, decode, to, value, within}
+use Rattle.text.specs.Utf8.Ascii.{low-sequence}
 use Rattle.text.specs.Width.{wides, width01}
 use Rattle.text.proofs.Branch.{in-range}
-use Rattle.text.proofs.Units.{first-by, size-on, zero-leb}
+use Rattle.text.proofs.Units.{first-by}
 use Rattle.text.specs.declared.class.Profile as code
 
 -- ---- a test of every number of a range, computed once
@@ -88,23 +90,14 @@ break-each : T (eachFrom 0 0x20 break-class)
 unfolding eachFrom break-class among number class01
 break-each = tt
 
-break-numbers : (p : ℕ) (k : Context) (c : ℕ) → among p (lf ∷ control ∷ []) ≡ true → joined p k c ≡ false
-unfolding joined among number
-break-numbers p k c f = cases (eqb p 1) (λ e. rw (eqb-true p 1 e) refl) (λ e. rw (eqb-true p 2 (rw e at f)) refl)
-
 control-breaks : (a : ℕ) (k : Context) (c : ℕ) → a < 0x20 → (a ≢ 13) → joined (number (class01 a)) k c ≡ false
 unfolding break-class
-control-breaks a k c h n = break-numbers (number (class01 a)) k c (rw (ne-eqb a 13 n) at (each-at 0x20 0 a break-class break-each (omega arith) (omega arith)))
-
--- a byte below 80 is a sequence by itself
-sequence-one : (a : ℕ) (s : List ℕ) → a < 128 → sequence (a ∷ s) ≡ 1
-unfolding sequence lengthIn fits table
-sequence-one a s h = rw (zero-leb a, le-leb a 0x7F (omega arith)) refl
+control-breaks a k c h n = after-control (number (class01 a)) k c (rw (ne-eqb a 13 n) at (each-at 0x20 0 a break-class break-each (omega arith) (omega arith)))
 
 pub ascii-sequence : (s : List ℕ) (p a : ℕ) → p < length s → a ≡ getD s p 0 → a < 128 → sequenceOf a 1 ≡ firstSequence (decode (drop p s))
 unfolding value
 ascii-sequence s p a h e l =
-    sym (ap (λ (x : List ℕ). firstSequence (decode x)) (drop-cons s p 0 h ∙ ap (λ (x : ℕ). x ∷ drop (suc p) s) (sym e)) ∙ first-by a (drop (suc p) s) 1 (sequence-one a (drop (suc p) s) l))
+    sym (ap (λ (x : List ℕ). firstSequence (decode x)) (drop-cons s p 0 h ∙ ap (λ (x : ℕ). x ∷ drop (suc p) s) (sym e)) ∙ first-by a (drop (suc p) s) 1 (low-sequence a (drop (suc p) s) l))
 
 pub ascii-first : (s : List ℕ) (p a : ℕ) → p < length s → a ≡ getD s p 0 → a ≤ 0x7F → sequenceOf a 1 ≡ firstSequence (decode (drop p s))
 ascii-first s p a h e l = ascii-sequence s p a h e (omega arith)

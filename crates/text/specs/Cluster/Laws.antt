@@ -10,6 +10,14 @@ use Rattle.text.specs.Utf8.{Scalar}
 use Rattle.text.specs.Class.{Profile, among, number}
 use Rattle.text.specs.Cluster.{Context, start, after, joined, classOf, context, joins, joinsNext, addToCluster, clustersAfter, clusters, joinAll}
 
+pub join-nil : joinAll [] ≡ []
+unfolding joinAll
+join-nil = refl
+
+pub join-cons : (g : List Scalar) (gs : List (List Scalar)) → joinAll (g ∷ gs) ≡ g ++ joinAll gs
+unfolding joinAll
+join-cons g gs = refl
+
 module _ (P : Profile) where
   addToCluster-all : (w : Bool) (c : Scalar) (gs : List (List Scalar)) → joinAll (addToCluster P w c gs) ≡ c ∷ joinAll gs
   unfolding joinAll addToCluster
@@ -26,6 +34,14 @@ module _ (P : Profile) where
   pub clusters-all : (s : List Scalar) → joinAll (clusters P s) ≡ s
   unfolding clusters
   clusters-all s = clustersAfter-all [] s
+
+  pub clusters-nil : clusters P [] ≡ []
+  unfolding clusters clustersAfter
+  clusters-nil = refl
+
+  pub clusters-none : (s : List Scalar) → clusters P s ≡ [] → s ≡ []
+  unfolding joinAll
+  clusters-none s e = sym (clusters-all s) ∙ ap joinAll e
 
 -- ---- one after the other
 
@@ -93,6 +109,15 @@ module _ (P : Profile) where
   pub clusters-first : (c : Scalar) (s : List Scalar) → clusters P (c ∷ s) ≡ (c ∷ take (further (c ∷ []) s) s) ∷ clusters P (drop (further (c ∷ []) s) s)
   unfolding clusters
   clusters-first c s = first-after [] c s
+
+  -- a scalar that no rule joins the next one to is a cluster by itself
+  pub clusters-one : (c : Scalar) → clusters P (c ∷ []) ≡ (c ∷ []) ∷ []
+  unfolding clusters clustersAfter joinsNext addToCluster
+  clusters-one c = refl
+
+  pub clusters-apart : (c d : Scalar) (s : List Scalar) → joins P (c ∷ []) d ≡ false → clusters P (c ∷ d ∷ s) ≡ (c ∷ []) ∷ clusters P (d ∷ s)
+  unfolding further
+  clusters-apart c d s e = clusters-first c (d ∷ s) ∙ rw e refl
 
   -- ---- a scalar that joins nothing before it begins a cluster
 

@@ -29,6 +29,14 @@ sequence-le s = lengthIn-le table s
 
 -- ---- bytes
 
+pub bytes-nil : bytesOf [] ≡ []
+unfolding bytesOf
+bytes-nil = refl
+
+pub bytes-one : (c : Scalar) → bytesOf (c ∷ []) ≡ c .bytes
+unfolding bytesOf
+bytes-one c = append-nil (c .bytes)
+
 pub bytesOf-append : (s t : List Scalar) → bytesOf (s ++ t) ≡ bytesOf s ++ bytesOf t
 unfolding bytesOf
 bytesOf-append [] t = refl

@@ -6,8 +6,8 @@ use Rattle.spans.proofs.reader.next_span.Tie as tie
 byte-at-requires : tie.Need-byte-at-requires
 byte-at-requires c κs = search needs
 
-is-alone-requires : tie.Need-is-alone-requires
-is-alone-requires c κs = search needs
+is-c0-not-cr-requires : tie.Need-is-c0-not-cr-requires
+is-c0-not-cr-requires c κs = search needs
 
 control-span-requires : tie.Need-control-span-requires
 control-span-requires c κs = search control-ready
@@ -37,7 +37,7 @@ cluster-end-requires : tie.Need-cluster-end-requires
 cluster-end-requires c κs = search needs
 
 mark-span-requires : tie.Need-mark-span-requires
-mark-span-requires c κs = mark-ready _ _ _ (c .before .before .before .before .before .before .before .before .before .pre) _ (c .before .before .before .before .scalar-at .ensures) _ _ _ _ (c .before .before .before .before .before .before .before .byte-at .ensures) (c .before .before .before .before .before .before .is-alone .ensures) (c .before .before .before .before .before .if1 .left) (c .before .before .before .if2 .left) (c .before .before .text-end .ensures) (c .before .if3 .left) (c .cluster-end .ensures)
+mark-span-requires c κs = mark-ready _ _ _ (c .before .before .before .before .before .before .before .before .before .pre) _ (c .before .before .before .before .scalar-at .ensures) _ _ _ _ (c .before .before .before .before .before .before .before .byte-at .ensures) (c .before .before .before .before .before .before .is-c0-not-cr .ensures) (c .before .before .before .before .before .if1 .left) (c .before .before .before .if2 .left) (c .before .before .text-end .ensures) (c .before .if3 .left) (c .cluster-end .ensures)
 
 returns-4 : tie.Need-returns-4
 returns-4 c = search special-done
@@ -47,7 +47,7 @@ next-span-spec =
     tie.close
     (tie.spec
     byte-at-requires
-    is-alone-requires
+    is-c0-not-cr-requires
     control-span-requires
     returns
     scalar-at-requires
