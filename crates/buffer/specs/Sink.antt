@@ -28,6 +28,10 @@ emit s (b ∷ bs) = emit (put s b) bs
 unfoldable pub landed : ℕ → List ℕ → List ℕ
 landed n xs = cond (leb (length xs) n) (xs ++ replicate (n - length xs) 0) (replicate n 0)
 
+-- what is kept of a buffer, and blanks after it
+abbrev pub cleared : {A : Type 0} → A → ℕ → List A → List A
+cleared blank n l = take n l ++ replicate (length l - n) blank
+
 -- the buffer l with xs written at a place
 abbrev pub written : List ℕ → ℕ → List ℕ → List ℕ
 written l at xs = take at l ++ xs ++ drop (at + length xs) l

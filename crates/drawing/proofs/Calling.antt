@@ -9,7 +9,8 @@ use mathlib.Core.List.{List, _++_}
 use lib.ListN.{length, take, drop, replicate}
 use lib.Dec.{eqb, leb, ltb, leb→le}
 use borrow.Author.Tests.{eq-eqb, ne-eqb, leb-true, leb-false, le-leb, lt-leb, le-ltb, lt-ltb}
-use Rattle.buffer.specs.Sink.Laws.{fitted, overfull}
+use Rattle.buffer.specs.Sink.{cleared}
+use Rattle.buffer.specs.Sink.Laws.{fitted, overfull, cleared-none, cleared-all, cleared-behind}
 use Rattle.text.specs.Tests.{cases, and-T, true-T, is-true}
 use Rattle.text.specs.Calls.{Question, decide}
 use Rattle.text.specs.Width.{profile01}
@@ -18,11 +19,10 @@ use Rattle.text.specs.declared.Column.{Column}
 use Rattle.spans.specs.Spans.{Span, Record}
 use Rattle.spans.specs.Calls.{Read, noRecord, readCall}
 use Rattle.spans.specs.Contracts.{readAs}
-use Rattle.rows.specs.Contracts.{cleared, lineRoom}
+use Rattle.rows.specs.Contracts.{lineRoom}
 use Rattle.rows.specs.declared.wrap.Tally.{Tally}
 use Rattle.rows.specs.Calls.{modeAndWidth}
-use Rattle.rows.proofs.Calling.{cleared-none, cleared-all, cleared-behind}
-use Rattle.rows.proofs.Reading as reading
+use Rattle.rows.specs.Calls.Reading as reading
 use Rattle.drawing.specs.Change.{Change, encode}
 use Rattle.drawing.specs.Change as change
 use Rattle.drawing.specs.Calls as calls

@@ -6,8 +6,8 @@ use lib.ListN.{length, take}
 use Rattle.buffer.specs.Sink.{landed}
 use Rattle.text.specs.declared.Answer.{Answer}
 use Rattle.spans.specs.Spans.{Record}
-use Rattle.spans.specs.Contracts.{numbersOfAll, placesIn}
-use Rattle.spans.proofs.NumberLaws.{places-many, read-told}
+use Rattle.spans.specs.Numbers.{numbersOfAll, placesIn}
+use Rattle.spans.specs.Numbers.Laws.{places-many, read-told}
 use Rattle.drawing.specs.Calls.{Drawn}
 use Rattle.drawing.specs.Requests.{drawnAs}
 use Rattle.drawing.specs.Numbers.{readOf, DrawnNumbers}

@@ -25,7 +25,7 @@ use Rattle.rows.specs.Contracts.Laws.{rows-kept, keepAll, keeps-all, value-kept
 use Rattle.rows.specs.declared.wrap.Tally.{Tally}
 use Rattle.rows.specs.declared.wrap.WrapState.{WrapState}
 use Rattle.rows.specs.declared.wrap.Wrapping.{Wrapping}
-use Rattle.rows.proofs.Reading.{line-room}
+use Rattle.rows.specs.Calls.Reading.{line-room}
 use Rattle.drawing.specs.Change.{Change, encode}
 use Rattle.drawing.specs.Change as change
 use Rattle.drawing.specs.Draw.{State, Sent, renderSpans, initial, leftArrow, rightArrow, closeWindow, render, endOf, startOf, closeRows, renderWrapped}

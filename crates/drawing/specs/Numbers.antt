@@ -4,7 +4,7 @@ use Prim.Native.Nat.{ℕ}
 use mathlib.Core.List.{List}
 use Rattle.text.specs.declared.Answer.{Answer}
 use Rattle.spans.specs.Calls.{Read}
-use Rattle.spans.specs.Contracts.{ReadNumbers}
+use Rattle.spans.specs.Numbers.{ReadNumbers}
 use Rattle.drawing.specs.Calls.{Drawn}
 
 -- what a drawing leaves besides the change list

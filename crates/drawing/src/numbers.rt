@@ -5,7 +5,7 @@ use spans::numbers::write_numbers;
 use text::Answer;
 ghost use lib.ListN.{length};
 ghost use Rattle.text.specs.Width.{profile01};
-ghost use Rattle.spans.specs.Contracts.{placesIn};
+ghost use Rattle.spans.specs.Numbers.{placesIn};
 ghost use Rattle.drawing.specs.Calls.{windowCall, rowCall};
 ghost use Rattle.drawing.specs.Rendering.{currentOf};
 ghost use Rattle.drawing.specs.Numbers.{DrawnNumbers};

@@ -7,14 +7,13 @@ use mathlib.Core.Logic.{_≢_}
 use mathlib.Core.Path.{_∙_, _≡_, ap, refl, sym}
 use lib.Dec.{T, eqb}
 use borrow.Author.Tests.{eqb-true, not-true}
-use Rattle.text.specs.Tests.{and-T, cases, is-true, true-T}
+use Rattle.text.specs.Tests.{and-T, cases, is-true, true-T, in-range, every, every-one}
 use Rattle.text.specs.Utf8.{Range, Scalar, to, within}
 use Rattle.text.specs.Class.{Class, Profile, among, class01, classL, classLV, classLVT, classT, classV, control, controls, cr, extend, extends, inAny, lf, number, other, regionalIndicator, spaces, whitespace, zwj}
 use Rattle.text.specs.Cluster.{Context, addToCluster, clusters, clustersAfter, context, joined, joins, joinsNext}
 use Rattle.text.specs.Cluster.Laws.{restart}
 use Rattle.text.specs.Code.{profileOf}
-use Rattle.text.proofs.Ascii.{apart-numbers, each-at, eachFrom}
-use Rattle.text.proofs.Branch.{in-range}
+use Rattle.text.proofs.Ascii.{apart-numbers}
 use Rattle.text.specs.declared.class.Profile as code
 use Rattle.rows.specs.Words.Laws.{belongs, beyond, firstWord, leading, wordFrom}
 
@@ -42,24 +41,24 @@ module _ (P : Profile) where
 
 eachIn : List Range → (ℕ → Bool) → Bool
 eachIn [] f = true
-eachIn (r ∷ rs) f = eachFrom (r .low) (suc (r .high - r .low)) f && eachIn rs f
+eachIn (r ∷ rs) f = every f (r .low) (suc (r .high - r .low)) && eachIn rs f
 
-in-one : (r : Range) (x : ℕ) (f : ℕ → Bool) → T (eachFrom (r .low) (suc (r .high - r .low)) f) → within r x ≡ true → f x ≡ true
-in-one r x f t e = let w = in-range (r .low) (r .high) x e in each-at (suc (r .high - r .low)) (r .low) x f t (w .0) (let hi = w .1 in omega arith)
+in-one : (r : Range) (x : ℕ) (f : ℕ → Bool) → T (every f (r .low) (suc (r .high - r .low))) → within r x ≡ true → f x ≡ true
+in-one r x f t e = let w = in-range (r .low) (r .high) x e in every-one f (suc (r .high - r .low)) (r .low) x t (w .0) (let hi = w .1 in omega arith)
 
 each-in : (rs : List Range) (x : ℕ) (f : ℕ → Bool) → T (eachIn rs f) → inAny rs x ≡ true → f x ≡ true
 unfolding eachIn inAny
 each-in [] x f t e = absurd (true-T e)
-each-in (r ∷ []) x f t e = in-one r x f (and-T (eachFrom (r .low) (suc (r .high - r .low)) f) _ t .0) e
+each-in (r ∷ []) x f t e = in-one r x f (and-T (every f (r .low) (suc (r .high - r .low))) _ t .0) e
 each-in (r ∷ q ∷ rs) x f t e =
-    let p = and-T (eachFrom (r .low) (suc (r .high - r .low)) f) (eachIn (q ∷ rs) f) t in
+    let p = and-T (every f (r .low) (suc (r .high - r .low))) (eachIn (q ∷ rs) f) t in
     cases (within r x) (λ w. in-one r x f (p .0) w) (λ w. each-in (q ∷ rs) x f (p .1) (rw w at e))
 
 space-class : ℕ → Bool
 space-class x = among (number (class01 x)) (cr ∷ lf ∷ control ∷ other ∷ [])
 
 spaces-classed : T (eachIn spaces space-class)
-unfolding eachIn eachFrom spaces space-class among number class01
+unfolding eachIn every spaces space-class among number class01
 spaces-classed = tt
 
 some-class : (b : Bool) (x y : Class) → (number x ≢ 0) → (number y ≢ 0) → (number (cond b x y) ≢ 0)

@@ -9,6 +9,8 @@ use lib.ListN.{length, take, drop, replicate, length-reverse}
 use lib.Seq.{take-all, take-at}
 use lib.Dec.{leb, ltb}
 use borrow.Author.Tests.{eq-eqb, ne-eqb, leb-true, ltb-true, ltb-false, le-leb, lt-ltb}
+use Rattle.buffer.specs.Sink.{cleared}
+use Rattle.buffer.specs.Sink.Laws.{cleared-none, cleared-all, cleared-behind}
 use Rattle.text.specs.Tests.{cases, and-T, true-T, is-true}
 use Rattle.text.specs.Width.{profile01}
 use Rattle.text.specs.Code.{profileOf}
@@ -22,15 +24,15 @@ use Rattle.rows.specs.Rows.{Row, rows}
 use Rattle.rows.specs.Calls.{modeOf, modeAndWidth, numbersOf, rowsCall, heightCall}
 use Rattle.rows.specs.Calls.Laws.{height-refused, height-five, height-accepted, rows-refused, rows-five, rows-six, rows-accepted}
 use Rattle.text.specs.TextParts.{column}
-use Rattle.rows.specs.Contracts.{Kept, kept, keeps, beginning, SpansRoom, MadeWrap, largest, lineRoom, wrappingOf, decided, outcomeOf, answerOf, cleared, Called}
+use Rattle.rows.specs.Contracts.{Kept, kept, keeps, beginning, SpansRoom, MadeWrap, largest, lineRoom, wrappingOf, decided, outcomeOf, answerOf, Called}
 use Rattle.rows.specs.Contracts.Laws.{rows-kept, keeps-count, keeps-numbers, numbersOf-length}
 use Rattle.rows.specs.declared.Request.{Request}
 use Rattle.rows.specs.declared.Outcome.{Outcome}
 use Rattle.rows.specs.declared.wrap.Tally.{Tally}
 use Rattle.rows.specs.declared.wrap.WrapState.{WrapState}
 use Rattle.rows.specs.declared.wrap.Wrapping.{Wrapping}
-use Rattle.rows.proofs.Reading as reading
-use Rattle.rows.proofs.Reading.{line-room}
+use Rattle.rows.specs.Calls.Reading as reading
+use Rattle.rows.specs.Calls.Reading.{line-room}
 
 -- ---- the covered functions
 
@@ -48,17 +50,6 @@ module _ (number rows numbers : ℕ) (k : ℕ) (e : k ≡ number) where
   pub outcome-refused : (k ≢ 0) → record { number = k; count = 0; kept = 0; numbers = 0 } ≡ outcomeOf number rows numbers
   unfolding outcomeOf
   outcome-refused z = rw (ne-eqb number 0 (λ f. z (e ∙ f)), e)
-
--- ---- what is kept of a list
-
-pub cleared-none : {A : Type 0} (blank : A) (l : List A) (n : ℕ) → length l ≡ n → cleared blank 0 l ≡ replicate n blank
-cleared-none blank l n e = ap (λ (k : ℕ). replicate k blank) (let z : length l - 0 ≡ n = omega arith in z)
-
-pub cleared-all : {A : Type 0} (blank : A) (l : List A) (n : ℕ) → length l ≤ n → cleared blank n l ≡ l
-cleared-all blank l n h = let z : length l - n ≡ 0 = omega arith in rw (take-all n l h, z, append-nil l)
-
-pub cleared-behind : {A : Type 0} (blank : A) (l a b : List A) (m n : ℕ) → l ≡ a ++ b → length a ≡ n → length l ≡ m → cleared blank n l ≡ a ++ replicate (m - length a) blank
-cleared-behind blank l a b m n e h k = rw (k, ← h, e, take-at a b (length a) refl)
 
 -- ---- what `read` leaves is wrapped
 

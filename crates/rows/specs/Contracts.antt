@@ -16,7 +16,8 @@ use Rattle.text.specs.Cluster.{clusters}
 use Rattle.spans.specs.Spans.{Record}
 use Rattle.spans.specs.Spans.ContentLaw.{textIn}
 use Rattle.spans.specs.Calls.{Read}
-use Rattle.spans.specs.Contracts.{readAs, ReadNumbers}
+use Rattle.spans.specs.Contracts.{readAs}
+use Rattle.spans.specs.Numbers.{ReadNumbers}
 use Rattle.rows.specs.Words.{Word, words}
 use Rattle.rows.specs.Words.Laws.{firstWord}
 use Rattle.rows.specs.Rows.{Row, row, Wrap, wrap, unit, byClusters, longWord, oneWord, byWords, splitText, tabbed}
@@ -239,10 +240,6 @@ outcomeOf number rows numbers =
 
 abbrev pub answerOf : Outcome → Answer
 answerOf o = record { number = o .number; count = o .count }
-
--- what is kept of a lent list, and blanks after it
-abbrev pub cleared : {A : Type 0} → A → ℕ → List A → List A
-cleared blank n l = take n l ++ replicate (length l - n) blank
 
 abbrev pub wrappedAs : Answer → List ℕ → List Record → List ℕ → Wrapped
 wrappedAs a conv spans rows = record { number = a .number; count = a .count; conv = conv; spans = spans; rows = rows }

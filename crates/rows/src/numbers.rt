@@ -5,7 +5,7 @@ use spans::numbers::write_numbers;
 use text::Answer;
 ghost use lib.ListN.{length};
 ghost use Rattle.text.specs.Width.{profile01};
-ghost use Rattle.spans.specs.Contracts.{placesIn, ReadNumbers};
+ghost use Rattle.spans.specs.Numbers.{placesIn, ReadNumbers};
 ghost use Rattle.rows.specs.Calls.{rowsCall, heightCall};
 ghost use Rattle.rows.specs.Contracts.{RowsNumbers};
 

@@ -1,4 +1,3 @@
-pub mod Branch
 pub mod Parameters
 pub mod KnownParameters
 pub mod Sequences
@@ -10,5 +9,4 @@ pub mod ReaderLaws
 pub mod Searching
 pub mod StretchLaws
 pub mod CallLaws
-pub mod NumberLaws
 pub mod Listed

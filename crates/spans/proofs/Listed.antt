@@ -34,15 +34,15 @@ use denote.Slice.{sliceVal, MutSlice, Room}
 use denote.Signature.{plain}
 use denote.Steps.{owned, heard}
 use Rattle.buffer.specs.Sink.{landed}
-use Rattle.buffer.proofs.Spelling.{Spelling, a-number, nothing-more, a-struct, an-array}
-use Rattle.buffer.proofs.Locals.{Held, value, valueAt, takes, setAt, Locals}
-use Rattle.buffer.proofs.Entries.{number, shared, lent, last}
-use Rattle.buffer.proofs.Statements.{gives}
-use Rattle.buffer.proofs.Functions.{W, C, asks}
-use Rattle.buffer.proofs.Arrays.{slice-at, shares, shared-back}
+use Rattle.lending.specs.Spelling.{Spelling, a-number, nothing-more, a-struct, an-array}
+use Rattle.lending.specs.Locals.{Held, value, valueAt, takes, setAt, Locals}
+use Rattle.lending.specs.Signatures.{number, shared, lent, last}
+use Rattle.lending.specs.Statements.{gives}
+use Rattle.lending.specs.Functions.{W, C, asks}
+use Rattle.lending.specs.LocalArrays.{slice-at, shares, shared-back}
 use Rattle.spans.specs.declared.Span.{Span}
-use Rattle.spans.specs.Contracts.{numbersOfAll, placesIn}
-use Rattle.spans.proofs.NumberLaws.{places-few, places-many}
+use Rattle.spans.specs.Numbers.{numbersOfAll, placesIn}
+use Rattle.spans.specs.Numbers.Laws.{places-few, places-many}
 use Rattle.spans.proofs.Span as S
 use Rattle.spans.proofs.Span.Laws as S′
 use Rattle.spans.proofs.numbers.no_spans as no-spans

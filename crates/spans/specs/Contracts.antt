@@ -7,8 +7,6 @@ use mathlib.Core.Option.{Option, none, some}
 use mathlib.Core.List.{List, [], _∷_, _++_}
 use lib.ListN.{length, take, drop, getD, replicate}
 use lib.Dec.{eqb, leb, ltb}
-use Rattle.buffer.specs.Numbers.{smallerOf}
-use Rattle.buffer.specs.Sink.{landed}
 use Rattle.text.specs.Utf8.{Scalar, decode, runOf, bytesOf}
 use Rattle.text.specs.Class.{Profile, number}
 use Rattle.text.specs.Class.Ascii.{syllableOrOther}
@@ -556,23 +554,3 @@ pub record Prepared (line matches : List ℕ) (size : ℕ) (conv : List ℕ) (pl
   pub begins : r .number ≡ 0 → Beginning (convert profile01 line) matches size conv places r
   pub refuses : (r .number ≡ 0 → ⊥) → r ≡ refusedBy (r .number)
   pub lengths : length conv ≡ size
-
--- ---- the span list as plain numbers
-
-abbrev pub numbersOf : Record → List ℕ
-numbersOf r = r .kind ∷ r .place .0 ∷ r .len ∷ r .matched ∷ []
-
-unfoldable pub numbersOfAll : List Record → List ℕ
-numbersOfAll [] = []
-numbersOfAll (r ∷ rs) = numbersOf r ++ numbersOfAll rs
-
--- the places of a list of 2,048 that n numbers have room for
-abbrev pub placesIn : ℕ → ℕ
-placesIn n = smallerOf (n / 4) 2048
-
--- the answer is that of a call, and n numbers hold its records
-pub record ReadNumbers (c : Read) (n : ℕ) (a : Answer) (conv numbers : List ℕ) : Type 0 where
-  pub number : a .number ≡ c .number
-  pub count : a .count ≡ c .count
-  pub bytes : conv ≡ c .conv
-  pub records : numbers ≡ landed n (numbersOfAll (c .spans))

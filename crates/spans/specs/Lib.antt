@@ -4,3 +4,4 @@ pub mod Spans
 pub mod Search
 pub mod Calls
 pub mod Contracts
+pub mod Numbers

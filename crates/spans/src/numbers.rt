@@ -13,7 +13,7 @@ ghost use lib.ListN.{length, replicate};
 ghost use Rattle.buffer.specs.Sink.{sink, emit, landed};
 ghost use Rattle.text.specs.Width.{profile01};
 ghost use Rattle.spans.specs.Calls.{noRecord, readCall};
-ghost use Rattle.spans.specs.Contracts.{numbersOf, numbersOfAll, placesIn, ReadNumbers};
+ghost use Rattle.spans.specs.Numbers.{numbersOf, numbersOfAll, placesIn, ReadNumbers};
 
 // How many places of the list are lent where so many numbers are to hold the records.
 pub fn places_in(numbers: usize) -> usize

@@ -15,28 +15,12 @@ use Rattle.text.specs.Cluster.Ascii.{after-control}
 use Rattle.text.specs.Code.{firstSequence, isTail, jamo, printable, profileOf, sequenceOf, syllable}
 use Rattle.text.specs.Segmentation.{neverJoinsBefore}
 use Rattle.text.specs.Code.Boundaries.{alone, alone-numbers, lone-alone}
-use Rattle.text.specs.Tests.{and-T, cases, is-false, is-true, or-T, true-T}
+use Rattle.text.specs.Tests.{and-T, cases, is-false, is-true, or-T, true-T, in-range, every, every-one}
 use Rattle.text.specs.Utf8.{Range, decode, to, value, within}
 use Rattle.text.specs.Utf8.Ascii.{low-sequence}
 use Rattle.text.specs.Width.{wides, width01}
-use Rattle.text.proofs.Branch.{in-range}
 use Rattle.text.proofs.Units.{first-by}
 use Rattle.text.specs.declared.class.Profile as code
-
--- ---- a test of every number of a range, computed once
-
-unfoldable pub eachFrom : ℕ → ℕ → (ℕ → Bool) → Bool
-eachFrom lo zero f = true
-eachFrom lo (suc n) f = f lo && eachFrom (suc lo) n f
-
-pub each-at : (n lo x : ℕ) (f : ℕ → Bool) → T (eachFrom lo n f) → lo ≤ x → x < lo + n → f x ≡ true
-unfolding eachFrom
-each-at zero lo x f t h k = absurd (omega arith)
-each-at (suc n) lo x f t h k =
-    let p = and-T (f lo) (eachFrom (suc lo) n f) t in
-    cases (eqb lo x)
-    (λ e. rw (eqb-true lo x e) at (is-true (f lo) (p .0)))
-    (λ e. each-at n (suc lo) x f (p .1) (let d = eqb-false lo x e in omega arith) (omega arith))
 
 -- ---- below 80
 
@@ -48,12 +32,12 @@ before-class x = eqb x 0x0D || not (eqb (number (class01 x)) 0)
 after-class : ℕ → Bool
 after-class x = among (number (class01 x)) (cr ∷ lf ∷ control ∷ other ∷ [])
 
-before-each : T (eachFrom 0 128 before-class)
-unfolding eachFrom before-class number class01
+before-each : T (every before-class 0 128)
+unfolding every before-class number class01
 before-each = tt
 
-after-each : T (eachFrom 0 128 after-class)
-unfolding eachFrom after-class among number class01
+after-each : T (every after-class 0 128)
+unfolding every after-class among number class01
 after-each = tt
 
 pub other-alone : alone 11 ≡ true
@@ -78,21 +62,21 @@ lone p b e = lone-alone b e
 ascii-apart : (b a : ℕ) (k : Context) → b < 128 → a < 128 → (b ≢ 13) → joined (number (class01 b)) k (number (class01 a)) ≡ false
 unfolding before-class after-class
 ascii-apart b a k h g n =
-    let f : (eqb b 13 || not (eqb (number (class01 b)) 0)) ≡ true = each-at 128 0 b before-class before-each (omega arith) (omega arith) in
+    let f : (eqb b 13 || not (eqb (number (class01 b)) 0)) ≡ true = every-one before-class 128 0 b before-each (omega arith) (omega arith) in
     let m : not (eqb (number (class01 b)) 0) ≡ true = rw (ne-eqb b 13 n) at f in
-    apart-numbers (number (class01 b)) k (number (class01 a)) (eqb-false _ _ (not-true _ m)) (each-at 128 0 a after-class after-each (omega arith) (omega arith))
+    apart-numbers (number (class01 b)) k (number (class01 a)) (eqb-false _ _ (not-true _ m)) (every-one after-class 128 0 a after-each (omega arith) (omega arith))
 
 -- behind a control below 20, CR apart, nothing joins
 break-class : ℕ → Bool
 break-class x = eqb x 0x0D || among (number (class01 x)) (lf ∷ control ∷ [])
 
-break-each : T (eachFrom 0 0x20 break-class)
-unfolding eachFrom break-class among number class01
+break-each : T (every break-class 0 0x20)
+unfolding every break-class among number class01
 break-each = tt
 
 control-breaks : (a : ℕ) (k : Context) (c : ℕ) → a < 0x20 → (a ≢ 13) → joined (number (class01 a)) k c ≡ false
 unfolding break-class
-control-breaks a k c h n = after-control (number (class01 a)) k c (rw (ne-eqb a 13 n) at (each-at 0x20 0 a break-class break-each (omega arith) (omega arith)))
+control-breaks a k c h n = after-control (number (class01 a)) k c (rw (ne-eqb a 13 n) at (every-one break-class 0x20 0 a break-each (omega arith) (omega arith)))
 
 pub ascii-sequence : (s : List ℕ) (p a : ℕ) → p < length s → a ≡ getD s p 0 → a < 128 → sequenceOf a 1 ≡ firstSequence (decode (drop p s))
 unfolding value
@@ -202,21 +186,21 @@ low-other p x h e =
 classed : (ℕ → ℕ) → ℕ → Bool
 classed f x = eqb (f x) (number (class01 x))
 
-small-class : (p : code.Profile) (n lo x : ℕ) (f : ℕ → ℕ) → T (eachFrom lo n (classed f)) → lo ≤ x → x < lo + n → f x ≡ number (profileOf p .class x)
+small-class : (p : code.Profile) (n lo x : ℕ) (f : ℕ → ℕ) → T (every (classed f) lo n) → lo ≤ x → x < lo + n → f x ≡ number (profileOf p .class x)
 unfolding profileOf classed
-small-class p n lo x f t h k = eqb-true (f x) (number (class01 x)) (each-at n lo x (classed f) t h k)
+small-class p n lo x f t h k = eqb-true (f x) (number (class01 x)) (every-one (classed f) n lo x t h k)
 
 module _ (p : code.Profile) (x : ℕ) where
   pub mark-class : 0x300 ≤ x → x ≤ 0x36F → 3 ≡ number (profileOf p .class x)
-  unfolding eachFrom classed number class01
+  unfolding every classed number class01
   mark-class lo hi = small-class p 0x70 0x300 x (λ y. 3) tt lo (omega arith)
 
   pub jamo-class : 0x1100 ≤ x → x < 0x1200 → number (jamo x) ≡ number (profileOf p .class x)
-  unfolding eachFrom classed number class01
+  unfolding every classed number class01
   jamo-class lo hi = small-class p 0x100 0x1100 x (λ y. number (jamo y)) tt lo hi
 
   pub indicator-class : 0x1F1E6 ≤ x → x ≤ 0x1F1FF → 10 ≡ number (profileOf p .class x)
-  unfolding eachFrom classed number class01
+  unfolding every classed number class01
   indicator-class lo hi = small-class p 0x1A 0x1F1E6 x (λ y. 10) tt lo (omega arith)
 
 -- ---- syllables

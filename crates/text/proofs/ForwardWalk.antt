@@ -20,15 +20,15 @@ use Rattle.text.specs.Rules.{stateAfter, stateContext}
 use Rattle.text.specs.Scalar.{packedAt}
 use Rattle.text.specs.Segmentation.{NextCluster, NextClusterReady, moreOf, neverJoinsBefore, oneByteCluster}
 use Rattle.text.specs.Scalar.Laws.{NoScalar, PackedScalar, number-le, packed-past, packed-view}
-use Rattle.text.specs.Tests.{and-T, cases, is-true, or-T, true-T}
+use Rattle.text.specs.Tests.{and-T, cases, is-true, or-T, true-T, in-range, every, every-one}
 use Rattle.text.specs.TextParts.{Measured, column, place, textAt}
 use Rattle.text.specs.TextParts.Laws.{first-all}
 use Rattle.text.specs.Utf8.{Scalar, ascii, decode}
 use Rattle.text.specs.Utf8.Valid.{Valid}
 use Rattle.text.specs.Width.{profile01, widthOf}
 use Rattle.text.specs.Code.Boundaries.{alone-numbers}
-use Rattle.text.proofs.Ascii.{apart, ascii-sequence, breaks, each-at, eachFrom, lone, lone-low, other-alone}
-use Rattle.text.proofs.Branch.{in-range, met, on-false, on-true}
+use Rattle.text.proofs.Ascii.{apart, ascii-sequence, breaks, lone, lone-low, other-alone}
+use Rattle.lending.specs.Conditions.{met, on-false, on-true}
 use Rattle.text.proofs.PackedScalars.{first-packed, printable-one}
 use Rattle.text.proofs.Units.{run-good, run-size, scalarAt}
 use Rattle.text.specs.declared.segmentation.ClusterStep.{ClusterStep}
@@ -70,16 +70,16 @@ rule : ℕ → ℕ → Bool
 rule p c = same (continues p c) (joined p (stateContext p) c)
 
 row : ℕ → Bool
-row p = eachFrom 0 12 (rule p)
+row p = every (rule p) 0 12
 
-all-rules : T (eachFrom 0 12 row)
-unfolding eachFrom row rule same continues joined among number
+all-rules : T (every row 0 12)
+unfolding every row rule same continues joined among number
 all-rules = tt
 
 pub rule-is : (p c : ℕ) (r : Bool) → p ≤ 11 → c ≤ 11 → r ≡ continues p c → r ≡ joined p (stateContext p) c
 unfolding row rule
 rule-is p c r h k e =
-    e ∙ same-is (continues p c) (joined p (stateContext p) c) (each-at 12 0 c (rule p) (true-T (each-at 12 0 p row all-rules (omega arith) (omega arith))) (omega arith) (omega arith))
+    e ∙ same-is (continues p c) (joined p (stateContext p) c) (every-one (rule p) 12 0 c (true-T (every-one row 12 0 p all-rules (omega arith) (omega arith))) (omega arith) (omega arith))
 
 module _ (P : Profile) where
   -- a state stands for the class and the context: behind an even number of regional indicators they join what other scalars do

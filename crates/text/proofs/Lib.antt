@@ -1,4 +1,4 @@
-pub mod Branch
+pub mod ClassNumbers
 pub mod Units
 pub mod ContinuationBytes
 pub mod Runs

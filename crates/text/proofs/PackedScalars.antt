@@ -12,69 +12,69 @@ use Rattle.text.specs.Class.{Profile, class01, controls, extends, number
 use Rattle.text.specs.Code.{fourBytes, isTail, profileOf, sequenceFor, threeBytes, twoBytes}
 use Rattle.text.specs.Scalar.{packed, packedAs, packedAt}
 use Rattle.text.specs.Width.{width01}
-use Rattle.text.proofs.Ascii.{ascii-sequence, clear, each-at, eachFrom, other-class, quiet-test, syllable-class, syllable-width, wide-width}
-use Rattle.text.proofs.Branch.{in-range}
+use Rattle.text.proofs.Ascii.{ascii-sequence, clear, other-class, quiet-test, syllable-class, syllable-width, wide-width}
+use Rattle.text.specs.Tests.{in-range, every, every-one}
 use Rattle.text.proofs.LeadBytes.{four-at, no-second, no-third, three-at, two-at}
 use Rattle.text.specs.declared.class.Profile as code
 
 is : ℕ → ℕ → Bool
 is k x = eqb (number (class01 x) + 16 * width01 x) k
 
-leaf : (f : code.Profile) (n lo m k x : ℕ) → T (eachFrom lo m (is k)) → lo ≤ x → x < lo + m → n + 8 * k ≡ packedAs (profileOf f) n x
+leaf : (f : code.Profile) (n lo m k x : ℕ) → T (every (is k) lo m) → lo ≤ x → x < lo + m → n + 8 * k ≡ packedAs (profileOf f) n x
 unfolding profileOf is
-leaf f n lo m k x t h l = ap (λ (y : ℕ). n + 8 * y) (sym (eqb-true (number (class01 x) + 16 * width01 x) k (each-at m lo x (is k) t h l)))
+leaf f n lo m k x t h l = ap (λ (y : ℕ). n + 8 * y) (sym (eqb-true (number (class01 x) + 16 * width01 x) k (every-one (is k) m lo x t h l)))
 
-printables : T (eachFrom 0x20 95 (is 27))
-unfolding eachFrom is number class01 width01
+printables : T (every (is 27) 0x20 95)
+unfolding every is number class01 width01
 printables = tt
 
-letters : T (eachFrom 0xA0 608 (is 27))
-unfolding eachFrom is number class01 width01
+letters : T (every (is 27) 0xA0 608)
+unfolding every is number class01 width01
 letters = tt
 
-greek : T (eachFrom 0x370 275 (is 27))
-unfolding eachFrom is number class01 width01
+greek : T (every (is 27) 0x370 275)
+unfolding every is number class01 width01
 greek = tt
 
-marks : T (eachFrom 0x300 112 (is 3))
-unfolding eachFrom is number class01 width01
+marks : T (every (is 3) 0x300 112)
+unfolding every is number class01 width01
 marks = tt
 
-leads : T (eachFrom 0x1100 96 (is 37))
-unfolding eachFrom is number class01 width01
+leads : T (every (is 37) 0x1100 96)
+unfolding every is number class01 width01
 leads = tt
 
-vowels : T (eachFrom 0x1160 72 (is 6))
-unfolding eachFrom is number class01 width01
+vowels : T (every (is 6) 0x1160 72)
+unfolding every is number class01 width01
 vowels = tt
 
-tails : T (eachFrom 0x11A8 88 (is 7))
-unfolding eachFrom is number class01 width01
+tails : T (every (is 7) 0x11A8 88)
+unfolding every is number class01 width01
 tails = tt
 
-indicators : T (eachFrom 0x1F1E6 26 (is 26))
-unfolding eachFrom is number class01 width01
+indicators : T (every (is 26) 0x1F1E6 26)
+unfolding every is number class01 width01
 indicators = tt
 
-pictures : T (eachFrom 0x1F300 848 (is 43))
-unfolding eachFrom is number class01 width01
+pictures : T (every (is 43) 0x1F300 848)
+unfolding every is number class01 width01
 pictures = tt
 
-signs : T (eachFrom 0x1F650 688 (is 27))
-unfolding eachFrom is number class01 width01
+signs : T (every (is 27) 0x1F650 688)
+unfolding every is number class01 width01
 signs = tt
 
 -- a control below 80
 control-test : ℕ → Bool
 control-test x = (leb 0x20 x && leb x 0x7E) || (eqb x 0x0D || (eqb x 0x0A || is 2 x))
 
-all-controls : T (eachFrom 0 128 control-test)
-unfolding eachFrom control-test is number class01 width01
+all-controls : T (every control-test 0 128)
+unfolding every control-test is number class01 width01
 all-controls = tt
 
 control-is : (x : ℕ) → x < 0x80 → (leb 0x20 x && leb x 0x7E) ≡ false → (x ≢ 0x0D) → (x ≢ 0x0A) → is 2 x ≡ true
 unfolding control-test
-control-is x l e m n = rw (e, ne-eqb x 0x0D m, ne-eqb x 0x0A n) at (each-at 128 0 x control-test all-controls (omega arith) (omega (arith, l)))
+control-is x l e m n = rw (e, ne-eqb x 0x0D m, ne-eqb x 0x0A n) at (every-one control-test 128 0 x all-controls (omega arith) (omega (arith, l)))
 
 module _ (f : code.Profile) (x : ℕ) where
   abbrev P : Profile

@@ -17,12 +17,11 @@ use Rattle.text.specs.Code.{firstSequence, profileOf, size}
 use Rattle.text.specs.Overstrike.{push}
 use Rattle.text.specs.Scalar.{packedAt}
 use Rattle.text.specs.Scalar.Laws.{NoScalar, PackedScalar, packed-inside, packed-view}
-use Rattle.text.specs.Tests.{cases}
+use Rattle.text.specs.Tests.{cases, in-range, every, every-one}
 use Rattle.text.specs.TextParts.{textAt}
 use Rattle.text.specs.Utf8.{Scalar, bytesOf, decode, runOf, sequence, to, within}
-use Rattle.text.proofs.Ascii.{clear, clear-any, each-at, eachFrom}
+use Rattle.text.proofs.Ascii.{clear, clear-any}
 use Rattle.text.proofs.BackwardWalk.{Left, class-of, flip, flip-false, headOf, joined-indicators, odd-on, odd-other, odd-ri}
-use Rattle.text.proofs.Branch.{in-range}
 use Rattle.text.proofs.LeadBytes.{high-len}
 use Rattle.text.proofs.PackedScalars.{indicator}
 use Rattle.text.proofs.Runs.{Head, back-scalar, run-drop, run-head, run-inside, size-reverse}
@@ -40,8 +39,8 @@ context-none P = refl
 control-kind : ℕ → Bool
 control-kind x = not (isControl x) || leb (number (class01 x)) 2
 
-control-kinds : T (eachFrom 0 160 control-kind)
-unfolding eachFrom control-kind isControl number class01
+control-kinds : T (every control-kind 0 160)
+unfolding every control-kind isControl number class01
 control-kinds = tt
 
 indicator-code : (v : code.Profile) (x : ℕ) → number (profileOf v .class x) ≡ 10 → isControl x ≡ false
@@ -51,7 +50,7 @@ indicator-code v x e =
     (λ l.
     cases (inAny (to 0x00 0x1F ∷ to 0x7F 0x9F ∷ []) x)
     (λ t.
-    let k : leb (number (class01 x)) 2 ≡ true = rw t at (each-at 160 0 x control-kind control-kinds (omega arith) (omega (arith, leb-true x 0x9F l))) in
+    let k : leb (number (class01 x)) 2 ≡ true = rw t at (every-one control-kind 160 0 x control-kinds (omega arith) (omega (arith, leb-true x 0x9F l))) in
     absurd (omega (arith, leb-true (number (class01 x)) 2 k, e)))
     (λ f. f))
     (λ l. clear-any (to 0x00 0x1F ∷ to 0x7F 0x9F ∷ []) 0xA0 x x tt (omega (arith, leb-false x 0x9F l)) (omega arith))

@@ -4,10 +4,10 @@ use Rattle.buffer.proofs.clear_numbers.Tie as tie
 use mathlib.Core.Path.{_≡_}
 use Prim.Native.Nat.{_≤_, _-_}
 use lib.ListN.{length}
-use Rattle.buffer.specs.Sink.Laws.{cleared, clear-begin, clear-turn, clear-end}
+use Rattle.buffer.specs.Sink.Laws.{clearedTo, clear-begin, clear-turn, clear-end}
 
 abbrev Inv-loop : tie.InvT-loop
-Inv-loop out₀ from i₀ out i = (out ≡ cleared out₀ from i) × (from ≤ i) × (length out ≡ length out₀)
+Inv-loop out₀ from i₀ out i = (out ≡ clearedTo out₀ from i) × (from ≤ i) × (length out ≡ length out₀)
 
 abbrev μ-loop : tie.MeasureT-loop
 μ-loop out₀ from i₀ out i = length out₀ - i

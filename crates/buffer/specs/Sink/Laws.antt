@@ -7,9 +7,9 @@ use native.Mathlib.Nat.{add-zero}
 use native.Mathlib.Numerals.{add-one}
 use native.Mathlib.Omega.{arith}
 use lib.ListN.{length, set, take, drop, getD, replicate, drop-of-length-le, length-set, length-replicate, getD-replicate}
-use lib.Seq.{set-out, drop-cons, sets, sets-eq, paste, paste-zero, paste-suc, take-all, take-length}
+use lib.Seq.{take-at, set-out, drop-cons, sets, sets-eq, paste, paste-zero, paste-suc, take-all, take-length}
 use borrow.Author.Tests.{lt-ltb, le-ltb}
-use Rattle.buffer.specs.Sink.{Sink, sink, bump, put, emit, written, Copied}
+use Rattle.buffer.specs.Sink.{Sink, sink, bump, put, emit, written, cleared, Copied}
 
 abbrev countOf : Sink → ℕ
 countOf (sink l r) = r
@@ -132,15 +132,15 @@ copy-end l l′ xs at j h k e =
 abbrev zeros : ℕ → List ℕ
 zeros n = replicate n 0
 
-unfoldable pub cleared : List ℕ → ℕ → ℕ → List ℕ
-cleared l from i = paste l from (zeros (length l - from)) (i - from)
+unfoldable pub clearedTo : List ℕ → ℕ → ℕ → List ℕ
+clearedTo l from i = paste l from (zeros (length l - from)) (i - from)
 
-pub clear-begin : (l : List ℕ) (from : ℕ) → l ≡ cleared l from from
-unfolding cleared
+pub clear-begin : (l : List ℕ) (from : ℕ) → l ≡ clearedTo l from from
+unfolding clearedTo
 clear-begin l from = let z : from - from ≡ 0 = omega arith in rw z (paste-zero l from (zeros (length l - from)))
 
-pub clear-turn : (l l′ : List ℕ) (from i : ℕ) → from ≤ i → i < length l′ → length l′ ≡ length l → l′ ≡ cleared l from i → set l′ i 0 ≡ cleared l from (i + 1)
-unfolding cleared
+pub clear-turn : (l l′ : List ℕ) (from i : ℕ) → from ≤ i → i < length l′ → length l′ ≡ length l → l′ ≡ clearedTo l from i → set l′ i 0 ≡ clearedTo l from (i + 1)
+unfolding clearedTo
 clear-turn l l′ from i h k n e =
     let zs : List ℕ = zeros (length l - from) in
     let j : ℕ = i - from in
@@ -152,11 +152,22 @@ clear-turn l l′ from i h k n e =
     let t : set (paste l from zs j) i 0 ≡ paste l from zs (suc j) = ap₂ (λ (k v : ℕ). set (paste l from zs j) k v) (sym p) (sym z) ∙ s in
     ap (λ (m : List ℕ). set m i 0) e ∙ t ∙ ap (paste l from zs) (sym q)
 
-pub clear-end : (l l′ : List ℕ) (from i : ℕ) → from ≤ i → length l′ ≤ i → length l′ ≡ length l → l′ ≡ cleared l from i → l′ ≡ take from l ++ replicate (length l - from) 0
-unfolding cleared
+pub clear-end : (l l′ : List ℕ) (from i : ℕ) → from ≤ i → length l′ ≤ i → length l′ ≡ length l → l′ ≡ clearedTo l from i → l′ ≡ take from l ++ replicate (length l - from) 0
+unfolding clearedTo
 clear-end l l′ from i h k n e =
     let zs : List ℕ = zeros (length l - from) in
     let a : take (i - from) zs ≡ zs = take-all (i - from) zs (rw (length-replicate {A = ℕ} (length l - from) 0) (omega arith)) in
     let past : length l ≤ from + (i - from) = omega arith in
     let b : drop (from + (i - from)) l ≡ [] = drop-of-length-le l past in
     e ∙ rw (a, b, append-nil)
+
+-- ---- what is kept of a buffer
+
+pub cleared-none : {A : Type 0} (blank : A) (l : List A) (n : ℕ) → length l ≡ n → cleared blank 0 l ≡ replicate n blank
+cleared-none blank l n e = ap (λ (k : ℕ). replicate k blank) (let z : length l - 0 ≡ n = omega arith in z)
+
+pub cleared-all : {A : Type 0} (blank : A) (l : List A) (n : ℕ) → length l ≤ n → cleared blank n l ≡ l
+cleared-all blank l n h = let z : length l - n ≡ 0 = omega arith in rw (take-all n l h, z, append-nil l)
+
+pub cleared-behind : {A : Type 0} (blank : A) (l a b : List A) (m n : ℕ) → l ≡ a ++ b → length a ≡ n → length l ≡ m → cleared blank n l ≡ a ++ replicate (m - length a) blank
+cleared-behind blank l a b m n e h k = rw (k, ← h, e, take-at a b (length a) refl)

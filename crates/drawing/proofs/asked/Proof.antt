@@ -1,5 +1,5 @@
 use Rattle.drawing.proofs.Calling.{start-fits}
-use Rattle.text.proofs.Branch.{branch}
+use Rattle.lending.specs.Conditions.{branch}
 use Rattle.drawing.specs.Requests.{askedOf}
 use Rattle.drawing.proofs.asked.Statement.{statement}
 use Rattle.drawing.proofs.asked.Tie as tie

@@ -19,12 +19,12 @@ use denote.Slice.{sliceVal, MutSlice, finally}
 use denote.Signature.{plain}
 use denote.Steps.{owned, heard}
 use denote.Struct.Laws as LL
-use Rattle.buffer.proofs.Again.{relends, regains}
-use Rattle.buffer.proofs.Spelling.{nothing-more, a-struct}
-use Rattle.buffer.proofs.Locals.{local-part, revalue, ends}
-use Rattle.buffer.proofs.Entries.{Kind, number, copied, shared, lent}
-use Rattle.buffer.proofs.Statements.{lends-on, gives}
-use Rattle.buffer.proofs.Functions.{W, asks, answers, walks}
+use Rattle.lending.specs.Reborrow.{relends, regains}
+use Rattle.lending.specs.Spelling.{nothing-more, a-struct}
+use Rattle.lending.specs.Locals.{local-part, revalue, ends}
+use Rattle.lending.specs.Signatures.{Kind, number, copied, shared, lent}
+use Rattle.lending.specs.Statements.{lends-on, gives}
+use Rattle.lending.specs.Functions.{W, asks, answers, walks}
 use Rattle.text.proofs.Answer as R
 use Rattle.text.proofs.Answer.Laws as R′
 use Rattle.spans.proofs.Span as T

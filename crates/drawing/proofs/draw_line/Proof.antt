@@ -26,13 +26,13 @@ use denote.Signature.{plain}
 use denote.Steps.{owned, heard}
 use denote.Struct.Laws as LL
 use denote.Triple.Walked.{goes-slice}
-use Rattle.buffer.proofs.Again.{relends, regains}
-use Rattle.buffer.proofs.Shared.{LentShared, lends-shared, shared-back}
-use Rattle.buffer.proofs.Spelling.{a-struct}
-use Rattle.buffer.proofs.Locals.{local-part, revalue, ends}
-use Rattle.buffer.proofs.Entries.{Kind, number, copied, shared, lent, last}
-use Rattle.buffer.proofs.Statements.{counts, lends-on, gives}
-use Rattle.buffer.proofs.Functions.{W, asks, answers, walks}
+use Rattle.lending.specs.Reborrow.{relends, regains}
+use Rattle.lending.specs.ReborrowShared.{LentShared, lends-shared, shared-back}
+use Rattle.lending.specs.Spelling.{a-struct}
+use Rattle.lending.specs.Locals.{local-part, revalue, ends}
+use Rattle.lending.specs.Signatures.{Kind, number, copied, shared, lent, last}
+use Rattle.lending.specs.Statements.{counts, lends-on, gives}
+use Rattle.lending.specs.Functions.{W, asks, answers, walks}
 use Rattle.text.proofs.Answer as R
 use Rattle.text.proofs.Answer.Laws as R′
 use Rattle.spans.proofs.Span as T

@@ -1,4 +1,4 @@
-use Rattle.spans.proofs.Branch.{branch}
+use Rattle.lending.specs.Conditions.{branch}
 use Rattle.drawing.specs.Requests.{drawableOf}
 use borrow.Author.Needs.{needs}
 use Rattle.drawing.proofs.drawable.Statement.{statement}

@@ -22,12 +22,12 @@ use denote.Slice.{sliceVal, ShrSlice, MutSlice, finally, shr-slice-copy}
 use denote.Signature.{plain}
 use denote.Steps.{owned, heard, nothing}
 use denote.Struct.Laws as LL
-use Rattle.buffer.proofs.Again.{relends, regains}
-use Rattle.buffer.proofs.Spelling.{a-number, a-struct}
-use Rattle.buffer.proofs.Locals.{stored, revalue, ends}
-use Rattle.buffer.proofs.Entries.{Kind, number, copied, shared, lent}
-use Rattle.buffer.proofs.Statements.{local, counts, lends-on, gives}
-use Rattle.buffer.proofs.Functions.{W, asks, answers, walks}
+use Rattle.lending.specs.Reborrow.{relends, regains}
+use Rattle.lending.specs.Spelling.{a-number, a-struct}
+use Rattle.lending.specs.Locals.{stored, revalue, ends}
+use Rattle.lending.specs.Signatures.{Kind, number, copied, shared, lent}
+use Rattle.lending.specs.Statements.{local, counts, lends-on, gives}
+use Rattle.lending.specs.Functions.{W, asks, answers, walks}
 use Rattle.spans.proofs.Span as T
 use Rattle.rows.specs.Contracts.{SpansRoom}
 use Rattle.rows.proofs.wrap.Tally as Y

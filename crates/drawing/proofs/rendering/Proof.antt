@@ -1,4 +1,4 @@
-use Rattle.text.proofs.Branch.{branch}
+use Rattle.lending.specs.Conditions.{branch}
 use Rattle.drawing.specs.Requests.{renderingOf}
 use borrow.Author.Needs.{needs}
 use Rattle.drawing.proofs.rendering.Statement.{statement}

@@ -1,4 +1,4 @@
-use Rattle.text.proofs.Branch.{branch}
+use Rattle.lending.specs.Conditions.{branch}
 use borrow.Author.Needs.{needs}
 use Rattle.drawing.proofs.window_start.Statement.{statement}
 use Rattle.drawing.proofs.window_start.Tie as tie

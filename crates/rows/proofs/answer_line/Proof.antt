@@ -43,7 +43,8 @@ use Rattle.text.proofs.Answer.Laws as R′
 use Rattle.spans.specs.declared.Span.{Span}
 use Rattle.spans.specs.Calls.{noRecord}
 use Rattle.spans.proofs.Span as T
-use Rattle.rows.specs.Contracts.{answerOf, cleared, Called}
+use Rattle.buffer.specs.Sink.{cleared}
+use Rattle.rows.specs.Contracts.{answerOf, Called}
 use Rattle.rows.specs.declared.Request.{Request}
 use Rattle.rows.specs.declared.Outcome.{Outcome}
 use Rattle.rows.proofs.Request as Q
@@ -52,7 +53,7 @@ use Rattle.rows.proofs.Outcome as O
 use Rattle.rows.proofs.Outcome.Laws as O′
 use Rattle.rows.proofs.Calling.{called-cleared}
 use Rattle.rows.proofs.Machine.{pvals, ovals, rvals, pmach, omach, rmach, Numbers, Spans}
-use Rattle.buffer.proofs.Again.{LentAgain, lends-again, comes-back}
+use Rattle.lending.specs.Reborrow.{LentAgain, lends-again, comes-back}
 use Rattle.rows.proofs.wrap_line as wrap
 use Rattle.rows.proofs.wrap_line.Symbol as wrap-def
 use Rattle.rows.proofs.wrap_line.Symbol.{name as #rows·wrap-line}

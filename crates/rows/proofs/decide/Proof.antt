@@ -1,5 +1,5 @@
 use borrow.Author.Needs.{needs}
-use Rattle.text.proofs.Branch.{branch}
+use Rattle.lending.specs.Conditions.{branch}
 use Rattle.rows.specs.Contracts.{decided}
 use Rattle.rows.proofs.decide.Statement.{statement}
 use Rattle.rows.proofs.decide.Tie as tie

@@ -47,7 +47,8 @@ use Rattle.spans.specs.declared.Span.{Span}
 use Rattle.spans.specs.Calls.{noRecord, readCall}
 use Rattle.spans.specs.Contracts.{readAs}
 use Rattle.spans.proofs.Span as T
-use Rattle.rows.specs.Contracts.{SpansRoom, MadeWrap, beginning, wrappingOf, decided, outcomeOf, answerOf, cleared, Called}
+use Rattle.buffer.specs.Sink.{cleared}
+use Rattle.rows.specs.Contracts.{SpansRoom, MadeWrap, beginning, wrappingOf, decided, outcomeOf, answerOf, Called}
 use Rattle.rows.specs.declared.Request.{Request}
 use Rattle.rows.specs.declared.Outcome.{Outcome}
 use Rattle.rows.specs.declared.wrap.Tally.{Tally}
@@ -65,8 +66,8 @@ use Rattle.rows.proofs.wrap.Wrapping as G
 use Rattle.rows.proofs.wrap.Wrapping.Laws as G′
 use Rattle.rows.proofs.Calling.{call-room, called}
 use Rattle.rows.proofs.Machine.{pvals, ovals, rvals, yvals, svals, gvals, pmach, omach, rmach, ymach, smach, gmach, Numbers, Spans}
-use Rattle.buffer.proofs.Again.{LentAgain, lends-again, comes-back}
-use Rattle.buffer.proofs.Shared.{LentShared, lends-shared, shared-back}
+use Rattle.lending.specs.Reborrow.{LentAgain, lends-again, comes-back}
+use Rattle.lending.specs.ReborrowShared.{LentShared, lends-shared, shared-back}
 use Rattle.rows.proofs.no_matches as none
 use Rattle.rows.proofs.no_matches.Symbol as none-def
 use Rattle.rows.proofs.no_matches.Symbol.{name as #rows·no-matches}

@@ -51,8 +51,8 @@ use Rattle.spans.proofs.Span as T
 use Rattle.spans.proofs.Span.Laws as T′
 use Rattle.spans.proofs.Reading as K
 use Rattle.spans.proofs.Reading.Laws as K′
-use Rattle.buffer.proofs.Again.{LentAgain, lends-again, comes-back}
-use Rattle.buffer.proofs.Shared.{LentShared, lends-shared, shared-back}
+use Rattle.lending.specs.Reborrow.{LentAgain, lends-again, comes-back}
+use Rattle.lending.specs.ReborrowShared.{LentShared, lends-shared, shared-back}
 use Rattle.spans.proofs.prepare as prep
 use Rattle.spans.proofs.prepare.Symbol as prep-def
 use Rattle.spans.proofs.prepare.Symbol.{name as #spans·prepare}

@@ -10,9 +10,8 @@ use lib.ListN.{length, drop, getD, length-drop, List·getD-append, List·getD-eq
 use lib.Seq.{drop-append-le}
 use lib.Dec.{T, eqb, leb, ltb, eqb→eq, ltb→lt, nltb→le}
 use borrow.Author.Tests.{ltb-false, lt-leb, ne-eqb}
-use Rattle.text.specs.Tests.{cases, and-T, is-true, true-T}
+use Rattle.text.specs.Tests.{cases, and-T, is-true, true-T, every, every-one}
 use Rattle.text.specs.Segmentation.{neverJoinsBefore}
-use Rattle.text.specs.Code.Laws.{every, every-one}
 use Rattle.spans.specs.Sgr.{digit, parameters, allowed, orders}
 use Rattle.spans.specs.declared.sgr.Sgr.{Sgr}
 use Rattle.spans.specs.Sequence.{Sequence, sgr, eraseToEnd, ignored, hyperlink, lineDrawing, Found, found, missing, leading, past, parameterByte, ifKnown, erase, final, csi, charset, uriByte, idByte, closed, osc, parse}
@@ -231,7 +230,7 @@ final-low b e =
     absurd (true≢false (sym e ∙ z)))
 
 final-lone : (b : ℕ) → final b ≡ true → neverJoinsBefore b ≡ true
-final-lone b e = let t = is-true (not (final b) || neverJoinsBefore b) (every-one (λ (b : ℕ). not (final b) || neverJoinsBefore b) 128 0 b final-lone-each (omega arith) (omega (arith, final-low b e))) in rw e at t
+final-lone b e = rw e at (every-one (λ (b : ℕ). not (final b) || neverJoinsBefore b) 128 0 b final-lone-each (omega arith) (omega (arith, final-low b e)))
 
 -- the byte at k behind the first
 ends-at : (a : ℕ) (s : List ℕ) (n k : ℕ) → n ≡ 3 + k → neverJoinsBefore (getD s k 0) ≡ true → neverJoinsBefore (getD (a ∷ s) (n - 2) 0) ≡ true

@@ -7,7 +7,7 @@ use mathlib.Core.List.{List, [], _∷_, _++_}
 use lib.Dec.{T, eqb, ltb, ltb→lt}
 use lib.ListN.{length, getD, drop}
 use borrow.Author.Tests.{eqb-true, not-true}
-use Rattle.text.specs.Tests.{cases, and-T, is-true, true-T}
+use Rattle.text.specs.Tests.{cases, and-T, is-true, true-T, every, every-one}
 use Rattle.text.specs.Utf8.{Scalar, decode, runOf, bytesOf}
 use Rattle.text.specs.Utf8.Ascii.{Split, ascii-splits}
 use Rattle.text.specs.Utf8.Runs.{run-rest, run-length}
@@ -18,7 +18,6 @@ use Rattle.text.specs.declared.class.Profile as code
 use Rattle.text.specs.Width.{profile01}
 use Rattle.text.specs.Code.{profileOf}
 use Rattle.text.specs.Segmentation.{neverJoinsBefore}
-use Rattle.text.specs.Code.Laws.{every, every-one}
 
 -- classes that join nothing before them
 abbrev pub alone : ℕ → Bool
@@ -50,7 +49,7 @@ unfolding lone-class
 lone-alone b e =
     let q = and-T (ltb b 0x80) (not (eqb b 0x0A)) (true-T e) in
     let h : b < 128 = ltb→lt _ _ (q .0) in
-    rw (not-true (eqb b 0x0A) (is-true _ (q .1))) at (is-true (lone-class b) (every-one lone-class 128 0 b lone-each (omega arith) (omega arith)))
+    rw (not-true (eqb b 0x0A) (is-true _ (q .1))) at (every-one lone-class 128 0 b lone-each (omega arith) (omega arith))
 
 lone-joins : (f : code.Profile) (c : Scalar) → neverJoinsBefore (c .code) ≡ true → (before : List Scalar) → joins (profileOf f) before c ≡ false
 unfolding joins profileOf profile01

@@ -8,9 +8,8 @@ use mathlib.Core.List.{List, [], _∷_, _++_, map, append-assoc}
 use lib.ListN.{length, take, drop, length-append, length-drop, drop-of-length-le, take-append-drop, getD}
 use lib.Seq.{take-append-seam, drop-append-seam, drop-drop, getD-drop}
 use lib.Dec.{T, eqb, eqb→eq}
-use borrow.Author.Tests.{eqb-false}
 use mathlib.Core.Bool.{Bool, true, false, _&&_}
-use Rattle.text.specs.Tests.{cases, and-T, true-T}
+use Rattle.text.specs.Tests.{cases, and-T, true-T, every, every-one}
 use Rattle.text.specs.Each.{All, all-nil, all-cons, all-split}
 use Rattle.text.specs.Utf8.{Scalar, scalar, ascii, Decoded, wellFormed, illFormed, fits, decode, decodeFrom, bytesOf}
 use Rattle.text.specs.Utf8.Laws.{bytesOf-append, decodedBytes, decodedBytes-decode}
@@ -203,20 +202,6 @@ first-cluster P c s =
 
 -- ---- printable ASCII, 20 to 7E
 
--- n numbers from a on pass a test
-unfoldable pub every : (ℕ → Bool) → ℕ → ℕ → Bool
-every f a zero = true
-every f a (suc n) = f a && every f (suc a) n
-
-pub every-one : (f : ℕ → Bool) (n a v : ℕ) → T (every f a n) → a ≤ v → v < a + n → T (f v)
-unfolding every
-every-one f zero a v t h k = absurd (omega arith)
-every-one f (suc n) a v t h k =
-    let w = and-T (f a) (every f (suc a) n) t in
-    cases (eqb a v)
-    (λ e. rw (eqb→eq a v (true-T e)) at (w .0))
-    (λ e. let d : a ≢ v = eqb-false a v e in every-one f n (suc a) v (w .1) (omega arith) (omega arith))
-
 plain : ℕ → Bool
 unfolding class01 width01 number
 plain v = eqb (number (class01 v)) 11 && eqb (width01 v) 1
@@ -228,7 +213,7 @@ plain-all = tt
 module _ (v : ℕ) (low : 0x20 ≤ v) (high : v ≤ 0x7E) where
   plain-both : T (eqb (number (class01 v)) 11) × T (eqb (width01 v) 1)
   unfolding plain
-  plain-both = and-T (eqb (number (class01 v)) 11) (eqb (width01 v) 1) (every-one plain 95 0x20 v plain-all low (omega arith))
+  plain-both = and-T (eqb (number (class01 v)) 11) (eqb (width01 v) 1) (true-T (every-one plain 95 0x20 v plain-all low (omega arith)))
 
   pub plain-class : number (class01 v) ≡ 11
   plain-class = eqb→eq (number (class01 v)) 11 (plain-both .0)

@@ -5,12 +5,11 @@ use native.Mathlib.Omega.{arith}
 use mathlib.Core.Bool.{Bool, true, false, cond, _&&_}
 use mathlib.Core.List.{[], _∷_}
 use lib.Dec.{T, eqb, eqb→eq}
-use Rattle.text.specs.Tests.{and-T, cases}
+use Rattle.text.specs.Tests.{and-T, cases, every, every-one, true-T}
 use Rattle.text.specs.Class.{among, class01, classT, classV, control, cr, extend, inAny, lf, number, zwj}
 use Rattle.text.specs.Class.Ascii.{AsciiClasses, SyllableColumns, asciiClass, by-syllable, syllableOrOther}
 use Rattle.text.specs.Width.{profile01, wides, width01}
 use Rattle.text.specs.Code.{printable, profileOf}
-use Rattle.text.specs.Code.Laws.{every, every-one}
 use Rattle.text.specs.declared.class.Profile as code
 
 pub profile-is : (p : code.Profile) → profileOf p ≡ profile01
@@ -27,7 +26,7 @@ ascii-all = tt
 
 ascii-both : (v : ℕ) → v < 0x80 → T (eqb (number (class01 v)) (number (asciiClass v))) × T (eqb (width01 v) (cond (printable v) 1 0))
 unfolding asciiTest
-ascii-both v h = and-T (eqb (number (class01 v)) (number (asciiClass v))) (eqb (width01 v) (cond (printable v) 1 0)) (every-one asciiTest 128 0 v ascii-all (omega arith) (omega arith))
+ascii-both v h = and-T (eqb (number (class01 v)) (number (asciiClass v))) (eqb (width01 v) (cond (printable v) 1 0)) (true-T (every-one asciiTest 128 0 v ascii-all (omega arith) (omega arith)))
 
 pub ascii-classes : (p : code.Profile) → AsciiClasses (profileOf p)
 unfolding profileOf profile01

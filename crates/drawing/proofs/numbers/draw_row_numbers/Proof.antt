@@ -15,17 +15,17 @@ use denote.Ref.{now}
 use denote.Slice.{Room}
 use denote.Signature.{Slot, plain}
 use denote.Steps.{heard}
-use Rattle.buffer.proofs.Spelling.{a-struct}
-use Rattle.buffer.proofs.Locals.{revalue, ends}
-use Rattle.buffer.proofs.Entries.{Kind, number, shared, lent}
-use Rattle.buffer.proofs.Statements.{copies, counts, lends-on, lends-part, gives}
-use Rattle.buffer.proofs.Functions.{W, asks, answers, walks}
-use Rattle.buffer.proofs.Arrays.{slice-at, opens, shuts, lends, gets-back}
+use Rattle.lending.specs.Spelling.{a-struct}
+use Rattle.lending.specs.Locals.{revalue, ends}
+use Rattle.lending.specs.Signatures.{Kind, number, shared, lent}
+use Rattle.lending.specs.Statements.{copies, counts, lends-on, lends-part, gives}
+use Rattle.lending.specs.Functions.{W, asks, answers, walks}
+use Rattle.lending.specs.LocalArrays.{slice-at, opens, shuts, lends, gets-back}
 use Rattle.text.specs.Width.{profile01}
 use Rattle.text.proofs.Answer as R
 use Rattle.text.proofs.Answer.Laws as R′
-use Rattle.spans.specs.Contracts.{placesIn}
-use Rattle.spans.proofs.NumberLaws.{places-wide}
+use Rattle.spans.specs.Numbers.{placesIn}
+use Rattle.spans.specs.Numbers.Laws.{places-wide}
 use Rattle.spans.proofs.Listed.{places-room, made, placed, written}
 use Rattle.spans.proofs.Span as S
 use Rattle.drawing.specs.Calls.{rowCall}

@@ -59,7 +59,7 @@ use Rattle.drawing.specs.Rendering.{SpanReady, SpanDrawn, Closed, Render
 use Rattle.drawing.specs.declared.state.Drawn.{Drawn}
 use Rattle.drawing.specs.declared.state.Stepped.{Stepped}
 use Rattle.drawing.specs.declared.render.Rendering.{Rendering}
-use Rattle.buffer.proofs.Again.{LentAgain, lends-again, comes-back}
+use Rattle.lending.specs.Reborrow.{LentAgain, lends-again, comes-back}
 use Rattle.drawing.proofs.Records.{SpansDrawn, spans-begin, turn-room, spans-turn, spans-end}
 use Rattle.drawing.proofs.state.Drawn as R
 use Rattle.drawing.proofs.state.Drawn.Laws as R′

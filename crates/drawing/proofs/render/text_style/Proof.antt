@@ -1,4 +1,4 @@
-use Rattle.text.proofs.Branch.{branch}
+use Rattle.lending.specs.Conditions.{branch}
 use Rattle.drawing.proofs.render.text_style.Statement.{statement}
 use Rattle.drawing.proofs.render.text_style.Tie as tie
 

@@ -60,7 +60,7 @@ use Rattle.rows.specs.Contracts.{Stepped, spanOf, LastRow, SpanRoom, Spa
 use Rattle.rows.specs.declared.wrap.Tally.{Tally}
 use Rattle.rows.specs.declared.wrap.WrapState.{WrapState}
 use Rattle.rows.specs.declared.wrap.Wrapping.{Wrapping}
-use Rattle.buffer.proofs.Again.{LentAgain, lends-again, comes-back}
+use Rattle.lending.specs.Reborrow.{LentAgain, lends-again, comes-back}
 use Rattle.rows.proofs.Spans.{Spanning, spans-begin, turn-room, spans-turn, spans-end}
 use Rattle.rows.proofs.wrap.Tally as R
 use Rattle.rows.proofs.wrap.Tally.Laws as R′

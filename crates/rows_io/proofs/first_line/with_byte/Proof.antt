@@ -1,4 +1,4 @@
-use Rattle.text.proofs.Branch.{branch, met}
+use Rattle.lending.specs.Conditions.{branch, met}
 use Rattle.rows_io.specs.FirstLine.{withByte}
 use borrow.Author.Needs.{needs}
 use Rattle.rows_io.proofs.first_line.with_byte.Statement.{statement}

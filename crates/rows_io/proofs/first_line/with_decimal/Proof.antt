@@ -1,4 +1,4 @@
-use Rattle.text.proofs.Branch.{branch}
+use Rattle.lending.specs.Conditions.{branch}
 use Rattle.rows_io.proofs.Reading.{digit-low}
 use borrow.Author.Needs.{needs}
 use Rattle.rows_io.proofs.first_line.with_decimal.Statement.{statement}

@@ -2,7 +2,7 @@ use Rattle.rows_io.proofs.Lines.{printed-of}
 use mathlib.Core.Path.{sym, ap}
 use Prim.Native.Nat.{ℕ}
 use lib.ListN.{length-replicate}
-use Rattle.spans.specs.Contracts.{placesIn}
+use Rattle.spans.specs.Numbers.{placesIn}
 use lib.Seq.{length-take-le}
 use Rattle.buffer.specs.Numbers.Laws.{smaller-right}
 use borrow.Author.Needs.{needs}

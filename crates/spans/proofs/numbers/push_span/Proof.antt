@@ -1,4 +1,4 @@
-use Rattle.spans.proofs.NumberLaws.{push-four}
+use Rattle.spans.specs.Numbers.Laws.{push-four}
 use borrow.Author.Needs.{needs}
 use Rattle.spans.proofs.numbers.push_span.Statement.{statement}
 use Rattle.spans.proofs.numbers.push_span.Tie as tie

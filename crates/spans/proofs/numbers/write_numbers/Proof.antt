@@ -32,20 +32,20 @@ use denote.Signature.{Slot, plain}
 use denote.Steps.{owned, heard}
 use denote.Struct.Laws as LL
 use Rattle.buffer.specs.Sink.{sink, emit, landed}
-use Rattle.buffer.proofs.Again.{relends, regains}
-use Rattle.buffer.proofs.Spelling.{a-number, nothing-more}
-use Rattle.buffer.proofs.Locals.{room, value, Blocks, envOf, Locals, local-part, stored, revalue, forgets, ends}
-use Rattle.buffer.proofs.Entries.{Kind, number, copied, shared, lent, last}
-use Rattle.buffer.proofs.Statements.{local, counts, lends-on, gives}
-use Rattle.buffer.proofs.Functions.{W, C, asks, answers, walks}
+use Rattle.lending.specs.Reborrow.{relends, regains}
+use Rattle.lending.specs.Spelling.{a-number, nothing-more}
+use Rattle.lending.specs.Locals.{room, value, Blocks, envOf, Locals, local-part, stored, revalue, forgets, ends}
+use Rattle.lending.specs.Signatures.{Kind, number, copied, shared, lent, last}
+use Rattle.lending.specs.Statements.{local, counts, lends-on, gives}
+use Rattle.lending.specs.Functions.{W, C, asks, answers, walks}
 use Rattle.buffer.proofs.clear_numbers as clear
 use Rattle.buffer.proofs.clear_numbers.Symbol as clear-def
 use Rattle.buffer.proofs.clear_numbers.Met as clear-thm
 use Rattle.text.specs.Tests.{cases}
 use Rattle.spans.specs.declared.Span.{Span}
 use Rattle.spans.specs.Calls.{noRecord}
-use Rattle.spans.specs.Contracts.{numbersOfAll}
-use Rattle.spans.proofs.NumberLaws.{push-turn, numbers-end}
+use Rattle.spans.specs.Numbers.{numbersOfAll}
+use Rattle.spans.specs.Numbers.Laws.{push-turn, numbers-end}
 use Rattle.spans.proofs.Span as S
 use Rattle.spans.proofs.Span.Laws as S′
 use Rattle.spans.proofs.numbers.push_span as step

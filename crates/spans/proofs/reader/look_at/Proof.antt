@@ -1,5 +1,5 @@
 use Rattle.spans.proofs.ReaderLaws.{looksOf, look-is, look-one}
-use Rattle.spans.proofs.Branch.{branch}
+use Rattle.lending.specs.Conditions.{branch}
 use borrow.Author.Needs.{needs}
 use Rattle.spans.proofs.reader.look_at.Statement.{statement}
 use Rattle.spans.proofs.reader.look_at.Tie as tie

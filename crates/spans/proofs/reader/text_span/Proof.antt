@@ -1,5 +1,5 @@
 use Rattle.spans.specs.Contracts.{textRecord}
-use Rattle.spans.proofs.Branch.{branch}
+use Rattle.lending.specs.Conditions.{branch}
 use borrow.Author.Needs.{needs}
 use Rattle.spans.proofs.reader.text_span.Statement.{statement}
 use Rattle.spans.proofs.reader.text_span.Tie as tie

@@ -1,7 +1,7 @@
 use Rattle.spans.specs.Contracts.{told}
 use Rattle.spans.specs.Sequence.{charset}
 use Rattle.spans.proofs.Sequences.{telling}
-use Rattle.spans.proofs.Branch.{branch}
+use Rattle.lending.specs.Conditions.{branch}
 use Rattle.spans.proofs.sequence.charset.Statement.{statement}
 use Rattle.spans.proofs.sequence.charset.Tie as tie
 

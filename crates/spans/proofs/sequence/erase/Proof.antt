@@ -1,7 +1,7 @@
 use Rattle.spans.specs.Contracts.{told}
 use Rattle.spans.specs.Sequence.{erase}
 use Rattle.spans.proofs.Sequences.{telling}
-use Rattle.spans.proofs.Branch.{branch}
+use Rattle.lending.specs.Conditions.{branch}
 use borrow.Author.Needs.{needs}
 use Rattle.spans.proofs.sequence.erase.Statement.{statement}
 use Rattle.spans.proofs.sequence.erase.Tie as tie

@@ -1,6 +1,6 @@
 use Rattle.spans.specs.Contracts.{told}
 use Rattle.spans.proofs.Sequences.{telling, oscOf, osc-is}
-use Rattle.spans.proofs.Branch.{branch}
+use Rattle.lending.specs.Conditions.{branch}
 use borrow.Author.Needs.{needs}
 use Rattle.spans.proofs.sequence.osc.Statement.{statement}
 use Rattle.spans.proofs.sequence.osc.Tie as tie

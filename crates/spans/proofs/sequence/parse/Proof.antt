@@ -1,7 +1,7 @@
 use Rattle.spans.specs.Contracts.{told}
 use Rattle.spans.specs.Sequence.{parse}
 use Rattle.spans.proofs.Sequences.{telling, parse-none, csi-rest, osc-rest, charset-rest}
-use Rattle.spans.proofs.Branch.{branch}
+use Rattle.lending.specs.Conditions.{branch}
 use borrow.Author.Needs.{needs}
 use Rattle.spans.proofs.sequence.parse.Statement.{statement}
 use Rattle.spans.proofs.sequence.parse.Tie as tie

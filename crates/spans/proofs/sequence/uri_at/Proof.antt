@@ -1,7 +1,7 @@
 use Rattle.spans.specs.Contracts.{told}
 use Rattle.spans.specs.Sequence.{closed}
 use Rattle.spans.proofs.Sequences.{telling, uri-is, uri-bell}
-use Rattle.spans.proofs.Branch.{branch}
+use Rattle.lending.specs.Conditions.{branch}
 use borrow.Author.Needs.{needs}
 use Rattle.spans.proofs.sequence.uri_at.Statement.{statement}
 use Rattle.spans.proofs.sequence.uri_at.Tie as tie

@@ -1,6 +1,6 @@
 use Rattle.spans.proofs.KnownParameters.{on-wait}
 use Rattle.spans.specs.Sgr.{stepOf}
-use Rattle.spans.proofs.Branch.{branch}
+use Rattle.lending.specs.Conditions.{branch}
 use borrow.Author.Needs.{needs}
 use Rattle.spans.proofs.sgr.step_of.Statement.{statement}
 use Rattle.spans.proofs.sgr.step_of.Tie as tie

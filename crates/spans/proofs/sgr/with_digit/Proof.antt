@@ -1,5 +1,5 @@
 use Rattle.spans.specs.Contracts.{more}
-use Rattle.spans.proofs.Branch.{branch}
+use Rattle.lending.specs.Conditions.{branch}
 use borrow.Author.Needs.{needs}
 use Rattle.spans.proofs.sgr.with_digit.Statement.{statement}
 use Rattle.spans.proofs.sgr.with_digit.Tie as tie

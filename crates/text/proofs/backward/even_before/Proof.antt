@@ -1,5 +1,5 @@
 use borrow.Author.Needs.{needs}
-use Rattle.text.proofs.Branch.{branch}
+use Rattle.lending.specs.Conditions.{branch}
 use Rattle.text.proofs.backward.even_before.Statement.{statement}
 use Rattle.text.proofs.backward.even_before.Tie as tie
 

@@ -2,7 +2,7 @@ use native.Mathlib.Omega.{arith}
 use borrow.Author.Needs.{needs}
 use Rattle.text.specs.Class.{controls, extends}
 use Rattle.text.proofs.Ascii.{clear, indicator-class, low-other, other-class, quiet-test, syllable-class}
-use Rattle.text.proofs.Branch.{in-range}
+use Rattle.text.specs.Tests.{in-range}
 use Rattle.text.proofs.class.class.Statement.{statement}
 use Rattle.text.proofs.class.class.Tie as tie
 

@@ -2,7 +2,8 @@ use borrow.Author.Needs.{needs}
 use Rattle.text.specs.Class.{class01, inAny, number}
 use Rattle.text.specs.Code.{profileOf}
 use Rattle.text.specs.Utf8.{fits}
-use Rattle.text.proofs.Branch.{in-range, numbered}
+use Rattle.text.specs.Tests.{in-range}
+use Rattle.text.proofs.ClassNumbers.{numbered}
 use Rattle.text.proofs.class.class_in_ranges.Statement.{statement}
 use Rattle.text.proofs.class.class_in_ranges.Tie as tie
 

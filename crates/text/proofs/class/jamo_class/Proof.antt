@@ -1,5 +1,5 @@
 use Rattle.text.specs.Class.{number}
-use Rattle.text.proofs.Branch.{numbered}
+use Rattle.text.proofs.ClassNumbers.{numbered}
 use Rattle.text.proofs.class.jamo_class.Statement.{statement}
 use Rattle.text.proofs.class.jamo_class.Tie as tie
 

@@ -1,6 +1,6 @@
 use borrow.Author.Needs.{needs}
 use Rattle.text.specs.Class.{number}
-use Rattle.text.proofs.Branch.{numbered}
+use Rattle.text.proofs.ClassNumbers.{numbered}
 use Rattle.text.proofs.class.syllable_class.Statement.{statement}
 use Rattle.text.proofs.class.syllable_class.Tie as tie
 

@@ -1,4 +1,4 @@
-use Rattle.text.proofs.Branch.{branch}
+use Rattle.lending.specs.Conditions.{branch}
 use Rattle.text.proofs.rules.state_after.Statement.{statement}
 use Rattle.text.proofs.rules.state_after.Tie as tie
 

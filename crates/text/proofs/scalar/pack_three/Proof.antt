@@ -1,5 +1,5 @@
 use Rattle.text.proofs.PackedScalars.{wide, open-syllable, closed-syllable, lead, vowel, final}
-use Rattle.text.proofs.Branch.{in-range}
+use Rattle.text.specs.Tests.{in-range}
 use borrow.Author.Needs.{needs}
 use Rattle.text.proofs.scalar.pack_three.Statement.{statement}
 use Rattle.text.proofs.scalar.pack_three.Tie as tie

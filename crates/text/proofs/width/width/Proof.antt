@@ -3,7 +3,8 @@ use Rattle.text.specs.Code.{profileOf}
 use Rattle.text.specs.Utf8.{fits}
 use Rattle.text.specs.Width.{width01}
 use Rattle.text.proofs.Ascii.{letter-width, printable-width, syllable-width, wide-width}
-use Rattle.text.proofs.Branch.{branch, in-range}
+use Rattle.lending.specs.Conditions.{branch}
+use Rattle.text.specs.Tests.{in-range}
 use Rattle.text.proofs.width.width.Statement.{statement}
 use Rattle.text.proofs.width.width.Tie as tie
 

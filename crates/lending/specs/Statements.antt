@@ -31,8 +31,8 @@ use denote.Triple.Statement.{Triple}
 use denote.Triple.Entry.{Res, alive}
 use denote.Triple.Spec.{Spec, tripleOf}
 use denote.Triple.Call.{calls-at}
-use Rattle.buffer.proofs.Spelling.{Spelling, spelled}
-use Rattle.buffer.proofs.Locals.{Held, value, valueAt, takes, present, setAt, value-set, present-takes, Locals, local-part, typed, stored}
+use Rattle.lending.specs.Spelling.{Spelling, spelled}
+use Rattle.lending.specs.Locals.{Held, value, valueAt, takes, present, setAt, value-set, present-takes, Locals, local-part, typed, stored}
 
 module _ {M : Type 1} {𝓤 : URA M} {H : Heap 𝓤} {A : Atoms 𝓤} {K : Type 0} {W : Given 𝓤 H A} {E : Env 𝓤 H} {hs : List Held} where
   -- a local that holds a slice

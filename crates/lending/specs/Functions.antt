@@ -1,4 +1,4 @@
--- Calls and whole functions over the entries of Entries.antt.
+-- Calls and whole functions over the entries of Signatures.antt.
 --     asks             a call of such a function: tokens and parameters go to it, and tokens and last values come back
 --     answers          the end of such a function
 --     walks            the function meets its contract, from a walk of its body with the parameters in their locals
@@ -32,10 +32,10 @@ use denote.Triple.End.{all, lastsOf}
 use denote.Triple.Clauses.{Clauses, Lasts, atExit, ensured, closing}
 use denote.Triple.Spec.{Back, tripleOf}
 use denote.Triple.Table.{entered, cited}
-use Rattle.buffer.proofs.Spelling.{Spelling}
-use Rattle.buffer.proofs.Locals.{Held, room, value, values, takes, setAt, value-set, Blocks, envOf, Arguments, all-free, Locals, begins, ends}
-use Rattle.buffer.proofs.Statements.{calls}
-use Rattle.buffer.proofs.Entries.{Kind, slots, spells, tells, laws, signed, ended, tokens, parts, lasts, tokens-of, of-tokens, parts-of, of-parts, lasts-of, of-lasts, spreads, gathers}
+use Rattle.lending.specs.Spelling.{Spelling}
+use Rattle.lending.specs.Locals.{Held, room, value, values, takes, setAt, value-set, Blocks, envOf, Arguments, all-free, Locals, begins, ends}
+use Rattle.lending.specs.Statements.{calls}
+use Rattle.lending.specs.Signatures.{Kind, slots, spells, tells, laws, signed, ended, tokens, parts, lasts, tokens-of, of-tokens, parts-of, of-parts, lasts-of, of-lasts, spreads, gathers}
 
 module _ {n : ℕ} (ks : List (Kind n)) (κs : Lfts n) where
   abbrev Ts : List RattleType

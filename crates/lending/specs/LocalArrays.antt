@@ -29,9 +29,9 @@ use denote.Index.{row, whole-in, whole-out}
 use denote.Ref.{RefT}
 use denote.Slice.{sliceVal, MutSlice, ShrSlice, Room}
 use borrow.Table.Elements.{at, cut-app, join-app, same-len}
-use Rattle.buffer.proofs.Entries.{last}
-use Rattle.buffer.proofs.Locals as L
-use Rattle.buffer.proofs.Locals.{away, room, valueAt, setAt, Inside, Locals, goes-out, comes-back}
+use Rattle.lending.specs.Signatures.{last}
+use Rattle.lending.specs.Locals as L
+use Rattle.lending.specs.Locals.{away, room, valueAt, setAt, Inside, Locals, goes-out, comes-back}
 
 module _ (R : RattleType) where
   -- places in memory, as a slice

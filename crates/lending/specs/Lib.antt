@@ -1,0 +1,9 @@
+pub mod Conditions
+pub mod Reborrow
+pub mod ReborrowShared
+pub mod Spelling
+pub mod Locals
+pub mod Statements
+pub mod Signatures
+pub mod Functions
+pub mod LocalArrays
