@@ -15,13 +15,8 @@ use Rattle.text.specs.Cluster.Ascii.{after-control}
 use Rattle.text.specs.Code.{firstSequence, isTail, jamo, printable, profileOf, sequenceOf, syllable}
 use Rattle.text.specs.Segmentation.{neverJoinsBefore}
 use Rattle.text.specs.Code.Boundaries.{alone, alone-numbers, lone-alone}
-<<<<<<< HEAD
-use Rattle.text.specs.Tests.{and-T, cases, is-false, is-true, or-T, true-T}
-use Rattle.text.specs.Utf8.{Range, decode, decodeFrom, to, value, within}
-=======
 use Rattle.text.specs.Tests.{and-T, cases, is-false, is-true, or-T, true-T, in-range, every, every-one}
-use Rattle.text.specs.Utf8.{Range, decode, to, value, within}
->>>>>>> h-spans
+use Rattle.text.specs.Utf8.{Range, decode, decodeFrom, to, value, within}
 use Rattle.text.specs.Utf8.Ascii.{low-sequence}
 use Rattle.text.specs.Width.{wides, width01}
 use Rattle.text.proofs.Units.{first-by}
