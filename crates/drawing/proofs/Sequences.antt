@@ -13,7 +13,8 @@ use Rattle.text.specs.Tests.{cases}
 use Rattle.text.specs.Class.{Profile}
 use Rattle.spans.specs.Sgr.{parameters, allowed, orders}
 use Rattle.spans.specs.Sequence.{Sequence, sgr, eraseToEnd, ignored, hyperlink, lineDrawing, Found, found, missing, leading, past, parameterByte, idByte, uriByte, final, ifKnown, erase, csi, charset, closed, osc, parse}
-use Rattle.spans.specs.Contracts.{told, ordersAt}
+use Rattle.spans.specs.Sgr.Contracts.{ordersAt}
+use Rattle.spans.specs.Sequence.Contracts.{told}
 use Rattle.spans.specs.declared.sgr.Sgr.{Sgr}
 use Rattle.spans.specs.declared.sequence.Sequence as sequence
 use Rattle.spans.specs.declared.sequence.Sequence.the-variants as sequences

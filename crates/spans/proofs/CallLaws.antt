@@ -21,7 +21,8 @@ use Rattle.text.specs.declared.class.Profile as code
 use Rattle.spans.specs.Search.{searchedLength, inOrder, read}
 use Rattle.spans.specs.Spans.{Span, Record, recordOf, records}
 use Rattle.spans.specs.Calls.{noRecord, Read, readCall}
-use Rattle.spans.specs.Contracts.{remaining, Sound, Counting, firstRecord, Nexted, Begun, Started, refusedBy, thirdQuestion, Planned, Holds, recordsOf, Ongoing, NextHolds, Fillable, Filled, numberOf, Finished, readAs, firstQuestions, Prepared}
+use Rattle.spans.specs.Stretches.{remaining, Sound, Counting, firstRecord, Nexted, Begun, Started}
+use Rattle.spans.specs.Calls.Contracts.{refusedBy, thirdQuestion, Planned, Holds, recordsOf, Ongoing, NextHolds, Fillable, Filled, numberOf, Finished, readAs, firstQuestions, Prepared}
 use Rattle.spans.specs.declared.stretches.Cursor.{Cursor}
 use Rattle.spans.specs.declared.stretches.NextRecord.{NextRecord}
 use Rattle.spans.specs.declared.Reading.{Reading}

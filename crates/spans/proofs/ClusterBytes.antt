@@ -24,7 +24,8 @@ use Rattle.text.specs.declared.class.Profile as code
 use Rattle.spans.specs.Sequence.{sgr, eraseToEnd, ignored, hyperlink, lineDrawing, Found, found, missing, parse}
 use Rattle.spans.specs.Spans.{control, unprintable, tab, crlf, lf, Seen, plain, special, escapeSeen, controlSeen, seen, kindOf}
 use Rattle.spans.specs.Spans.Steps.{isPlain, escape-special, plainCluster, plain-same}
-use Rattle.spans.specs.Contracts.{aLook, told, escapeLook, lookBytes}
+use Rattle.spans.specs.Sequence.Contracts.{told}
+use Rattle.spans.specs.Reader.{aLook, escapeLook, lookBytes}
 use Rattle.spans.specs.declared.reader.Look.{Look}
 
 no-one : (n : ℕ) → eqb (suc (suc n)) 1 ≡ false

@@ -9,7 +9,7 @@ use borrow.Author.Tests.{lt-leb, leb-true}
 use Rattle.text.specs.Tests.{cases, and-T, is-true, true-T}
 use Rattle.text.specs.Utf8.{to, within}
 use Rattle.spans.specs.Sgr.{Known, known, saidBy, coloured, stepOf}
-use Rattle.spans.specs.Contracts.{eights}
+use Rattle.spans.specs.Sgr.Contracts.{eights}
 use Rattle.spans.specs.declared.sgr.Color.{Color}
 use Rattle.spans.specs.declared.sgr.Color.the-variants.{Palette}
 use Rattle.spans.specs.declared.sgr.Sgr.{Sgr}

@@ -13,7 +13,7 @@ use borrow.Author.Tests.{eq-eqb, ne-eqb, le-leb, lt-leb, leb-true, leb-false}
 use Rattle.text.specs.Tests.{cases, and-T, true-T}
 use Rattle.spans.specs.Sgr.{digit, parameters, allAtMost, allowed, stepOf, follow, ordersFrom, orders}
 use Rattle.spans.specs.Sequence.{leading, parameterByte}
-use Rattle.spans.specs.Contracts.{more, numbers, Scanned, numbersAt, room, ParameterAt, parametersAt, ordersAt, ordersOf}
+use Rattle.spans.specs.Sgr.Contracts.{more, numbers, Scanned, numbersAt, room, ParameterAt, parametersAt, ordersAt, ordersOf}
 use Rattle.spans.specs.declared.sgr.Parameter.{Parameter}
 use Rattle.spans.specs.declared.sgr.Orders.{Orders}
 use Rattle.spans.specs.declared.sgr.NextOrder.{NextOrder}

@@ -39,7 +39,8 @@ use Rattle.spans.specs.Sequence.{sgr, eraseToEnd, ignored, hyperlink, li
 use Rattle.spans.specs.Sequence.Laws.{parse-length, parse-last}
 use Rattle.spans.specs.Spans.{Content, Span, span, Seen, plain, special, seen, spansAt, text, control, invalid, unprintable, escape, tab, crlf, lf, Record, aRecord, kindOf, matchOf, recordOf, records}
 use Rattle.spans.specs.Spans.Steps.{extent, isPlain, plainCluster, plain-same, plainSize, plainText, skipped, step-text, step-special, step-invalid, NoText, seen-noText}
-use Rattle.spans.specs.Contracts.{c0NotCr, clustersAt, PlainTo, clustersSize, ClustersTo, runAt, Part, Within, Ahead, SkipReady, Skip, told, escapeLook, lookBytes, aLook, Fresh, Ready, isMatch, matchIn, textRecord, recordsFrom, invalidAt, Stepped, ControlReady, Escaping, Mark, SpecialStep}
+use Rattle.spans.specs.Sequence.Contracts.{Within, told}
+use Rattle.spans.specs.Reader.{c0NotCr, clustersAt, PlainTo, clustersSize, ClustersTo, runAt, Part, Ahead, SkipReady, Skip, escapeLook, lookBytes, aLook, Fresh, Ready, isMatch, matchIn, textRecord, recordsFrom, invalidAt, Stepped, ControlReady, Escaping, Mark, SpecialStep}
 use Rattle.spans.specs.declared.sequence.Sequence as sequence
 use Rattle.spans.specs.declared.reader.Look.{Look}
 use Rattle.spans.specs.declared.reader.Place.{Place}

@@ -14,7 +14,8 @@ use borrow.Author.Tests.{eq-eqb, ne-eqb, lt-ltb, le-ltb}
 use Rattle.text.specs.Tests.{cases, and-T, true-T}
 use Rattle.spans.specs.Sequence.{leading, past}
 use Rattle.spans.specs.Search.{Stretch, stretch, sequenceByte, escapeMatch, addStretch, escapesFrom, trimmed, escapes, lengthOf, searchedLength, inOrder, offsetFrom}
-use Rattle.spans.specs.Contracts.{Skipped, Small, Matching, escapesAt, escapesOf, Lies, EscapeAt, EscapesLength, pairInOrder, offsetOn, OffsetsFrom, OffsetReady, OffsetAt}
+use Rattle.spans.specs.Sequence.Contracts.{Skipped}
+use Rattle.spans.specs.Search.Contracts.{Small, Matching, escapesAt, escapesOf, Lies, EscapeAt, EscapesLength, pairInOrder, offsetOn, OffsetsFrom, OffsetReady, OffsetAt}
 use Rattle.spans.specs.declared.search.Escape.{Escape}
 use Rattle.spans.specs.declared.search.Offsets.{Offsets}
 

@@ -11,7 +11,8 @@ use lib.Seq.{drop-cons, take-all, slice, drop-nil, take-nil, getD-drop}
 use lib.Dec.{eqb}
 use Rattle.spans.specs.Sgr.{parameters, orders}
 use Rattle.spans.specs.Sequence.{Sequence, ignored, Found, found, missing, leading, past, ifKnown, erase, final, charset, csi, uriByte, idByte, closed, osc, parse}
-use Rattle.spans.specs.Contracts.{told, Skipped, uriAt, Scanned, ordersOf, ordersAt, parametersAt}
+use Rattle.spans.specs.Sgr.Contracts.{Scanned, ordersOf, ordersAt, parametersAt}
+use Rattle.spans.specs.Sequence.Contracts.{told, Skipped, uriAt}
 use Rattle.spans.specs.declared.sequence.Sequence as code
 use Rattle.spans.specs.declared.sequence.Sequence.the-variants.{Missing}
 use Rattle.spans.specs.declared.sequence.Sequence.the-variants as sequence

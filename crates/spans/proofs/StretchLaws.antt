@@ -18,7 +18,9 @@ use Rattle.spans.specs.Spans.Laws.{map-append, no-spans}
 use Rattle.spans.specs.Spans.Steps.{step-some}
 use Rattle.buffer.specs.Numbers.{smallerOf}
 use Rattle.buffer.specs.Numbers.Laws.{smaller-right}
-use Rattle.spans.specs.Contracts.{isMatch, spent, withoutNewline, pending, behindStretch, remaining, orderFrom, stretchesLeft, Sound, Opening, Opened, Waiting, Going, Moved, Settled, Counting, firstRecord, Nexted, HasNext, Begun, Started, OffsetsFrom, OffsetReady, OffsetAt, recordsFrom, matchIn, Ready, Stepped}
+use Rattle.spans.specs.Reader.{isMatch, recordsFrom, matchIn, Ready, Stepped}
+use Rattle.spans.specs.Search.Contracts.{OffsetsFrom, OffsetReady, OffsetAt}
+use Rattle.spans.specs.Stretches.{spent, withoutNewline, pending, behindStretch, remaining, orderFrom, stretchesLeft, Sound, Opening, Opened, Waiting, Going, Moved, Settled, Counting, firstRecord, Nexted, HasNext, Begun, Started}
 use Rattle.spans.specs.declared.search.Offset.{Offset}
 use Rattle.spans.specs.declared.search.Offsets.{Offsets}
 use Rattle.spans.specs.declared.reader.Matched.{Matched}

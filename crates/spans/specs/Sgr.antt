@@ -15,6 +15,7 @@ use Rattle.spans.specs.declared.sgr.Wait.{Wait}
 use Rattle.spans.specs.declared.sgr.Wait.the-variants.{Ready, WantKind, WantIndex, WantRed, WantGreen, WantBlue}
 use Rattle.spans.specs.declared.sgr.Step.{Step}
 use Rattle.spans.specs.declared.sgr.Step.the-variants.{Order, Hold, Stop}
+pub mod Contracts
 
 -- ---- parameters: digits and `;`
 

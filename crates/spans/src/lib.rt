@@ -20,7 +20,7 @@ ghost use lib.ListN.{length, take, replicate};
 ghost use Rattle.text.specs.Width.{profile01};
 ghost use Rattle.spans.specs.Calls.{noRecord, readCall};
 ghost use Rattle.spans.specs.Search.{searchedLength, inOrder};
-ghost use Rattle.spans.specs.Contracts.{refusedBy, Planned, Prepared, Ongoing, NextHolds, Fillable, Filled, Holds, numberOf, Finished, readAs};
+ghost use Rattle.spans.specs.Calls.Contracts.{refusedBy, Planned, Prepared, Ongoing, NextHolds, Fillable, Filled, Holds, numberOf, Finished, readAs};
 
 pub mod numbers;
 pub mod reader;

@@ -21,7 +21,7 @@ ghost use Rattle.text.specs.Code.{profileOf};
 ghost use Rattle.spans.specs.Sequence.{missing};
 ghost use Rattle.spans.specs.Spans.{aRecord};
 ghost use Rattle.spans.specs.Spans.Steps.{plainSize};
-ghost use Rattle.spans.specs.Contracts.{c0NotCr, clustersAt, PrintableTo, SyllablesTo, ClustersTo, escapeLook, lookBytes, Part, SkipReady, Skip, runAt, textRecord, invalidAt, Escaping, Mark, ControlReady, SpecialStep, Ready, Stepped};
+ghost use Rattle.spans.specs.Reader.{c0NotCr, clustersAt, PrintableTo, SyllablesTo, ClustersTo, escapeLook, lookBytes, Part, SkipReady, Skip, runAt, textRecord, invalidAt, Escaping, Mark, ControlReady, SpecialStep, Ready, Stepped};
 
 // What a cluster that is no part of a text is: a kind of span, and its length.
 pub struct Look {

@@ -4,7 +4,8 @@ ghost use mathlib.Core.Path.{_≡_};
 ghost use Prim.Native.Nat.{_+_, _≤_, _<_};
 ghost use lib.ListN.{length};
 ghost use Rattle.spans.specs.Search.{sequenceByte, trimmed, searchedLength, inOrder};
-ghost use Rattle.spans.specs.Contracts.{Skipped, Matching, Small, EscapeAt, EscapesLength, pairInOrder, OffsetsFrom, OffsetReady, OffsetAt};
+ghost use Rattle.spans.specs.Sequence.Contracts.{Skipped};
+ghost use Rattle.spans.specs.Search.Contracts.{Matching, Small, EscapeAt, EscapesLength, pairInOrder, OffsetsFrom, OffsetReady, OffsetAt};
 
 // A match of ESCAPE_SEQUENCE, or none.
 pub struct Escape {

@@ -11,7 +11,7 @@ ghost use lib.Seq.{slice};
 ghost use mathlib.Core.List.{[], _∷_};
 ghost use Rattle.spans.specs.Sgr.{parameters, orders};
 ghost use Rattle.spans.specs.Sequence.{final, uriByte, idByte, ifKnown, erase, charset, csi, osc, parse};
-ghost use Rattle.spans.specs.Contracts.{told, Skipped, Near, Within, uriAt};
+ghost use Rattle.spans.specs.Sequence.Contracts.{told, Skipped, Near, Within, uriAt};
 
 // What stands at an ESC: the sequence's length, the ESC counted; of a hyperlink first its URI's place from the ESC, and the URI's length.
 pub enum Sequence {

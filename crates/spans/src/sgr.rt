@@ -1,7 +1,7 @@
 // Style orders: the parameters behind `ESC [`, and what the known ones say (ECMA-48, SGR, as document 01 cuts it).
 ghost use mathlib.Core.Path.{_≡_};
 ghost use Rattle.spans.specs.Sgr.{digit, known, saidBy, coloured, stepOf};
-ghost use Rattle.spans.specs.Contracts.{more, eights, Scanned, ParameterAt, ordersAt, ordersOf};
+ghost use Rattle.spans.specs.Sgr.Contracts.{more, eights, Scanned, ParameterAt, ordersAt, ordersOf};
 
 pub enum Color {
     Default,

@@ -13,7 +13,7 @@ use text::class::Profile;
 ghost use mathlib.Core.Path.{_≡_};
 ghost use lib.ListN.{length};
 ghost use Rattle.text.specs.Code.{profileOf};
-ghost use Rattle.spans.specs.Contracts.{spent, Opening, Waiting, Sound, Opened, Moved, Going, Settled, Counting, Nexted, HasNext, Begun, Started};
+ghost use Rattle.spans.specs.Stretches.{spent, Opening, Waiting, Sound, Opened, Moved, Going, Settled, Counting, Nexted, HasNext, Begun, Started};
 
 // Where a reading of a line stands: a place in a stretch, the stretch's end, the match that it is or that follows it, the next number
 // of the match ranges, and the conversion of offsets. `count` spans stand before it.

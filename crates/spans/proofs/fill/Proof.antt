@@ -53,7 +53,7 @@ use Rattle.spans.specs.declared.Span.{Span}
 use Rattle.spans.specs.declared.Reading.{Reading}
 use Rattle.spans.specs.declared.NextReading.{NextReading}
 use Rattle.spans.specs.Calls.{noRecord}
-use Rattle.spans.specs.Contracts.{Ongoing, NextHolds, Fillable, Filled}
+use Rattle.spans.specs.Calls.Contracts.{Ongoing, NextHolds, Fillable, Filled}
 use Rattle.spans.proofs.CallLaws.{Going, fill-begins, going-within, going-ongoing, going-turn, going-done}
 use Rattle.spans.proofs.Span as T
 use Rattle.spans.proofs.Span.Laws as T′

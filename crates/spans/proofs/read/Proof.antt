@@ -45,7 +45,7 @@ use Rattle.text.proofs.Answer.Laws as R′
 use Rattle.spans.specs.declared.Span.{Span}
 use Rattle.spans.specs.declared.Reading.{Reading}
 use Rattle.spans.specs.Calls.{noRecord, readCall}
-use Rattle.spans.specs.Contracts.{readAs, Prepared, Fillable, Filled, Holds as HoldsIn, Finished}
+use Rattle.spans.specs.Calls.Contracts.{readAs, Prepared, Fillable, Filled, Holds as HoldsIn, Finished}
 use Rattle.spans.proofs.CallLaws.{fill-ready, read-done}
 use Rattle.spans.proofs.Span as T
 use Rattle.spans.proofs.Span.Laws as T′

@@ -1,5 +1,5 @@
 use Rattle.spans.proofs.ReaderLaws.{on-sequence}
-use Rattle.spans.specs.Contracts.{escapeLook}
+use Rattle.spans.specs.Reader.{escapeLook}
 use borrow.Author.Needs.{needs}
 use Rattle.spans.proofs.reader.escape_look.Statement.{statement}
 use Rattle.spans.proofs.reader.escape_look.Tie as tie

@@ -1,4 +1,4 @@
-use Rattle.spans.specs.Contracts.{told}
+use Rattle.spans.specs.Sequence.Contracts.{told}
 use Rattle.spans.specs.Sequence.{parse}
 use Rattle.spans.proofs.Sequences.{telling, parse-none, csi-rest, osc-rest, charset-rest}
 use Rattle.lending.specs.Conditions.{branch}

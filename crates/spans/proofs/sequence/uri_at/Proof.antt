@@ -1,4 +1,4 @@
-use Rattle.spans.specs.Contracts.{told}
+use Rattle.spans.specs.Sequence.Contracts.{told}
 use Rattle.spans.specs.Sequence.{closed}
 use Rattle.spans.proofs.Sequences.{telling, uri-is, uri-bell}
 use Rattle.lending.specs.Conditions.{branch}

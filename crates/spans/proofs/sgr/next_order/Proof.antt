@@ -1,4 +1,4 @@
-use Rattle.spans.specs.Contracts.{room}
+use Rattle.spans.specs.Sgr.Contracts.{room}
 use Rattle.spans.proofs.Parameters.{Ordering, ordering-begins, ordering-more, ordering-falls, order-next, order-stops, order-ends}
 use borrow.Author.Needs.{needs}
 use Rattle.spans.proofs.sgr.next_order.Statement.{statement}

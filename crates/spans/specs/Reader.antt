@@ -1,0 +1,183 @@
+-- What the contracts of src/reader.rt say beyond the definitions.
+use mathlib.Core.Path.{_≡_}
+use Prim.Native.Nat.{ℕ, suc, _+_, _-_, _≤_, _<_}
+use mathlib.Core.Logic.{_≢_}
+use mathlib.Core.Bool.{Bool, true, false, not, cond, _&&_, _||_}
+use mathlib.Core.Option.{Option, none, some}
+use mathlib.Core.List.{List, [], _∷_}
+use lib.ListN.{length, drop, getD}
+use lib.Dec.{eqb, leb, ltb}
+use Rattle.text.specs.Utf8.{Scalar, decode, runOf, bytesOf}
+use Rattle.text.specs.Class.{Profile, number}
+use Rattle.text.specs.Class.Ascii.{syllableOrOther}
+use Rattle.text.specs.Cluster.{clusters}
+use Rattle.text.specs.Code.{size, firstSize, printable}
+use Rattle.text.specs.Segmentation.{neverJoinsBefore}
+use Rattle.spans.specs.Sequence.{Sequence, Found}
+use Rattle.spans.specs.Spans.{spansAt, Record, aRecord, records}
+use Rattle.spans.specs.Spans.Steps.{plainCluster, plainSize, skipped}
+use Rattle.spans.specs.declared.reader.Look.{Look}
+use Rattle.spans.specs.declared.reader.Place.{Place}
+use Rattle.spans.specs.declared.reader.Matched.{Matched}
+use Rattle.spans.specs.declared.reader.NextSpan.{NextSpan}
+use Rattle.spans.specs.declared.sgr.Sgr.{Sgr}
+use Rattle.spans.specs.declared.sequence.Sequence as code
+use Rattle.spans.specs.declared.sequence.Sequence.the-variants.{Missing, EraseToEnd, Ignored, Hyperlink, LineDrawing}
+use Rattle.spans.specs.declared.sequence.Sequence.the-variants as sequence
+use Rattle.spans.specs.Sgr.Contracts.{more}
+use Rattle.spans.specs.Sequence.Contracts.{told}
+
+-- ---- clusters
+
+-- a C0 control, CR apart
+abbrev pub c0NotCr : ℕ → Bool
+c0NotCr b = leb b 0x1F && not (eqb b 0x0D)
+
+-- the clusters of the run that a line begins with
+abbrev pub clustersAt : Profile → List ℕ → List (List Scalar)
+clustersAt P s = clusters P (runOf (decode s))
+
+-- plain clusters stand from a place to r
+pub record PlainTo (P : Profile) (t : List ℕ) (at r : ℕ) : Type 0 where
+  pub same : r + plainSize P (clustersAt P (drop r t)) ≡ at + plainSize P (clustersAt P (drop at t))
+  pub up : at ≤ r
+  pub low : r ≤ length t
+
+-- the number of the printable bytes in front, without the last where a byte of 80 or above follows it
+unfoldable pub printableSize : List ℕ → ℕ
+printableSize [] = 0
+printableSize (a ∷ []) = cond (printable a) 1 0
+printableSize (a ∷ b ∷ s) = let more : ℕ = suc (printableSize (b ∷ s)) in cond (printable a && ltb b 0x80) more 0
+
+-- r is where these end that begin at a place
+pub record PrintableTo (P : Profile) (t : List ℕ) (at r : ℕ) : Type 0 where
+  pub is : r ≡ at + printableSize (drop at t)
+  pub to : PlainTo P t at r
+
+-- what stands behind a scalar of class LV, LVT or other leaves it a cluster by itself: another of these, a byte below 80, or the text's end
+unfoldable pub leavesSyllable : Profile → Bool → List Scalar → Bool
+leavesSyllable P damaged [] = not damaged
+leavesSyllable P damaged (c ∷ s) = syllableOrOther (number (P .class (c .code))) || ltb (getD (c .bytes) 0 0) 0x80
+
+-- the bytes of the scalars of these classes in front that are left so
+unfoldable pub syllablesSize : Profile → Bool → List Scalar → ℕ
+unfolding leavesSyllable
+syllablesSize P damaged [] = 0
+syllablesSize P damaged (c ∷ s) =
+    let more : ℕ = length (c .bytes) + syllablesSize P damaged s in
+    cond (syllableOrOther (number (P .class (c .code))) && leavesSyllable P damaged s) more 0
+
+-- the bytes of the plain clusters in front, up to one that begins with a printable byte; the first may begin with one where nothing stands before
+unfoldable pub clustersSize : Profile → Bool → List (List Scalar) → ℕ
+clustersSize P behind [] = 0
+clustersSize P behind (g ∷ gs) =
+    let more : ℕ = length (bytesOf g) + clustersSize P true gs in
+    cond (behind && printable (getD (bytesOf g) 0 0)) 0 (cond (plainCluster P g) more 0)
+
+-- r is where these end that begin at a place: where the plain ones end, or before a printable byte
+pub record ClustersTo (P : Profile) (t : List ℕ) (at r : ℕ) : Type 0 where
+  pub is : r ≡ at + clustersSize P false (clustersAt P (drop at t))
+  pub to : PlainTo P t at r
+  pub ends : printable (getD t r 0) ≡ false → plainSize P (clustersAt P (drop r t)) ≡ 0
+  pub further : printable (getD t r 0) ≡ true → at < r
+
+abbrev pub aLook : ℕ → ℕ → Look
+aLook k n = record { kind = k; len = n }
+
+unfoldable pub escapeLook : code.Sequence → Look
+escapeLook Missing = aLook 3 1
+escapeLook (sequence.Sgr n) = aLook 6 n
+escapeLook (Hyperlink p k n) = aLook 7 n
+escapeLook (LineDrawing b n) = aLook 8 n
+escapeLook (Ignored n) = aLook 9 n
+escapeLook (EraseToEnd n) = aLook 13 n
+
+-- what a cluster of n bytes is, the first of them a and b, that is no part of a text; f is what stands at an ESC
+unfoldable pub lookBytes : ℕ → ℕ → ℕ → Found → Look
+unfolding escapeLook told
+lookBytes n a b f =
+    cond (eqb n 1)
+    (cond (eqb a 0x1B) (escapeLook (told f)) (cond (eqb a 0x0A) (aLook 12 1) (cond (eqb a 0x09) (aLook 10 1) (cond (leb a 0x1F || eqb a 0x7F) (aLook 3 1) (aLook 5 1)))))
+    (cond (eqb n 2 && (eqb a 0x0D && eqb b 0x0A)) (aLook 11 2) (aLook 5 n))
+
+-- the part from `at` to `end` of t
+pub record Part (t : List ℕ) (at end : ℕ) : Type 0 where
+  pub here : at < length t
+  pub ordered : at ≤ end
+  pub inside : end ≤ length t
+
+-- the end of the run at a place
+abbrev pub runAt : List ℕ → ℕ → ℕ
+runAt t at = at + size (runOf (decode (drop at t)))
+
+-- r is where these end that begin at a place
+pub record SyllablesTo (P : Profile) (t : List ℕ) (at r : ℕ) : Type 0 where
+  pub is : r ≡ at + syllablesSize P (ltb (runAt t at) (length t)) (runOf (decode (drop at t)))
+  pub to : PlainTo P t at r
+
+abbrev pub Ahead : List ℕ → ℕ → ℕ → Type 0
+Ahead t at stop = stop ≤ runAt t at
+
+pub record SkipReady (t : List ℕ) (at stop : ℕ) : Type 0 where
+  pub ahead : Ahead t at stop
+  pub begins : at < stop → neverJoinsBefore (getD t (stop - 1) 0) ≡ true
+
+pub record Skip (P : Profile) (t : List ℕ) (at stop r : ℕ) : Type 0 where
+  pub same : r ≡ at + skipped P (stop - at) (clustersAt P (drop at t))
+  pub run : runAt t r ≡ runAt t at
+
+-- ---- places
+
+-- the run's end, where it lies beyond the place, is that of the run at the place
+abbrev pub Fresh : List ℕ → Place → Type 0
+Fresh t c = c .at < c .run → c .run ≡ runAt t (c .at)
+
+pub record Ready (t : List ℕ) (c : Place) : Type 0 where
+  pub here : c .at < length t
+  pub small : length t ≤ 65536
+  pub fresh : Fresh t c
+
+abbrev pub isMatch : Matched → Bool
+isMatch m = eqb (m .kind) 2
+
+-- the match that a stretch is, if it is one
+unfoldable pub matchIn : Matched → Option ℕ
+matchIn m = cond (isMatch m) (some (m .number)) none
+
+-- the record of a text of n bytes at a place
+unfoldable pub textRecord : Matched → ℕ → ℕ → Record
+textRecord m at n = cond (isMatch m) (aRecord 2 at n (m .number)) (aRecord 1 at n 0)
+
+-- the records of the spans from a place to the stretch's end
+unfoldable pub recordsFrom : Profile → Matched → List ℕ → ℕ → List Record
+unfolding records spansAt matchIn
+recordsFrom P m t at = records (spansAt P (matchIn m) at (drop at t))
+
+-- the first of them and the reading behind it
+pub record Stepped (P : Profile) (t : List ℕ) (m : Matched) (at : ℕ) (r : NextSpan) : Type 0 where
+  pub same : recordsFrom P m t at ≡ r .span ∷ recordsFrom P m t (r .place .at)
+  pub fresh : Fresh t (r .place)
+  pub up : at < r .place .at
+  pub low : r .place .at ≤ length t
+
+abbrev pub invalidAt : Place → NextSpan
+invalidAt c = record { span = aRecord 4 (c .at) 1 0; place = record { at = c .at + 1; run = c .run } }
+
+pub record ControlReady (t : List ℕ) (c : Place) : Type 0 where
+  pub ready : Ready t c
+  pub control : c0NotCr (getD t (c .at) 0) ≡ true
+
+pub record Escaping (t : List ℕ) (c : Place) : Type 0 where
+  pub ready : Ready t c
+  pub escape : getD t (c .at) 0 ≡ 0x1B
+
+-- the cluster from the place to `end` is no part of a text, and no ESC
+pub record Mark (P : Profile) (t : List ℕ) (c : Place) (end : ℕ) : Type 0 where
+  pub ready : Ready t c
+  pub special : plainSize P (clustersAt P (drop (c .at) t)) ≡ 0
+  pub ends : end ≡ c .at + firstSize P (runOf (decode (drop (c .at) t)))
+  pub some : c .at < end
+  pub other : getD t (c .at) 0 ≢ 0x1B
+
+abbrev pub SpecialStep : Profile → List ℕ → ℕ → NextSpan → Type 0
+SpecialStep P t at r = (m : Matched) → Stepped P t m at r
