@@ -7,6 +7,6 @@ pub mod PrintableBytes
 pub mod SyllablesAndOthers
 pub mod ReaderLaws
 pub mod Searching
-pub mod StretchLaws
-pub mod CallLaws
+pub mod StretchCursor
+pub mod ReadCall
 pub mod Listed

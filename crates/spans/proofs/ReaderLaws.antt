@@ -37,16 +37,16 @@ use Rattle.text.specs.declared.class.Profile as code
 use Rattle.spans.specs.Sequence as found
 use Rattle.spans.specs.Sequence.{sgr, eraseToEnd, ignored, hyperlink, lineDrawing, Found, found, missing, parse}
 use Rattle.spans.specs.Sequence.Laws.{parse-length, parse-last}
-use Rattle.spans.specs.Spans.{Content, Span, span, Seen, plain, special, seen, spansAt, text, control, invalid, unprintable, escape, tab, crlf, lf, Record, aRecord, kindOf, matchOf, recordOf, records}
-use Rattle.spans.specs.Spans.Steps.{extent, isPlain, plainCluster, plain-same, plainSize, plainText, skipped, step-text, step-special, step-invalid, NoText, seen-noText}
-use Rattle.spans.specs.Sequence.Contracts.{Within, told}
-use Rattle.spans.specs.Reader.{c0NotCr, clustersAt, PlainTo, clustersSize, ClustersTo, runAt, Part, Ahead, SkipReady, Skip, escapeLook, lookBytes, aLook, Fresh, Ready, isMatch, matchIn, textRecord, recordsFrom, invalidAt, Stepped, ControlReady, Escaping, Mark, SpecialStep}
+use Rattle.spans.specs.Spans.{Content, Span, span, ClusterKind, plain, special, clusterKind, spansAt, text, control, invalid, unprintable, escape, tab, crlf, lf, Record, aRecord, kindOf, matchOf, recordOf, records}
+use Rattle.spans.specs.Spans.FirstSpan.{extent, isPlain, plainCluster, plain-same, plainSize, plainText, skipped, step-text, step-special, step-invalid, NoText, kind-noText}
+use Rattle.spans.specs.Sequence.Contracts.{SequenceReady, sequenceOf}
+use Rattle.spans.specs.Reader.{c0NotCr, clustersAt, PlainTo, clustersSize, ClustersTo, runAt, HeadReady, InRun, SkipToReady, SkippedTo, escapeHead, headBytes, aHead, RunKnown, NextSpanReady, isMatch, matchIn, textRecord, recordsFrom, invalidAt, SpanStep, ControlSpanReady, EscapeSpanReady, MarkSpanReady, SpecialStep}
 use Rattle.spans.specs.declared.sequence.Sequence as sequence
-use Rattle.spans.specs.declared.reader.Look.{Look}
+use Rattle.spans.specs.declared.reader.SpanHead.{SpanHead}
 use Rattle.spans.specs.declared.reader.Place.{Place}
 use Rattle.spans.specs.declared.reader.Matched.{Matched}
 use Rattle.spans.specs.declared.reader.NextSpan.{NextSpan}
-use Rattle.spans.proofs.ClusterBytes.{plain-width, first-byte, look-bytes, lookOf}
+use Rattle.spans.proofs.ClusterBytes.{plain-width, first-byte, head-bytes, kindHead}
 use Rattle.spans.proofs.PlainClusters.{control-end, control-size, plain-here, plain-on}
 use Rattle.spans.proofs.Sequences.{part-slice}
 
@@ -267,31 +267,31 @@ module _ (p : code.Profile) (t : List ℕ) (at i a : ℕ) (x : PlainTo (profileO
 
 -- ---- what stands at an ESC, and other values that are told apart
 
-pub on-sequence : (q x : sequence.Sequence) (z : Look) → q ≡ x → z ≡ escapeLook x → z ≡ escapeLook q
+pub on-sequence : (q x : sequence.Sequence) (z : SpanHead) → q ≡ x → z ≡ escapeHead x → z ≡ escapeHead q
 on-sequence q x z e f = rw e f
 
-pub run-known : (t : List ℕ) (c : Place) → Ready t c → c .at < c .run → c .run ≡ runAt t (c .at)
+pub run-known : (t : List ℕ) (c : Place) → NextSpanReady t c → c .at < c .run → c .run ≡ runAt t (c .at)
 run-known t c z h = z .fresh h
 
 -- ---- tests of bytes that functions gave
 
 -- the same chain as `lookBytes`, where no sequence begins at an ESC
-unfoldable pub looksOf : ℕ → ℕ → ℕ → Look
-looksOf n a b =
+unfoldable pub headOf : ℕ → ℕ → ℕ → SpanHead
+headOf n a b =
     cond (eqb n 1)
-    (cond (eqb a 0x0A) (aLook 12 1) (cond (eqb a 0x09) (aLook 10 1) (cond (leb a 0x1F || eqb a 0x7F) (aLook 3 1) (aLook 5 1))))
-    (cond (eqb n 2 && (eqb a 0x0D && eqb b 0x0A)) (aLook 11 2) (aLook 5 n))
+    (cond (eqb a 0x0A) (aHead 12 1) (cond (eqb a 0x09) (aHead 10 1) (cond (leb a 0x1F || eqb a 0x7F) (aHead 3 1) (aHead 5 1))))
+    (cond (eqb n 2 && (eqb a 0x0D && eqb b 0x0A)) (aHead 11 2) (aHead 5 n))
 
-looks-same : (n a b : ℕ) → looksOf n a b ≡ lookBytes n a b missing
-unfolding looksOf lookBytes escapeLook told
-looks-same n a b = cases (eqb a 0x1B) (λ e. rw (eqb-true a 0x1B e)) (λ e. rw e)
+heads-same : (n a b : ℕ) → headOf n a b ≡ headBytes n a b missing
+unfolding headOf headBytes escapeHead sequenceOf
+heads-same n a b = cases (eqb a 0x1B) (λ e. rw (eqb-true a 0x1B e)) (λ e. rw e)
 
-pub look-is : (n a b x y : ℕ) (z : Look) → a ≡ x → b ≡ y → z ≡ looksOf n a b → z ≡ lookBytes n x y missing
-look-is n a b x y z e q p = p ∙ looks-same n a b ∙ rw (e, q)
+pub head-is : (n a b x y : ℕ) (z : SpanHead) → a ≡ x → b ≡ y → z ≡ headOf n a b → z ≡ headBytes n x y missing
+head-is n a b x y z e q p = p ∙ heads-same n a b ∙ rw (e, q)
 
 -- one byte says enough
-pub look-one : (n a x y : ℕ) (z : Look) → a ≡ x → z ≡ looksOf n a y → z ≡ lookBytes n x y missing
-look-one n a x y z e p = look-is n a y x y z e refl p
+pub head-one : (n a x y : ℕ) (z : SpanHead) → a ≡ x → z ≡ headOf n a y → z ≡ headBytes n x y missing
+head-one n a x y z e p = head-is n a y x y z e refl p
 
 -- ---- `skip_to`
 
@@ -311,7 +311,7 @@ pub record SkipLoop (P : Profile) (t : List ℕ) (at stop i : ℕ) : Type 0 wher
   pub run : runAt t i ≡ runAt t at
   pub ahead : stop ≤ runAt t i
 
-skip-begin : (P : Profile) (t : List ℕ) (at stop : ℕ) → Ahead t at stop → SkipLoop P t at stop at
+skip-begin : (P : Profile) (t : List ℕ) (at stop : ℕ) → InRun t at stop → SkipLoop P t at stop at
 skip-begin P t at stop h = record { same = refl; run = refl; ahead = h }
 
 module _ (P : Profile) (t : List ℕ) (at stop i : ℕ) (z : SkipLoop P t at stop i) where
@@ -336,7 +336,7 @@ module _ (P : Profile) (t : List ℕ) (at stop i : ℕ) (z : SkipLoop P t at sto
           omega (arith, k, cluster-some P (drop i t) g gs q),
         ))
 
-  skip-done : stop ≤ i → Skip P t at stop i
+  skip-done : stop ≤ i → SkippedTo P t at stop i
   skip-done h = let k : stop - i ≡ 0 = omega arith in record { same = omega (arith, z .same, skip-none P (stop - i) (clustersAt P (drop i t)) k); run = z .run }
 
 -- clusters that are skipped whole
@@ -355,7 +355,7 @@ skip-over P (g ∷ gs) hs j =
     let a : n - extent g ≡ extent (joinAll gs) + j = omega arith in
     omega (arith, rw a at (skip-first P n g (gs ++ hs) (omega arith)), r)))
 
-module _ (p : code.Profile) (t : List ℕ) (at stop : ℕ) (z : SkipReady t at stop) where
+module _ (p : code.Profile) (t : List ℕ) (at stop : ℕ) (z : SkipToReady t at stop) where
   skip-jump : at < stop → SkipLoop (profileOf p) t at stop (stop - 1)
   skip-jump h =
       let n : ℕ = stop - 1 - at in
@@ -372,10 +372,10 @@ module _ (p : code.Profile) (t : List ℕ) (at stop : ℕ) (z : SkipReady t at s
   pub skip-inside : at < stop → stop - 1 < length t
   skip-inside h = skip-here (profileOf p) t at stop (stop - 1) (skip-jump h) (omega arith)
 
-  pub skip-nothing : stop ≤ at → Skip (profileOf p) t at stop at
+  pub skip-nothing : stop ≤ at → SkippedTo (profileOf p) t at stop at
   skip-nothing h = skip-done (profileOf p) t at stop at (skip-begin (profileOf p) t at stop (z .ahead)) h
 
-  pub skip-last : (e : ℕ) → at < stop → e ≡ stop - 1 + firstSize (profileOf p) (runOf (decode (drop (stop - 1) t))) → Skip (profileOf p) t at stop e
+  pub skip-last : (e : ℕ) → at < stop → e ≡ stop - 1 + firstSize (profileOf p) (runOf (decode (drop (stop - 1) t))) → SkippedTo (profileOf p) t at stop e
   skip-last e h f =
       let w = skip-step (profileOf p) t at stop (stop - 1) (skip-jump h) e (omega arith) f in
       skip-done (profileOf p) t at stop e (w .0) (omega (arith, w .1))
@@ -392,8 +392,8 @@ slice-byte : (t : List ℕ) (a b i : ℕ) → i < b - a → getD (slice a b t) i
 slice-byte t a b i h = ap (λ (l : List ℕ). getD l i 0) (sym (part-slice t a b)) ∙ getD-take (b - a) (drop a t) i 0 h ∙ getD-drop a t i 0
 
 -- what holds of 1, and of the length of what is found
-escape-len : (Q : ℕ → Type 0) (f : Found) → Q 1 → ((q : found.Sequence) (n : ℕ) → f ≡ found q n → Q n) → Q (escapeLook (told f) .len)
-unfolding escapeLook told
+escape-len : (Q : ℕ → Type 0) (f : Found) → Q 1 → ((q : found.Sequence) (n : ℕ) → f ≡ found q n → Q n) → Q (escapeHead (sequenceOf f) .len)
+unfolding escapeHead sequenceOf
 escape-len Q missing h k = h
 escape-len Q (found (sgr os) n) h k = k (sgr os) n refl
 escape-len Q (found eraseToEnd n) h k = k eraseToEnd n refl
@@ -401,24 +401,24 @@ escape-len Q (found ignored n) h k = k ignored n refl
 escape-len Q (found (hyperlink a b) n) h k = k (hyperlink a b) n refl
 escape-len Q (found (lineDrawing b) n) h k = k (lineDrawing b) n refl
 
-cond-len : (b : Bool) (x y : Look) (m : ℕ) → (b ≡ true → x .len ≤ m) → (b ≡ false → y .len ≤ m) → cond b x y .len ≤ m
+cond-len : (b : Bool) (x y : SpanHead) (m : ℕ) → (b ≡ true → x .len ≤ m) → (b ≡ false → y .len ≤ m) → cond b x y .len ≤ m
 cond-len true x y m f g = f refl
 cond-len false x y m f g = g refl
 
-look-fits : (n a y : ℕ) (s : List ℕ) (m : ℕ) → 1 ≤ m → n ≤ m → 1 + length s ≤ m → lookBytes n a y (parse s) .len ≤ m
-unfolding lookBytes
-look-fits n a y s m h k l =
+head-fits : (n a y : ℕ) (s : List ℕ) (m : ℕ) → 1 ≤ m → n ≤ m → 1 + length s ≤ m → headBytes n a y (parse s) .len ≤ m
+unfolding headBytes
+head-fits n a y s m h k l =
     cond-len (eqb n 1) _ _ m
     (λ e. cond-len (eqb a 0x1B) _ _ m (λ f. escape-len (λ (n : ℕ). n ≤ m) (parse s) h (λ q i r. omega (arith, parse-length s q i r)))
     (λ f. cond-len (eqb a 0x0A) _ _ m (λ g. h) (λ g. cond-len (eqb a 0x09) _ _ m (λ p. h) (λ p. cond-len (leb a 0x1F || eqb a 0x7F) _ _ m (λ q. h) (λ q. h)))))
     (λ e. cond-len (eqb n 2 && (eqb a 0x0D && eqb y 0x0A)) _ _ m (λ f. omega (arith, eqb→eq n 2 (and-T (eqb n 2) _ (true-T f) .0))) (λ f. k))
 
-look-any : (n a y : ℕ) (f f′ : Found) → eqb n 1 ≡ false → lookBytes n a y f ≡ lookBytes n a y f′
-unfolding lookBytes
-look-any n a y f f′ e = rw e
+head-any : (n a y : ℕ) (f f′ : Found) → eqb n 1 ≡ false → headBytes n a y f ≡ headBytes n a y f′
+unfolding headBytes
+head-any n a y f f′ e = rw e
 
 -- what a cluster that is not plain gives: a span that is no text
-record Found-special (w : Seen) (l : Look) : Type 0 where
+record Found-special (w : ClusterKind) (l : SpanHead) : Type 0 where
   content : Content
   is : w ≡ special content (l .len)
   kind : kindOf content ≡ l .kind
@@ -435,10 +435,10 @@ no-match tab k h = refl
 no-match crlf k h = refl
 no-match lf k h = refl
 
-special-is : (w : Seen) (l : Look) → isPlain w ≡ false → lookOf w ≡ l → NoText w → Found-special w l
-unfolding isPlain lookOf
+special-is : (w : ClusterKind) (l : SpanHead) → isPlain w ≡ false → kindHead w ≡ l → NoText w → Found-special w l
+unfolding isPlain kindHead
 special-is plain l e f h = absurd (let z : _≡_ {A = ℕ} 0 1 = cc in omega arith)
-special-is (special c k) l e f h = record { content = c; is = ap (λ (x : Look). special c (x .len)) f; kind = ap (λ (x : Look). x .kind) f; unmatched = no-match c k h }
+special-is (special c k) l e f h = record { content = c; is = ap (λ (x : SpanHead). special c (x .len)) f; kind = ap (λ (x : SpanHead). x .kind) f; unmatched = no-match c k h }
 
 -- the cluster from `at` to `end` is no part of a text
 module _ (P : Profile) (t : List ℕ) (at end : ℕ) (z : plainSize P (clustersAt P (drop at t)) ≡ 0) (f : end ≡ at + firstSize P (runOf (decode (drop at t)))) (h : at < end) where
@@ -472,29 +472,29 @@ module _ (P : Profile) (t : List ℕ) (at end : ℕ) (z : plainSize P (clustersA
       let w = here-is in
       (omega (arith, w .run), omega (arith, w .run, run-inside t at, h))
 
-  module _ (l : Look) (q : l ≡ lookBytes (end - at) (getD t at 0) (getD t (at + 1) 0) (parse (slice (at + 1) (runAt t at) t))) where
+  module _ (l : SpanHead) (q : l ≡ headBytes (end - at) (getD t at 0) (getD t (at + 1) 0) (parse (slice (at + 1) (runAt t at) t))) where
     -- what stands at an ESC is what stands behind it in the run
-    seen-is : lookOf (seen P (here-is .g) (bytesOf (joinAll (here-is .gs)))) ≡ l
-    seen-is =
+    kind-is : kindHead (clusterKind P (here-is .g) (bytesOf (joinAll (here-is .gs)))) ≡ l
+    kind-is =
         let w = here-is in
         let run : ℕ = runAt t at in
         let n : end - at ≡ extent (w .g) = omega (arith, w .ends) in
         let b : bytesOf (joinAll (w .gs)) ≡ slice (at + extent (w .g)) run t =
         cluster-behind P (drop at t) (w .g) (w .gs) (w .is) (run - (at + extent (w .g))) (omega (arith, size-is (runOf (decode (drop at t)))))
         ∙ ap (take (run - (at + extent (w .g)))) (drop-drop (extent (w .g)) at t) ∙ part-slice t (at + extent (w .g)) run in
-        let k : lookOf (seen P (w .g) (bytesOf (joinAll (w .gs)))) ≡ lookBytes (extent (w .g)) (getD t at 0) (getD t (at + 1) 0) (parse (bytesOf (joinAll (w .gs)))) =
-        rw (← byte-here P t at, ← byte-next P t at) (look-bytes P (drop at t) (w .g) (w .gs) (w .is) (bytesOf (joinAll (w .gs))) (w .special)) in
+        let k : kindHead (clusterKind P (w .g) (bytesOf (joinAll (w .gs)))) ≡ headBytes (extent (w .g)) (getD t at 0) (getD t (at + 1) 0) (parse (bytesOf (joinAll (w .gs)))) =
+        rw (← byte-here P t at, ← byte-next P t at) (head-bytes P (drop at t) (w .g) (w .gs) (w .is) (bytesOf (joinAll (w .gs))) (w .special)) in
         k ∙ cases (eqb (extent (w .g)) 1)
-        (λ e. ap (λ (x : List ℕ). lookBytes (extent (w .g)) (getD t at 0) (getD t (at + 1) 0) (parse x)) (b ∙ ap (λ (i : ℕ). slice (at + i) run t) (eqb-true (extent (w .g)) 1 e)) ∙ rw (← n) (sym q))
-        (λ e. look-any (extent (w .g)) (getD t at 0) (getD t (at + 1) 0) (parse (bytesOf (joinAll (w .gs)))) (parse (slice (at + 1) run t)) e ∙ rw (← n) (sym q))
+        (λ e. ap (λ (x : List ℕ). headBytes (extent (w .g)) (getD t at 0) (getD t (at + 1) 0) (parse x)) (b ∙ ap (λ (i : ℕ). slice (at + i) run t) (eqb-true (extent (w .g)) 1 e)) ∙ rw (← n) (sym q))
+        (λ e. head-any (extent (w .g)) (getD t at 0) (getD t (at + 1) 0) (parse (bytesOf (joinAll (w .gs)))) (parse (slice (at + 1) run t)) e ∙ rw (← n) (sym q))
 
-    special-step : (next run : ℕ) (r : Record) → Skip P t end (at + l .len) next → r ≡ aRecord (l .kind) at (l .len) 0 → Fresh t (record { at = next; run = run })
+    special-step : (next run : ℕ) (r : Record) → SkippedTo P t end (at + l .len) next → r ≡ aRecord (l .kind) at (l .len) 0 → RunKnown t (record { at = next; run = run })
         → SpecialStep P t at (record { span = r; place = record { at = next; run = run } })
     unfolding recordsFrom records recordOf
     special-step next run r s e u m =
         let w = here-is in
         let b : List ℕ = bytesOf (joinAll (w .gs)) in
-        let y = special-is (seen P (w .g) b) l (plain-same P (w .g) b ∙ w .special) seen-is (seen-noText P (w .g) b) in
+        let y = special-is (clusterKind P (w .g) b) l (plain-same P (w .g) b ∙ w .special) kind-is (kind-noText P (w .g) b) in
         let n : ℕ = extent (w .g) + skipped P (l .len - extent (w .g)) (w .gs) in
         let k : next ≡ at + n = s .same ∙ behind-skipped P t at (w .g) (w .gs) (w .is) end (l .len) (w .ends) in
         let d : drop n (drop at t) ≡ drop next t = drop-drop n at t ∙ ap (λ (i : ℕ). drop i t) (sym k) in
@@ -508,7 +508,7 @@ module _ (P : Profile) (t : List ℕ) (at end : ℕ) (z : plainSize P (clustersA
 
 -- ---- `escape_span`
 
-module _ (t : List ℕ) (c : Place) (z : Escaping t c) where
+module _ (t : List ℕ) (c : Place) (z : EscapeSpanReady t c) where
   escape-c0 : c0NotCr (getD t (c .at) 0) ≡ true
   escape-c0 = rw (z .escape)
 
@@ -524,13 +524,13 @@ module _ (t : List ℕ) (c : Place) (z : Escaping t c) where
       (here-is (profileOf p) t (c .at) (c .at + 1) (escape-size p) (escape-end p) (omega arith) .run, run-room (profileOf p) t (c .at) (c .at + 1) (escape-size p) (escape-end p) (omega arith))
 
   module _ (run : ℕ) (f : run ≡ runAt t (c .at)) where
-    pub escape-within : Within t (c .at) run
+    pub escape-within : SequenceReady t (c .at) run
     escape-within = let r = escape-room in record { first = omega (arith, r .1 .0); last = omega (arith, r .1 .1); small = z .ready .small }
 
-    module _ (o : sequence.Sequence) (g : o ≡ told (parse (slice (c .at + 1) run t))) (l : Look) (e : l ≡ escapeLook o) where
-      escape-looks : l ≡ lookBytes (c .at + 1 - c .at) (getD t (c .at) 0) (getD t (c .at + 1) 0) (parse (slice (c .at + 1) (runAt t (c .at)) t))
-      unfolding lookBytes
-      escape-looks = let n : c .at + 1 - c .at ≡ 1 = omega arith in rw (n, z .escape, ← f) (e ∙ ap escapeLook g)
+    module _ (o : sequence.Sequence) (g : o ≡ sequenceOf (parse (slice (c .at + 1) run t))) (l : SpanHead) (e : l ≡ escapeHead o) where
+      escape-head-is : l ≡ headBytes (c .at + 1 - c .at) (getD t (c .at) 0) (getD t (c .at + 1) 0) (parse (slice (c .at + 1) (runAt t (c .at)) t))
+      unfolding headBytes
+      escape-head-is = let n : c .at + 1 - c .at ≡ 1 = omega arith in rw (n, z .escape, ← f) (e ∙ ap escapeHead g)
 
       escape-length : l .len ≤ run - c .at
       escape-length =
@@ -541,7 +541,7 @@ module _ (t : List ℕ) (c : Place) (z : Escaping t c) where
       pub escape-fit : c .at + l .len ≤ length t
       escape-fit = omega (arith, escape-length, escape-within .first, escape-within .last)
 
-      escape-ahead : Ahead t (c .at + 1) (c .at + l .len)
+      escape-ahead : InRun t (c .at + 1) (c .at + l .len)
       escape-ahead = omega (arith, escape-room .0, escape-length, escape-within .first)
 
       abbrev Begins : ℕ → Type 0
@@ -556,48 +556,48 @@ module _ (t : List ℕ) (c : Place) (z : Escaping t c) where
           let i : n - 2 < run - (c .at + 1) = omega (arith, parse-length (slice (c .at + 1) run t) q n u, length-slice (c .at + 1) run t (w .last)) in
           rw (slice-byte t (c .at + 1) run (n - 2) i, k) at (parse-last (slice (c .at + 1) run t) q n u)))
 
-      pub escape-ready : SkipReady t (c .at + 1) (c .at + l .len)
+      pub escape-ready : SkipToReady t (c .at + 1) (c .at + l .len)
       escape-ready = record { ahead = escape-ahead; begins = escape-begins }
 
-      pub escape-step : (p : code.Profile) (next : ℕ) (r : Record) → Skip (profileOf p) t (c .at + 1) (c .at + l .len) next → r ≡ aRecord (l .kind) (c .at) (l .len) 0
+      pub escape-step : (p : code.Profile) (next : ℕ) (r : Record) → SkippedTo (profileOf p) t (c .at + 1) (c .at + l .len) next → r ≡ aRecord (l .kind) (c .at) (l .len) 0
           → SpecialStep (profileOf p) t (c .at) (record { span = r; place = record { at = next; run = run } })
       escape-step p next r s q =
-          special-step (profileOf p) t (c .at) (c .at + 1) (escape-size p) (escape-end p) (omega arith) l escape-looks next run r s q (λ h. f ∙ sym (s .run ∙ escape-room .0))
+          special-step (profileOf p) t (c .at) (c .at + 1) (escape-size p) (escape-end p) (omega arith) l escape-head-is next run r s q (λ h. f ∙ sym (s .run ∙ escape-room .0))
 
 -- ---- `mark_span`
 
 -- the run's end that is known at a place is that of a place behind it in the run
-fresh-on : (t : List ℕ) (c : Place) (next : ℕ) → Ready t c → c .at ≤ next → runAt t next ≡ runAt t (c .at) → Fresh t (record { at = next; run = c .run })
+fresh-on : (t : List ℕ) (c : Place) (next : ℕ) → NextSpanReady t c → c .at ≤ next → runAt t next ≡ runAt t (c .at) → RunKnown t (record { at = next; run = c .run })
 fresh-on t c next z h e k = z .fresh (omega arith) ∙ sym e
 
-look-other : (n a b : ℕ) (f : Found) → a ≢ 0x1B → lookBytes n a b missing ≡ lookBytes n a b f
-unfolding lookBytes
-look-other n a b f h = rw (ne-eqb a 0x1B h)
+head-other : (n a b : ℕ) (f : Found) → a ≢ 0x1B → headBytes n a b missing ≡ headBytes n a b f
+unfolding headBytes
+head-other n a b f h = rw (ne-eqb a 0x1B h)
 
-look-whole : (n a b : ℕ) → 1 ≤ n → lookBytes n a b missing .len ≤ n
+head-whole : (n a b : ℕ) → 1 ≤ n → headBytes n a b missing .len ≤ n
 unfolding parse
-look-whole n a b h = look-fits n a b [] n h (omega arith) (omega arith)
+head-whole n a b h = head-fits n a b [] n h (omega arith) (omega arith)
 
-module _ (P : Profile) (t : List ℕ) (c : Place) (end : ℕ) (z : Mark P t c end) where
-  pub mark-part : Part t (c .at) end
+module _ (P : Profile) (t : List ℕ) (c : Place) (end : ℕ) (z : MarkSpanReady P t c end) where
+  pub mark-part : HeadReady t (c .at) end
   mark-part = record { here = z .ready .here; ordered = omega (arith, z .some); inside = let r = run-room P t (c .at) end (z .special) (z .ends) (z .some) in omega (arith, r .0, r .1) }
 
-  pub mark-step : (l : Look) (r : Record) → l ≡ lookBytes (end - c .at) (getD t (c .at) 0) (getD t (c .at + 1) 0) missing → r ≡ aRecord (l .kind) (c .at) (l .len) 0
+  pub mark-step : (l : SpanHead) (r : Record) → l ≡ headBytes (end - c .at) (getD t (c .at) 0) (getD t (c .at + 1) 0) missing → r ≡ aRecord (l .kind) (c .at) (l .len) 0
       → SpecialStep P t (c .at) (record { span = r; place = record { at = end; run = c .run } })
   mark-step l r e q =
-      let n : c .at + l .len - end ≡ 0 = rw e (omega (arith, look-whole (end - c .at) (getD t (c .at) 0) (getD t (c .at + 1) 0) (omega (arith, z .some)))) in
-      let s : Skip P t end (c .at + l .len) end = record { same = rw (skip-none P (c .at + l .len - end) (clustersAt P (drop end t)) n) (omega arith); run = refl } in
+      let n : c .at + l .len - end ≡ 0 = rw e (omega (arith, head-whole (end - c .at) (getD t (c .at) 0) (getD t (c .at + 1) 0) (omega (arith, z .some)))) in
+      let s : SkippedTo P t end (c .at + l .len) end = record { same = rw (skip-none P (c .at + l .len - end) (clustersAt P (drop end t)) n) (omega arith); run = refl } in
       special-step P t (c .at) end (z .special) (z .ends) (z .some) l
-      (e ∙ look-other (end - c .at) (getD t (c .at) 0) (getD t (c .at + 1) 0) (parse (slice (c .at + 1) (runAt t (c .at)) t)) (z .other))
+      (e ∙ head-other (end - c .at) (getD t (c .at) 0) (getD t (c .at + 1) 0) (parse (slice (c .at + 1) (runAt t (c .at)) t)) (z .other))
       end (c .run) r s q (fresh-on t c end (z .ready) (omega (arith, z .some)) (here-is P t (c .at) end (z .special) (z .ends) (z .some) .run))
 
 -- ---- `control_span`
 
-module _ (p : code.Profile) (t : List ℕ) (c : Place) (z : ControlReady t c) (a : ℕ) (e : a ≡ getD t (c .at) 0) where
-  pub control-escape : a ≡ 0x1B → Escaping t c
+module _ (p : code.Profile) (t : List ℕ) (c : Place) (z : ControlSpanReady t c) (a : ℕ) (e : a ≡ getD t (c .at) 0) where
+  pub control-escape : a ≡ 0x1B → EscapeSpanReady t c
   control-escape h = record { ready = z .ready; escape = sym e ∙ h }
 
-  pub control-mark : (a ≡ 0x1B → ⊥) → Mark (profileOf p) t c (c .at + 1)
+  pub control-mark : (a ≡ 0x1B → ⊥) → MarkSpanReady (profileOf p) t c (c .at + 1)
   control-mark h =
       record {
         ready = z .ready;
@@ -628,15 +628,15 @@ text-record m at n s = cases (isMatch m) (λ b. rw b) (λ b. rw b)
 pub invalid-is : (c : Place) (r : Record) → r ≡ aRecord 4 (c .at) 1 0 → record { span = r; place = record { at = c .at + 1; run = c .run } } ≡ invalidAt c
 invalid-is c r e = rw e
 
-pub control-ready : (t : List ℕ) (c : Place) (a : ℕ) (x : Bool) → Ready t c → a ≡ getD t (c .at) 0 → x ≡ c0NotCr a → x ≡ true → ControlReady t c
+pub control-ready : (t : List ℕ) (c : Place) (a : ℕ) (x : Bool) → NextSpanReady t c → a ≡ getD t (c .at) 0 → x ≡ c0NotCr a → x ≡ true → ControlSpanReady t c
 control-ready t c a x z e f q = record { ready = z; control = rw e at (sym f ∙ q) }
 
-module _ (P : Profile) (t : List ℕ) (c : Place) (z : Ready t c) where
+module _ (P : Profile) (t : List ℕ) (c : Place) (z : NextSpanReady t c) where
   pub here-fits : c .at < 65536
   here-fits = omega (arith, z .here, z .small)
 
   module _ (u : ℕ) (f : u ≡ packedAt P t (c .at)) where
-    pub invalid-step : (m : Matched) (r : NextSpan) → u ≡ 0 → r ≡ invalidAt c → Stepped P t m (c .at) r
+    pub invalid-step : (m : Matched) (r : NextSpan) → u ≡ 0 → r ≡ invalidAt c → SpanStep P t m (c .at) r
     unfolding recordsFrom records recordOf kindOf matchOf
     invalid-step m r h e =
         let at : ℕ = c .at in
@@ -652,7 +652,7 @@ module _ (P : Profile) (t : List ℕ) (c : Place) (z : Ready t c) where
         })
 
     pub mark-ready : (x : Bool) (a end e : ℕ) → a ≡ getD t (c .at) 0 → x ≡ c0NotCr a → x ≡ false → (u ≡ 0 → ⊥) → end ≡ c .at + plainSize P (clustersAt P (drop (c .at) t)) → end ≤ c .at
-        → e ≡ c .at + firstSize P (runOf (decode (drop (c .at) t))) → Mark P t c e
+        → e ≡ c .at + firstSize P (runOf (decode (drop (c .at) t))) → MarkSpanReady P t c e
     mark-ready x a end e b q w n g h k =
         let v = packed-some P t (c .at) u f n in
         let i : c .at < runAt t (c .at) = rw (v .run, size-cons (v .scalar)) (omega (arith, v .len, v .some)) in
@@ -667,7 +667,7 @@ module _ (P : Profile) (t : List ℕ) (c : Place) (z : Ready t c) where
         }
 
   module _ (end : ℕ) (g : end ≡ c .at + plainSize P (clustersAt P (drop (c .at) t))) where
-    pub text-step : (m : Matched) (r : Record) → c .at < end → r ≡ textRecord m (c .at) (end - c .at) → Stepped P t m (c .at) (record { span = r; place = record { at = end; run = c .run } })
+    pub text-step : (m : Matched) (r : Record) → c .at < end → r ≡ textRecord m (c .at) (end - c .at) → SpanStep P t m (c .at) (record { span = r; place = record { at = end; run = c .run } })
     unfolding recordsFrom records plainSize
     text-step m r h e =
         let at : ℕ = c .at in
@@ -687,5 +687,5 @@ module _ (P : Profile) (t : List ℕ) (c : Place) (z : Ready t c) where
           low = omega (arith, w, run-inside t at, z .here);
         })
 
-  pub special-done : (m : Matched) (r : NextSpan) → SpecialStep P t (c .at) r → Stepped P t m (c .at) r
+  pub special-done : (m : Matched) (r : NextSpan) → SpecialStep P t (c .at) r → SpanStep P t m (c .at) r
   special-done m r h = h m

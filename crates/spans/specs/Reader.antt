@@ -13,19 +13,17 @@ use Rattle.text.specs.Class.Ascii.{syllableOrOther}
 use Rattle.text.specs.Cluster.{clusters}
 use Rattle.text.specs.Code.{size, firstSize, printable}
 use Rattle.text.specs.Segmentation.{neverJoinsBefore}
-use Rattle.spans.specs.Sequence.{Sequence, Found}
+use Rattle.spans.specs.Sequence.{Found}
 use Rattle.spans.specs.Spans.{spansAt, Record, aRecord, records}
-use Rattle.spans.specs.Spans.Steps.{plainCluster, plainSize, skipped}
-use Rattle.spans.specs.declared.reader.Look.{Look}
+use Rattle.spans.specs.Spans.FirstSpan.{plainCluster, plainSize, skipped}
+use Rattle.spans.specs.declared.reader.SpanHead.{SpanHead}
 use Rattle.spans.specs.declared.reader.Place.{Place}
 use Rattle.spans.specs.declared.reader.Matched.{Matched}
 use Rattle.spans.specs.declared.reader.NextSpan.{NextSpan}
-use Rattle.spans.specs.declared.sgr.Sgr.{Sgr}
 use Rattle.spans.specs.declared.sequence.Sequence as code
 use Rattle.spans.specs.declared.sequence.Sequence.the-variants.{Missing, EraseToEnd, Ignored, Hyperlink, LineDrawing}
 use Rattle.spans.specs.declared.sequence.Sequence.the-variants as sequence
-use Rattle.spans.specs.Sgr.Contracts.{more}
-use Rattle.spans.specs.Sequence.Contracts.{told}
+use Rattle.spans.specs.Sequence.Contracts.{sequenceOf}
 
 -- ---- clusters
 
@@ -81,27 +79,27 @@ pub record ClustersTo (P : Profile) (t : List ℕ) (at r : ℕ) : Type 0 where
   pub ends : printable (getD t r 0) ≡ false → plainSize P (clustersAt P (drop r t)) ≡ 0
   pub further : printable (getD t r 0) ≡ true → at < r
 
-abbrev pub aLook : ℕ → ℕ → Look
-aLook k n = record { kind = k; len = n }
+abbrev pub aHead : ℕ → ℕ → SpanHead
+aHead k n = record { kind = k; len = n }
 
-unfoldable pub escapeLook : code.Sequence → Look
-escapeLook Missing = aLook 3 1
-escapeLook (sequence.Sgr n) = aLook 6 n
-escapeLook (Hyperlink p k n) = aLook 7 n
-escapeLook (LineDrawing b n) = aLook 8 n
-escapeLook (Ignored n) = aLook 9 n
-escapeLook (EraseToEnd n) = aLook 13 n
+unfoldable pub escapeHead : code.Sequence → SpanHead
+escapeHead Missing = aHead 3 1
+escapeHead (sequence.Sgr n) = aHead 6 n
+escapeHead (Hyperlink p k n) = aHead 7 n
+escapeHead (LineDrawing b n) = aHead 8 n
+escapeHead (Ignored n) = aHead 9 n
+escapeHead (EraseToEnd n) = aHead 13 n
 
 -- what a cluster of n bytes is, the first of them a and b, that is no part of a text; f is what stands at an ESC
-unfoldable pub lookBytes : ℕ → ℕ → ℕ → Found → Look
-unfolding escapeLook told
-lookBytes n a b f =
+unfoldable pub headBytes : ℕ → ℕ → ℕ → Found → SpanHead
+unfolding escapeHead sequenceOf
+headBytes n a b f =
     cond (eqb n 1)
-    (cond (eqb a 0x1B) (escapeLook (told f)) (cond (eqb a 0x0A) (aLook 12 1) (cond (eqb a 0x09) (aLook 10 1) (cond (leb a 0x1F || eqb a 0x7F) (aLook 3 1) (aLook 5 1)))))
-    (cond (eqb n 2 && (eqb a 0x0D && eqb b 0x0A)) (aLook 11 2) (aLook 5 n))
+    (cond (eqb a 0x1B) (escapeHead (sequenceOf f)) (cond (eqb a 0x0A) (aHead 12 1) (cond (eqb a 0x09) (aHead 10 1) (cond (leb a 0x1F || eqb a 0x7F) (aHead 3 1) (aHead 5 1)))))
+    (cond (eqb n 2 && (eqb a 0x0D && eqb b 0x0A)) (aHead 11 2) (aHead 5 n))
 
 -- the part from `at` to `end` of t
-pub record Part (t : List ℕ) (at end : ℕ) : Type 0 where
+pub record HeadReady (t : List ℕ) (at end : ℕ) : Type 0 where
   pub here : at < length t
   pub ordered : at ≤ end
   pub inside : end ≤ length t
@@ -115,27 +113,27 @@ pub record SyllablesTo (P : Profile) (t : List ℕ) (at r : ℕ) : Type 0 where
   pub is : r ≡ at + syllablesSize P (ltb (runAt t at) (length t)) (runOf (decode (drop at t)))
   pub to : PlainTo P t at r
 
-abbrev pub Ahead : List ℕ → ℕ → ℕ → Type 0
-Ahead t at stop = stop ≤ runAt t at
+abbrev pub InRun : List ℕ → ℕ → ℕ → Type 0
+InRun t at stop = stop ≤ runAt t at
 
-pub record SkipReady (t : List ℕ) (at stop : ℕ) : Type 0 where
-  pub ahead : Ahead t at stop
+pub record SkipToReady (t : List ℕ) (at stop : ℕ) : Type 0 where
+  pub ahead : InRun t at stop
   pub begins : at < stop → neverJoinsBefore (getD t (stop - 1) 0) ≡ true
 
-pub record Skip (P : Profile) (t : List ℕ) (at stop r : ℕ) : Type 0 where
+pub record SkippedTo (P : Profile) (t : List ℕ) (at stop r : ℕ) : Type 0 where
   pub same : r ≡ at + skipped P (stop - at) (clustersAt P (drop at t))
   pub run : runAt t r ≡ runAt t at
 
 -- ---- places
 
 -- the run's end, where it lies beyond the place, is that of the run at the place
-abbrev pub Fresh : List ℕ → Place → Type 0
-Fresh t c = c .at < c .run → c .run ≡ runAt t (c .at)
+abbrev pub RunKnown : List ℕ → Place → Type 0
+RunKnown t c = c .at < c .run → c .run ≡ runAt t (c .at)
 
-pub record Ready (t : List ℕ) (c : Place) : Type 0 where
+pub record NextSpanReady (t : List ℕ) (c : Place) : Type 0 where
   pub here : c .at < length t
   pub small : length t ≤ 65536
-  pub fresh : Fresh t c
+  pub fresh : RunKnown t c
 
 abbrev pub isMatch : Matched → Bool
 isMatch m = eqb (m .kind) 2
@@ -154,30 +152,30 @@ unfolding records spansAt matchIn
 recordsFrom P m t at = records (spansAt P (matchIn m) at (drop at t))
 
 -- the first of them and the reading behind it
-pub record Stepped (P : Profile) (t : List ℕ) (m : Matched) (at : ℕ) (r : NextSpan) : Type 0 where
+pub record SpanStep (P : Profile) (t : List ℕ) (m : Matched) (at : ℕ) (r : NextSpan) : Type 0 where
   pub same : recordsFrom P m t at ≡ r .span ∷ recordsFrom P m t (r .place .at)
-  pub fresh : Fresh t (r .place)
+  pub fresh : RunKnown t (r .place)
   pub up : at < r .place .at
   pub low : r .place .at ≤ length t
 
 abbrev pub invalidAt : Place → NextSpan
 invalidAt c = record { span = aRecord 4 (c .at) 1 0; place = record { at = c .at + 1; run = c .run } }
 
-pub record ControlReady (t : List ℕ) (c : Place) : Type 0 where
-  pub ready : Ready t c
+pub record ControlSpanReady (t : List ℕ) (c : Place) : Type 0 where
+  pub ready : NextSpanReady t c
   pub control : c0NotCr (getD t (c .at) 0) ≡ true
 
-pub record Escaping (t : List ℕ) (c : Place) : Type 0 where
-  pub ready : Ready t c
+pub record EscapeSpanReady (t : List ℕ) (c : Place) : Type 0 where
+  pub ready : NextSpanReady t c
   pub escape : getD t (c .at) 0 ≡ 0x1B
 
 -- the cluster from the place to `end` is no part of a text, and no ESC
-pub record Mark (P : Profile) (t : List ℕ) (c : Place) (end : ℕ) : Type 0 where
-  pub ready : Ready t c
+pub record MarkSpanReady (P : Profile) (t : List ℕ) (c : Place) (end : ℕ) : Type 0 where
+  pub ready : NextSpanReady t c
   pub special : plainSize P (clustersAt P (drop (c .at) t)) ≡ 0
   pub ends : end ≡ c .at + firstSize P (runOf (decode (drop (c .at) t)))
   pub some : c .at < end
   pub other : getD t (c .at) 0 ≢ 0x1B
 
 abbrev pub SpecialStep : Profile → List ℕ → ℕ → NextSpan → Type 0
-SpecialStep P t at r = (m : Matched) → Stepped P t m at r
+SpecialStep P t at r = (m : Matched) → SpanStep P t m at r

@@ -6,13 +6,13 @@ use mathlib.Core.Option.{some}
 use mathlib.Core.List.{List, [], _∷_, _++_}
 use lib.ListN.{length, take, drop}
 use lib.Dec.{leb, ltb}
-use Rattle.text.specs.Class.{Profile, number}
+use Rattle.text.specs.Class.{Profile}
 use Rattle.spans.specs.Search.{trimmed, escapes, searchedLength, inOrder, offsetFrom, readPart, readMatches, read}
 use Rattle.spans.specs.Spans.{Span, Record, aRecord, records}
 use Rattle.spans.specs.declared.reader.Matched.{Matched}
 use Rattle.spans.specs.declared.stretches.Cursor.{Cursor}
 use Rattle.spans.specs.declared.stretches.NextRecord.{NextRecord}
-use Rattle.spans.specs.Reader.{Fresh, isMatch, recordsFrom}
+use Rattle.spans.specs.Reader.{RunKnown, isMatch, recordsFrom}
 use Rattle.spans.specs.Search.Contracts.{OffsetsFrom}
 
 -- the stretch has no bytes left, of a line of n bytes, and another follows, with k numbers of match ranges
@@ -59,9 +59,9 @@ pub record Sound (line matches : List ℕ) (c : Cursor) : Type 0 where
   pub order : orderFrom (isMatch (c .matched)) (searchedLength line) last (drop (c .index) matches) ≡ true
   pub index : c .index ≤ length matches
   pub few : c .matched .number + cond (isMatch (c .matched)) 1 0 ≤ c .index
-  pub fresh : Fresh (take (c .end) line) (c .place)
+  pub fresh : RunKnown (take (c .end) line) (c .place)
 
-pub record Opening (line matches : List ℕ) (number : ℕ) (c : Cursor) : Type 0 where
+pub record OutsideReady (line matches : List ℕ) (number : ℕ) (c : Cursor) : Type 0 where
   pub small : length line ≤ 65536
   pub last : ℕ
   pub from : OffsetsFrom (withoutNewline line) last (c .offsets)
@@ -70,36 +70,36 @@ pub record Opening (line matches : List ℕ) (number : ℕ) (c : Cursor) : Type 
   pub few : number ≤ c .index
 
 -- the reading of match `number` and what follows it begins at `start`
-pub record Opened (line matches : List ℕ) (start number : ℕ) (c r : Cursor) : Type 0 where
+pub record OutsideBegun (line matches : List ℕ) (start number : ℕ) (c r : Cursor) : Type 0 where
   pub same : (P : Profile) → remaining P line matches r ≡ records (readMatches P (escapes line) start number (drop (c .index) matches) line)
   pub sound : Sound line matches r
   pub falls : stretchesLeft (length matches) r ≤ 2 * (length matches - c .index)
   pub count : r .count ≡ c .count
 
-pub record Waiting (line matches : List ℕ) (c : Cursor) : Type 0 where
+pub record InsideReady (line matches : List ℕ) (c : Cursor) : Type 0 where
   pub sound : Sound line matches c
   pub outside : isMatch (c .matched) ≡ false
   pub some : c .index < length matches
 
-pub record Going (line matches : List ℕ) (c : Cursor) : Type 0 where
+pub record AdvanceReady (line matches : List ℕ) (c : Cursor) : Type 0 where
   pub sound : Sound line matches c
   pub spent : spent (length line) (length matches) c ≡ true
 
 -- the reading goes on behind the stretch
-pub record Moved (line matches : List ℕ) (c r : Cursor) : Type 0 where
+pub record Advanced (line matches : List ℕ) (c r : Cursor) : Type 0 where
   pub same : (P : Profile) → remaining P line matches r ≡ records (behindStretch P line (c .matched) (c .end) (drop (c .index) matches))
   pub sound : Sound line matches r
   pub falls : stretchesLeft (length matches) r < stretchesLeft (length matches) c
   pub count : r .count ≡ c .count
 
 -- the same records, from a stretch with bytes left if there is one
-pub record Settled (line matches : List ℕ) (c r : Cursor) : Type 0 where
+pub record SpentSkipped (line matches : List ℕ) (c r : Cursor) : Type 0 where
   pub same : (P : Profile) → remaining P line matches r ≡ remaining P line matches c
   pub sound : Sound line matches r
   pub settled : spent (length line) (length matches) r ≡ false
   pub count : r .count ≡ c .count
 
-pub record Counting (line matches : List ℕ) (c : Cursor) : Type 0 where
+pub record NextRecordReady (line matches : List ℕ) (c : Cursor) : Type 0 where
   pub sound : Sound line matches c
   pub counts : c .count < 18446744073709551615
 
@@ -108,7 +108,7 @@ firstRecord [] = aRecord 0 0 0 0
 firstRecord (r ∷ rs) = r
 
 -- the first record and the others
-pub record Nexted (P : Profile) (line matches : List ℕ) (c : Cursor) (r : NextRecord) : Type 0 where
+pub record RecordStep (P : Profile) (line matches : List ℕ) (c : Cursor) (r : NextRecord) : Type 0 where
   pub head : r .span ≡ firstRecord (remaining P line matches c)
   pub tail : remaining P line matches (r .cursor) ≡ drop 1 (remaining P line matches c)
   pub sound : Sound line matches (r .cursor)
@@ -118,11 +118,11 @@ pub record Nexted (P : Profile) (line matches : List ℕ) (c : Cursor) (r : Next
 abbrev pub HasNext : List ℕ → List ℕ → Cursor → Bool → Type 0
 HasNext line matches c r = (P : Profile) → r ≡ ltb 0 (length (remaining P line matches c))
 
-pub record Begun (line matches : List ℕ) : Type 0 where
+pub record BeginReady (line matches : List ℕ) : Type 0 where
   pub small : length line ≤ 65536
   pub order : inOrder (searchedLength line) 0 matches ≡ true
 
-pub record Started (line matches : List ℕ) (r : Cursor) : Type 0 where
+pub record Begun (line matches : List ℕ) (r : Cursor) : Type 0 where
   pub same : (P : Profile) → remaining P line matches r ≡ records (read P matches line)
   pub sound : Sound line matches r
   pub count : r .count ≡ 0

@@ -14,7 +14,7 @@ use Rattle.text.specs.Overstrike.{convert}
 use Rattle.text.specs.Overstrike.Length.{convert-size}
 use Rattle.text.specs.declared.Answer.{Answer}
 use Rattle.spans.specs.Spans.{Span, Record, recordOf, records}
-use Rattle.spans.specs.Spans.Few.{few}
+use Rattle.spans.specs.Spans.SpanCount.{few}
 use Rattle.spans.specs.Spans.ContentLaw.{contentOf, content-front}
 use Rattle.spans.specs.Search as search
 use Rattle.spans.specs.Calls.{Read, readCall, noRecord}

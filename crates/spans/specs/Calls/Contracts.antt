@@ -5,13 +5,11 @@ use mathlib.Core.Bool.{false, cond}
 use mathlib.Core.List.{List, [], _∷_, _++_}
 use lib.ListN.{length, take, drop, replicate}
 use lib.Dec.{eqb, ltb}
-use Rattle.text.specs.Class.{Profile, number}
-use Rattle.text.specs.Code.{size}
+use Rattle.text.specs.Class.{Profile}
 use Rattle.text.specs.Width.{profile01}
 use Rattle.text.specs.Overstrike.{convert}
 use Rattle.text.specs.Calls.{decide, counted, question1, question2}
 use Rattle.text.specs.declared.Answer.{Answer}
-use Rattle.spans.specs.Sequence.{found}
 use Rattle.spans.specs.Search.{searchedLength, inOrder, read}
 use Rattle.spans.specs.Spans.{Record, records}
 use Rattle.spans.specs.Calls.{Read, question3}
@@ -53,12 +51,12 @@ unfolding remaining profile01
 recordsOf conv matches r = cond (eqb (r .number) 0) (remaining profile01 (take (r .len) conv) matches (r .cursor)) []
 
 -- one more record can be counted
-pub record Ongoing (conv matches : List ℕ) (r : Reading) : Type 0 where
+pub record NextReadingReady (conv matches : List ℕ) (r : Reading) : Type 0 where
   pub accepted : r .number ≡ 0
   pub held : HeldIn conv matches r
   pub counts : r .cursor .count < 18446744073709551615
 
-pub record NextHolds (conv matches : List ℕ) (r : Reading) (n : NextReading) : Type 0 where
+pub record ReadingStep (conv matches : List ℕ) (r : Reading) (n : NextReading) : Type 0 where
   pub head : n .span ≡ firstRecord (recordsOf conv matches r)
   pub tail : recordsOf conv matches (n .reading) ≡ drop 1 (recordsOf conv matches r)
   pub count : n .reading .cursor .count + length (recordsOf conv matches (n .reading)) ≡ r .cursor .count + length (recordsOf conv matches r)
@@ -67,13 +65,13 @@ pub record NextHolds (conv matches : List ℕ) (r : Reading) (n : NextReading) :
   pub held : HeldIn conv matches (n .reading)
 
 -- a reading that no span was taken from yet, for a list of n places
-pub record Fillable (conv matches : List ℕ) (n : ℕ) (r : Reading) : Type 0 where
+pub record ParseSpansReady (conv matches : List ℕ) (n : ℕ) (r : Reading) : Type 0 where
   pub holds : Holds conv matches r
   pub places : r .places ≡ cond (eqb (r .number) 0) n 0
   pub count : r .cursor .count ≡ 0
 
 -- the list has the first records, and the reading those that are left where the list is full
-pub record Filled (conv matches : List ℕ) (spans : List Record) (start r : Reading) : Type 0 where
+pub record SpansParsed (conv matches : List ℕ) (spans : List Record) (start r : Reading) : Type 0 where
   pub number : r .number ≡ start .number
   pub holds : Holds conv matches r
   pub same : take (r .cursor .count) spans ++ recordsOf conv matches r ≡ recordsOf conv matches start

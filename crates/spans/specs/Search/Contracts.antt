@@ -2,22 +2,20 @@
 use mathlib.Core.Path.{_≡_}
 use Prim.Native.Nat.{ℕ, _+_, _-_, _≤_, _<_}
 use mathlib.Core.Bool.{Bool, true, cond, _&&_}
-use mathlib.Core.Option.{some}
 use mathlib.Core.List.{List, [], _∷_}
 use lib.ListN.{length, drop}
 use lib.Dec.{leb}
-use Rattle.spans.specs.Sequence.{found}
 use Rattle.spans.specs.Search.{Stretch, stretch, escapeMatch, escapesFrom, lengthOf, offsetFrom}
 use Rattle.spans.specs.declared.search.Escape.{Escape}
 use Rattle.spans.specs.declared.search.Offsets.{Offsets}
 use Rattle.spans.specs.declared.search.Offset.{Offset}
 
-pub record Small (s : List ℕ) (at : ℕ) : Type 0 where
+pub record EscapeMatchReady (s : List ℕ) (at : ℕ) : Type 0 where
   pub here : at < length s
   pub small : length s ≤ 65536
 
 -- the ESCAPE_SEQUENCE match at a place has r bytes
-pub record Matching (s : List ℕ) (at r : ℕ) : Type 0 where
+pub record EscapeMatched (s : List ℕ) (at r : ℕ) : Type 0 where
   pub same : r ≡ escapeMatch (drop at s)
   pub fits : at + r ≤ length s
 
@@ -30,14 +28,14 @@ unfolding escapesFrom
 escapesOf s e = cond (e .found) (stretch (e .from) (e .upto) ∷ escapesAt s (e .upto)) []
 
 -- a match lies where it was looked for
-pub record Lies (s : List ℕ) (at : ℕ) (e : Escape) : Type 0 where
+pub record EscapeInside (s : List ℕ) (at : ℕ) (e : Escape) : Type 0 where
   pub low : at ≤ e .from
   pub some : e .from < e .upto
   pub inside : e .upto ≤ length s
 
-pub record EscapeAt (s : List ℕ) (at : ℕ) (e : Escape) : Type 0 where
+pub record NextEscape (s : List ℕ) (at : ℕ) (e : Escape) : Type 0 where
   pub same : escapesOf s e ≡ escapesAt s at
-  pub lies : e .found ≡ true → Lies s at e
+  pub lies : e .found ≡ true → EscapeInside s at e
 
 pub record EscapesLength (s : List ℕ) (r : ℕ) : Type 0 where
   pub same : r ≡ lengthOf (escapesFrom 0 0 s)
@@ -56,7 +54,7 @@ pub record OffsetsFrom (s : List ℕ) (last : ℕ) (o : Offsets) : Type 0 where
   pub same : (x : ℕ) → last ≤ x → offsetOn s o x ≡ offsetFrom 0 x (escapesFrom 0 0 s)
   pub passed : o .passed ≤ last
   pub inside : o .origin ≤ length s
-  pub lies : o .next .found ≡ true → Lies s (o .origin) (o .next)
+  pub lies : o .next .found ≡ true → EscapeInside s (o .origin) (o .next)
 
 pub record OffsetReady (s : List ℕ) (o : Offsets) (x : ℕ) : Type 0 where
   pub from : OffsetsFrom s x o
