@@ -27,6 +27,7 @@ use Rattle.spans.specs.Spans.FirstSpan.{isPlain, escape-special, plainCl
 use Rattle.spans.specs.Sequence.Contracts.{sequenceOf}
 use Rattle.spans.specs.Reader.{aHead, escapeHead, headBytes}
 use Rattle.spans.specs.declared.reader.SpanHead.{SpanHead}
+use Rattle.spans.specs.declared.sequence.Sequence as sequence
 
 no-one : (n : ℕ) → eqb (suc (suc n)) 1 ≡ false
 no-one n = ne-eqb (suc (suc n)) 1 (λ e. omega arith)
@@ -185,3 +186,26 @@ module _ (p : code.Profile) (s : List ℕ) (g : List Scalar) (gs : List (List Sc
       (λ h. cases (eqb (length (bytesOf g)) 2 && (eqb (getD s 0 0) 0x0D && eqb (getD s 1 0) 0x0A))
       (λ k. rw (h, k, newline-none k))
       (λ k. rw (h, k)))
+
+-- ---- the head of a span, by branches
+
+pub on-sequence : (q x : sequence.Sequence) (z : SpanHead) → q ≡ x → z ≡ escapeHead x → z ≡ escapeHead q
+on-sequence q x z e f = rw e f
+
+-- the same chain as `headBytes`, where no sequence begins at an ESC
+unfoldable pub headOf : ℕ → ℕ → ℕ → SpanHead
+headOf n a b =
+    cond (eqb n 1)
+    (cond (eqb a 0x0A) (aHead 12 1) (cond (eqb a 0x09) (aHead 10 1) (cond (leb a 0x1F || eqb a 0x7F) (aHead 3 1) (aHead 5 1))))
+    (cond (eqb n 2 && (eqb a 0x0D && eqb b 0x0A)) (aHead 11 2) (aHead 5 n))
+
+heads-same : (n a b : ℕ) → headOf n a b ≡ headBytes n a b missing
+unfolding headOf headBytes escapeHead sequenceOf
+heads-same n a b = cases (eqb a 0x1B) (λ e. rw (eqb-true a 0x1B e)) (λ e. rw e)
+
+pub head-is : (n a b x y : ℕ) (z : SpanHead) → a ≡ x → b ≡ y → z ≡ headOf n a b → z ≡ headBytes n x y missing
+head-is n a b x y z e q p = p ∙ heads-same n a b ∙ rw (e, q)
+
+-- one byte says enough
+pub head-one : (n a x y : ℕ) (z : SpanHead) → a ≡ x → z ≡ headOf n a y → z ≡ headBytes n x y missing
+head-one n a x y z e p = head-is n a y x y z e refl p

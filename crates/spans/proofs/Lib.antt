@@ -5,7 +5,10 @@ pub mod ClusterBytes
 pub mod PlainClusters
 pub mod PrintableBytes
 pub mod SyllablesAndOthers
-pub mod ReaderLaws
+pub mod FirstClusters
+pub mod TextEnd
+pub mod SkippedClusters
+pub mod SpanSteps
 pub mod Searching
 pub mod StretchCursor
 pub mod ReadCall

@@ -1,4 +1,4 @@
-use Rattle.spans.proofs.ReaderLaws.{on-sequence}
+use Rattle.spans.proofs.ClusterBytes.{on-sequence}
 use Rattle.spans.specs.Reader.{escapeHead}
 use borrow.Author.Needs.{needs}
 use Rattle.spans.proofs.reader.escape_head.Statement.{statement}

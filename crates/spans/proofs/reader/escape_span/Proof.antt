@@ -1,4 +1,4 @@
-use Rattle.spans.proofs.ReaderLaws.{escape-within, escape-fit, escape-ready, escape-step}
+use Rattle.spans.proofs.SpanSteps.{escape-within, escape-fit, escape-ready, escape-step}
 use borrow.Author.Needs.{needs}
 use Rattle.spans.proofs.reader.escape_span.Statement.{statement}
 use Rattle.spans.proofs.reader.escape_span.Tie as tie

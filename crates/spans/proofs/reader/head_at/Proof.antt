@@ -1,4 +1,4 @@
-use Rattle.spans.proofs.ReaderLaws.{headOf, head-is, head-one}
+use Rattle.spans.proofs.ClusterBytes.{headOf, head-is, head-one}
 use Rattle.lending.specs.Conditions.{branch}
 use borrow.Author.Needs.{needs}
 use Rattle.spans.proofs.reader.head_at.Statement.{statement}

@@ -1,4 +1,4 @@
-use Rattle.spans.proofs.ReaderLaws.{mark-part, mark-step}
+use Rattle.spans.proofs.SpanSteps.{mark-part, mark-step}
 use borrow.Author.Needs.{needs}
 use Rattle.spans.proofs.reader.mark_span.Statement.{statement}
 use Rattle.spans.proofs.reader.mark_span.Tie as tie

@@ -1,4 +1,4 @@
-use Rattle.spans.proofs.ReaderLaws.{control-ready, invalid-step, text-step, mark-ready, special-done}
+use Rattle.spans.proofs.SpanSteps.{control-ready, invalid-step, text-step, mark-ready, special-done}
 use borrow.Author.Needs.{needs}
 use Rattle.spans.proofs.reader.next_span.Statement.{statement}
 use Rattle.spans.proofs.reader.next_span.Tie as tie
