@@ -19,7 +19,7 @@ use Rattle.spans.specs.Sequence.{Sequence, sgr, eraseToEnd, ignored, hyperlink,
 use Rattle.spans.specs.Sequence.Laws.{parse-orders, parse-drawing, parse-some}
 use Rattle.spans.specs.Spans.{Content, text, control, invalid, unprintable, escape, tab, crlf, lf, Span, Record, aRecord, kindOf, matchOf, recordOf, records}
 use Rattle.spans.specs.Spans.ContentLaw.{sequenceIn, textIn, contentIn, contentOf}
-use Rattle.spans.specs.Contracts.{parametersAt, ordersAt}
+use Rattle.spans.specs.Sgr.Contracts.{parametersAt, ordersAt}
 use Rattle.spans.specs.declared.sgr.Sgr.{Sgr}
 use Rattle.drawing.specs.Attributes as attributes
 use Rattle.drawing.specs.Attributes.{Style, file, match, currentMatch}

@@ -1,4 +1,4 @@
-use Rattle.spans.proofs.CallLaws.{in-order-none, in-order-is}
+use Rattle.spans.proofs.ReadCall.{in-order-none, in-order-is}
 use borrow.Author.Needs.{needs}
 use Rattle.spans.proofs.are_in_order.Statement.{statement}
 use Rattle.spans.proofs.are_in_order.Tie as tie

@@ -1,4 +1,4 @@
-use Rattle.spans.proofs.CallLaws.{finish-accepted, finish-refused}
+use Rattle.spans.proofs.ReadCall.{finish-accepted, finish-refused}
 use borrow.Author.Needs.{needs}
 use Rattle.spans.proofs.finish.Statement.{statement}
 use Rattle.spans.proofs.finish.Tie as tie

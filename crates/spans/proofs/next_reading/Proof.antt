@@ -1,6 +1,6 @@
 use lib.Seq.{length-take-le}
 use mathlib.Core.Path.{sym}
-use Rattle.spans.proofs.CallLaws.{ongoing-fits, ongoing-ready, ongoing-next}
+use Rattle.spans.proofs.ReadCall.{ongoing-fits, ongoing-ready, ongoing-next}
 use borrow.Author.Needs.{needs}
 use Rattle.spans.proofs.next_reading.Statement.{statement}
 use Rattle.spans.proofs.next_reading.Tie as tie

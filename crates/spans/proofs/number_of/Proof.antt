@@ -1,6 +1,6 @@
 use lib.Seq.{length-take-le}
 use mathlib.Core.Path.{sym}
-use Rattle.spans.proofs.CallLaws.{number-fits, number-sound, number-more, number-all, number-same}
+use Rattle.spans.proofs.ReadCall.{number-fits, number-sound, number-more, number-all, number-same}
 use Rattle.spans.proofs.number_of.Statement.{statement}
 use Rattle.spans.proofs.number_of.Tie as tie
 use Rattle.spans.proofs.number_of.Reads as reads

@@ -1,4 +1,4 @@
-use Rattle.spans.proofs.CallLaws.{begin-ready, plan-begins, plan-refuses}
+use Rattle.spans.proofs.ReadCall.{begin-ready, plan-begins, plan-refuses}
 use borrow.Author.Needs.{needs}
 use Rattle.spans.proofs.plan.Statement.{statement}
 use Rattle.spans.proofs.plan.Tie as tie

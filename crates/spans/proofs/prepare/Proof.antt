@@ -1,6 +1,6 @@
 use lib.Seq.{length-take-le}
 use mathlib.Core.Path.{sym}
-use Rattle.spans.proofs.CallLaws.{count-fits, line-small, prepare-done, prepare-refused}
+use Rattle.spans.proofs.ReadCall.{count-fits, line-small, prepare-done, prepare-refused}
 use borrow.Author.Needs.{needs}
 use Rattle.spans.proofs.prepare.Statement.{statement}
 use Rattle.spans.proofs.prepare.Tie as tie
