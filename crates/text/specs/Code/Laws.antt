@@ -53,10 +53,10 @@ run-front-bytes [] = ([], refl)
 run-front-bytes (wellFormed c ∷ ds) = let w = run-front-bytes ds in (w .0, ap (λ (l : List ℕ). c .bytes ++ l) (w .1) ∙ sym (append-assoc (c .bytes) (bytesOf (runOf ds)) (w .0)))
 run-front-bytes (illFormed b ∷ ds) = (b ∷ decodedBytes ds, refl)
 
-wells : (a : List Scalar) (ds : List Decoded) → runOf (map wellFormed a ++ ds) ≡ a ++ runOf ds
+pub run-wells : (a : List Scalar) (ds : List Decoded) → runOf (map wellFormed a ++ ds) ≡ a ++ runOf ds
 unfolding runOf
-wells [] ds = refl
-wells (c ∷ a) ds = ap (λ (l : List Scalar). c ∷ l) (wells a ds)
+run-wells [] ds = refl
+run-wells (c ∷ a) ds = ap (λ (l : List Scalar). c ∷ l) (run-wells a ds)
 
 tailOf : List Scalar → List Scalar
 tailOf [] = []
@@ -96,7 +96,7 @@ module _ (s : List ℕ) (a b : List Scalar) (e : runOf (decode s) ≡ a ++ b) wh
   pub run-behind : runOf (decode (drop (size a) s)) ≡ b
   run-behind =
       same-rest a
-      (sym (wells a (decode (drop (size a) s)))
+      (sym (run-wells a (decode (drop (size a) s)))
       ∙ ap runOf (sym (decode-text (both-valid .0) (drop (size a) s)))
       ∙ ap (λ (l : List ℕ). runOf (decode l)) (ap (λ (l : List ℕ). bytesOf a ++ l) behind-bytes ∙ sym run-bytes)
       ∙ e)
