@@ -9,7 +9,7 @@ use lib.Seq.{getD-take}
 use lib.Dec.{eqb, leb, eqb→eq, leb→le}
 use borrow.Author.Tests.{ne-eqb, le-leb, lt-leb, eqb-true}
 use Rattle.text.specs.Tests.{and-T, cases, is-true, or-T, true-T}
-use Rattle.text.specs.Utf8.{Scalar, ascii, decode, runOf, bytesOf, sameBytes, reads}
+use Rattle.text.specs.Utf8.{Scalar, ascii, decode, runOf, bytesOf}
 use Rattle.text.specs.Class.{Profile}
 use Rattle.text.specs.Width.{widthOf}
 use Rattle.text.specs.Cluster.{clusters}
@@ -46,7 +46,7 @@ seenOf g n a y w f =
 
 module _ (P : Profile) (g : List Scalar) (y : ℕ) (s : List ℕ) where
   seen-by : (b : List ℕ) → bytesOf g ≡ b → (1 < length b → y ≡ getD b 1 0) → seen P g s ≡ seenOf g (length b) (getD b 0 0) y (widthOf P g) (parse s)
-  unfolding seen reads sameBytes controlSeen seenOf lastSeen
+  unfolding seen controlSeen seenOf lastSeen
   seen-by [] e f = rw e
   seen-by (x ∷ []) e f = rw e (simp (and-true, and-false))
   seen-by (x ∷ z ∷ []) e f = let q : y ≡ z = f (omega arith) in rw (e, q) (simp (and-true, and-false))

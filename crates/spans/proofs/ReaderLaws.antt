@@ -11,7 +11,7 @@ use lib.ListN.{length, take, drop, getD, length-append, length-drop, drop-of-len
 use lib.Seq.{drop-cons, drop-drop, getD-drop, getD-take, slice, length-slice}
 use borrow.Author.Tests.{eqb-true, eqb-false, ne-eqb, ltb-true}
 use lib.Dec.{eqb, leb, ltb, eqb→eq, nltb→le}
-use Rattle.text.specs.Tests.{cases, and-T, true-T}
+use Rattle.text.specs.Tests.{cases, and-T, is-true, true-T}
 use Rattle.text.specs.Utf8.{Scalar, ascii, decode, runOf, bytesOf}
 use Rattle.text.specs.Utf8.Laws.{bytes-nil, bytesOf-append}
 use Rattle.text.specs.Utf8.Runs.{run-fits}
@@ -28,7 +28,7 @@ use Rattle.text.specs.Code.Boundaries.{Boundary, lone-boundary}
 use Rattle.text.specs.Code.Laws.{FirstCluster, run-nil, size-cons, size-nil}
 use Rattle.text.specs.Code.Profile01.{ascii-classes}
 use Rattle.text.specs.Scalar.{packedAt}
-use Rattle.text.specs.Scalar.Laws.{first-some, packed-inside, packed-none, packed-some}
+use Rattle.text.specs.Scalar.Laws.{first-some, packed-inside, packed-none}
 use Rattle.text.specs.Segmentation.{NextCluster, NextClusterReady}
 use Rattle.text.specs.TextParts.{textAt}
 use Rattle.text.specs.TextParts.Laws.{ascii-at, first-there}
@@ -39,13 +39,13 @@ use Rattle.spans.specs.Sequence.{sgr, eraseToEnd, ignored, hyperlink, li
 use Rattle.spans.specs.Sequence.Laws.{parse-length, parse-last}
 use Rattle.spans.specs.Spans.{Content, Span, span, Seen, plain, special, seen, spansAt, text, control, invalid, unprintable, escape, tab, crlf, lf, Record, aRecord, kindOf, matchOf, recordOf, records}
 use Rattle.spans.specs.Spans.Steps.{extent, isPlain, plainCluster, plain-same, plainSize, plainText, skipped, step-text, step-special, step-invalid, NoText, seen-noText}
-use Rattle.spans.specs.Contracts.{c0NotCr, clustersAt, PlainTo, clustersSize, ClustersTo, runAt, Part, Within, Ahead, SkipReady, Skip, told, escapeLook, lookBytes, aLook, Fresh, Ready, isMatch, matchIn, textRecord, recordsFrom, invalidAt, Stepped, ControlReady, Escaping, Mark, SpecialStep}
+use Rattle.spans.specs.Contracts.{c0NotCr, clustersAt, PlainTo, clustersSize, printablePair, ClustersTo, runAt, Part, Within, Ahead, SkipReady, Skip, told, escapeLook, lookBytes, aLook, Fresh, Ready, isMatch, matchIn, textRecord, recordsFrom, invalidAt, Stepped, ControlReady, Escaping, Mark, SpecialStep}
 use Rattle.spans.specs.declared.sequence.Sequence as sequence
 use Rattle.spans.specs.declared.reader.Look.{Look}
 use Rattle.spans.specs.declared.reader.Place.{Place}
 use Rattle.spans.specs.declared.reader.Matched.{Matched}
 use Rattle.spans.specs.declared.reader.NextSpan.{NextSpan}
-use Rattle.spans.proofs.ClusterBytes.{plain-width, first-byte, look-bytes, lookOf}
+use Rattle.spans.proofs.ClusterBytes.{plain-width, look-bytes, lookOf}
 use Rattle.spans.proofs.PlainClusters.{control-end, control-size, plain-here, plain-on}
 use Rattle.spans.proofs.Sequences.{part-slice}
 
@@ -91,7 +91,7 @@ run-inside t at = rw (size-is (runOf (decode (drop at t))), ← length-drop at t
 pub record ClustersLoop (P : Profile) (t : List ℕ) (at p u : ℕ) : Type 0 where
   pub to : PlainTo P t at p
   pub scalar : u ≡ packedAt P t p
-  pub work : p + clustersSize P false (clustersAt P (drop p t)) ≡ at + clustersSize P false (clustersAt P (drop at t))
+  pub work : p + clustersSize P false (drop p t) (clustersAt P (drop p t)) ≡ at + clustersSize P false (drop at t) (clustersAt P (drop at t))
 
 pub clusters-begin : (P : Profile) (t : List ℕ) (at u : ℕ) → at < length t → u ≡ packedAt P t at → ClustersLoop P t at at u
 clusters-begin P t at u h e = record { to = plain-here P t at (omega (arith, h)); scalar = e; work = refl }
@@ -106,20 +106,16 @@ printable-at t p e =
 printable-wide : (v : code.Profile) (t : List ℕ) (p : ℕ) → printable (getD t p 0) ≡ true → 1 ≤ widthOf (profileOf v) (firstOf (clusters (profileOf v) (textAt t p)))
 printable-wide v t p e = rw (printable-at t p e) (printable-width (profileOf v) (ascii-classes v) (getD t p 0) (textAt t (p + 1)) e)
 
--- clusters behind others, by the byte that they begin with
-module _ (P : Profile) (t : List ℕ) (e : ℕ) where
-  begins : (g : List Scalar) (gs : List (List Scalar)) → clustersAt P (drop e t) ≡ g ∷ gs → getD (bytesOf g) 0 0 ≡ getD t e 0
-  begins g gs q = first-byte P (drop e t) g gs q ∙ byte-here P t e
+-- clusters behind others, by the bytes there
+behind-same : (P : Profile) (s : List ℕ) (gs : List (List Scalar)) → printablePair s ≡ false → clustersSize P true s gs ≡ clustersSize P false s gs
+unfolding clustersSize
+behind-same P s [] k = refl
+behind-same P s (g ∷ gs) k = rw k refl
 
-  behind-same : (gs : List (List Scalar)) → clustersAt P (drop e t) ≡ gs → printable (getD t e 0) ≡ false → clustersSize P true gs ≡ clustersSize P false gs
-  unfolding clustersSize
-  behind-same [] q k = refl
-  behind-same (g ∷ gs) q k = rw (begins g gs q, k) refl
-
-  behind-none : (gs : List (List Scalar)) → clustersAt P (drop e t) ≡ gs → printable (getD t e 0) ≡ true → clustersSize P true gs ≡ 0
-  unfolding clustersSize
-  behind-none [] q k = refl
-  behind-none (g ∷ gs) q k = rw (begins g gs q, k) refl
+behind-none : (P : Profile) (s : List ℕ) (gs : List (List Scalar)) → printablePair s ≡ true → clustersSize P true s gs ≡ 0
+unfolding clustersSize
+behind-none P s [] k = refl
+behind-none P s (g ∷ gs) k = rw k refl
 
 module _ (v : code.Profile) (t : List ℕ) (at p u : ℕ) (z : ClustersLoop (profileOf v) t at p u) where
   pub clusters-past : u ≡ 0 → ClustersTo (profileOf v) t at p
@@ -128,7 +124,7 @@ module _ (v : code.Profile) (t : List ℕ) (at p u : ℕ) (z : ClustersLoop (pro
       let m : textAt t p ≡ [] = packed-none (profileOf v) t p u (z .scalar) e in
       let n : clustersAt (profileOf v) (drop p t) ≡ [] = ap (clusters (profileOf v)) m ∙ clusters-nil (profileOf v) in
       record {
-        is = omega (arith, z .work, ap (clustersSize (profileOf v) false) n);
+        is = omega (arith, z .work, ap (clustersSize (profileOf v) false (drop p t)) n);
         to = z .to;
         ends = λ k. ap (plainSize (profileOf v)) n;
         further = λ k. absurd (omega (arith, ap size (sym (printable-at t p k) ∙ m), size-nil, size-cons (ascii (getD t p 0)) (textAt t (p + 1))));
@@ -161,15 +157,19 @@ module _ (v : code.Profile) (t : List ℕ) (at p u : ℕ) (z : ClustersLoop (pro
       unfolding first
       plain-is = plain-width v (drop p t) first behind is ∙ ap (λ (k : ℕ). not (eqb k 0)) (sym (n .part .width))
 
+      no-text : r .part .width .0 ≡ 0 → plainSize (profileOf v) (clustersAt (profileOf v) (drop p t)) ≡ 0
+      unfolding plainSize
+      no-text e = let b : plainCluster (profileOf v) first ≡ false = plain-is ∙ rw e refl in rw (is, b) refl
+
       pub clusters-stop : r .part .width .0 ≡ 0 → ClustersTo (profileOf v) t at p
-      unfolding plainSize clustersSize
+      unfolding clustersSize
       clusters-stop e =
           let b : plainCluster (profileOf v) first ≡ false = plain-is ∙ rw e refl in
-          let m : clustersSize (profileOf v) false (clustersAt (profileOf v) (drop p t)) ≡ 0 = rw (is, b) refl in
+          let m : clustersSize (profileOf v) false (drop p t) (clustersAt (profileOf v) (drop p t)) ≡ 0 = rw (is, b) refl in
           record {
             is = omega (arith, z .work, m);
             to = z .to;
-            ends = λ k. rw (is, b) refl;
+            ends = λ k. no-text e;
             further = λ k. absurd (omega (arith, printable-wide v t p k, n .part .width, e));
           }
 
@@ -193,23 +193,27 @@ module _ (v : code.Profile) (t : List ℕ) (at p u : ℕ) (z : ClustersLoop (pro
               low = n .part .inside;
             })
 
-        work-on : r .part .end .0 + clustersSize (profileOf v) true behind ≡ at + clustersSize (profileOf v) false (clustersAt (profileOf v) (drop at t))
+        work-on : r .part .end .0 + clustersSize (profileOf v) true (drop (r .part .end .0) t) behind ≡ at + clustersSize (profileOf v) false (drop at t) (clustersAt (profileOf v) (drop at t))
         unfolding clustersSize
         work-on =
-            let m : clustersSize (profileOf v) false (clustersAt (profileOf v) (drop p t)) ≡ extent first + clustersSize (profileOf v) true behind = rw (is, plain-here-is) refl in
+            let d : drop (extent first) (drop p t) ≡ drop (r .part .end .0) t = drop-drop (extent first) p t ∙ ap (λ (k : ℕ). drop k t) (sym end-is) in
+            let m : clustersSize (profileOf v) false (drop p t) (clustersAt (profileOf v) (drop p t)) ≡ extent first + clustersSize (profileOf v) true (drop (r .part .end .0) t) behind = rw (is, plain-here-is, d) refl in
             omega (arith, end-is, m, z .work)
 
-        module _ (b : ℕ) (x : Bool) (e : b ≡ getD t (r .part .end .0) 0) (f : x ≡ printable b) where
-          pub clusters-more : x ≡ false → ClustersLoop (profileOf v) t at (r .part .end .0) (r .next)
-          clusters-more q =
-              let k : printable (getD t (r .part .end .0) 0) ≡ false = rw e at (sym f ∙ q) in
-              record { to = clusters-on; scalar = n .next; work = rw (others, ← behind-same (profileOf v) t (r .part .end .0) behind others k) work-on }
+        module _ (a b : ℕ) (x : Bool) (e : a ≡ getD t (r .part .end .0) 0) (g : b ≡ getD t (r .part .end .0 + 1) 0) (f : x ≡ printable a) where
+          pair-is : printablePair (drop (r .part .end .0) t) ≡ (x && ltb b 0x80)
+          pair-is =
+              let h : getD (drop (r .part .end .0) t) 0 0 ≡ a = getD-drop (r .part .end .0) t 0 0 ∙ ap (λ (k : ℕ). getD t k 0) (add-zero (r .part .end .0)) ∙ sym e in
+              ap₂ (λ (k l : ℕ). printable k && ltb l 0x80) h (getD-drop (r .part .end .0) t 1 0 ∙ sym g) ∙ ap (λ (k : Bool). k && ltb b 0x80) (sym f)
 
-          pub clusters-printable : x ≡ true → ClustersTo (profileOf v) t at (r .part .end .0)
+          pub clusters-more : (x && ltb b 0x80) ≡ false → ClustersLoop (profileOf v) t at (r .part .end .0) (r .next)
+          clusters-more q = record { to = clusters-on; scalar = n .next; work = rw (others, ← behind-same (profileOf v) (drop (r .part .end .0) t) behind (pair-is ∙ q)) work-on }
+
+          pub clusters-printable : (x && ltb b 0x80) ≡ true → ClustersTo (profileOf v) t at (r .part .end .0)
           clusters-printable q =
-              let k : printable (getD t (r .part .end .0) 0) ≡ true = rw e at (sym f ∙ q) in
+              let k : printable (getD t (r .part .end .0) 0) ≡ true = rw (← e, ← f) (is-true x (and-T x (ltb b 0x80) (true-T q) .0)) in
               record {
-                is = omega (arith, work-on, behind-none (profileOf v) t (r .part .end .0) behind others k);
+                is = omega (arith, work-on, behind-none (profileOf v) (drop (r .part .end .0) t) behind (pair-is ∙ q));
                 to = clusters-on;
                 ends = λ y. absurd (true≢false (sym k ∙ y));
                 further = λ y. omega (arith, clusters-less, z .to .up, n .part .inside);
@@ -650,23 +654,8 @@ module _ (P : Profile) (t : List ℕ) (c : Place) (z : Ready t c) where
           low = omega (arith, z .here);
         })
 
-    pub mark-ready : (x : Bool) (a end e : ℕ) → a ≡ getD t (c .at) 0 → x ≡ c0NotCr a → x ≡ false → (u ≡ 0 → ⊥) → end ≡ c .at + plainSize P (clustersAt P (drop (c .at) t)) → end ≤ c .at
-        → e ≡ c .at + firstSize P (runOf (decode (drop (c .at) t))) → Mark P t c e
-    mark-ready x a end e b q w n g h k =
-        let v = packed-some P t (c .at) u f n in
-        let i : c .at < runAt t (c .at) = rw (v .run, size-cons (v .scalar)) (omega (arith, v .len, v .some)) in
-        record {
-          ready = z;
-          special = omega arith;
-          ends = k;
-          some = by-first (clustersAt P (drop (c .at) t))
-              (λ y. absurd (omega (arith, size-none P (drop (c .at) t) y)))
-              (λ y ys r. omega (arith, first-size P (runOf (decode (drop (c .at) t))) y ys r, cluster-some P (drop (c .at) t) y ys r));
-          other = λ y. let j : a ≡ 0x1B = b ∙ y in let o : true ≡ false = rw j at (sym q ∙ w) in absurd (true≢false o);
-        }
-
   module _ (end : ℕ) (g : end ≡ c .at + plainSize P (clustersAt P (drop (c .at) t))) where
-    pub text-step : (m : Matched) (r : Record) → c .at < end → r ≡ textRecord m (c .at) (end - c .at) → Stepped P t m (c .at) (record { span = r; place = record { at = end; run = c .run } })
+    text-step : (m : Matched) (r : Record) → c .at < end → r ≡ textRecord m (c .at) (end - c .at) → Stepped P t m (c .at) (record { span = r; place = record { at = end; run = c .run } })
     unfolding recordsFrom records plainSize
     text-step m r h e =
         let at : ℕ = c .at in
@@ -688,3 +677,28 @@ module _ (P : Profile) (t : List ℕ) (c : Place) (z : Ready t c) where
 
   pub special-done : (m : Matched) (r : NextSpan) → SpecialStep P t (c .at) r → Stepped P t m (c .at) r
   special-done m r h = h m
+
+-- the first cluster: a mark where it has no width, else the beginning of a text
+module _ (v : code.Profile) (t : List ℕ) (c : Place) (z : Ready t c) (u : ℕ) (f : u ≡ packedAt (profileOf v) t (c .at)) (some : u ≢ 0) (r : ClusterStep) (n : NextCluster (profileOf v) t (c .at) r) where
+  begin : ClustersLoop (profileOf v) t (c .at) (c .at) u
+  begin = clusters-begin (profileOf v) t (c .at) u (z .here) f
+
+  first-up : c .at < r .part .end .0
+  first-up = omega (arith, clusters-less v t (c .at) (c .at) u begin some r n, n .part .inside)
+
+  pub mark-ready : (x : Bool) (a : ℕ) → a ≡ getD t (c .at) 0 → x ≡ c0NotCr a → x ≡ false → r .part .width .0 ≡ 0 → Mark (profileOf v) t c (r .part .end .0)
+  unfolding firstSize
+  mark-ready x a b q w e = record {
+    ready = z;
+    special = no-text v t (c .at) (c .at) u begin some r n e;
+    ends = n .part .end;
+    some = first-up;
+    other = λ y. let j : a ≡ 0x1B = b ∙ y in let o : true ≡ false = rw j at (sym q ∙ w) in absurd (true≢false o);
+  }
+
+  module _ (wide : r .part .width .0 ≢ 0) (end : ℕ) (g : end ≡ r .part .end .0 + plainSize (profileOf v) (clustersAt (profileOf v) (drop (r .part .end .0) t))) where
+    pub text-up : c .at ≤ end
+    text-up = omega (arith, first-up, g)
+
+    pub text-done : (m : Matched) (s : Record) → s ≡ textRecord m (c .at) (end - c .at) → Stepped (profileOf v) t m (c .at) (record { span = s; place = record { at = end; run = c .run } })
+    text-done m s e = text-step (profileOf v) t c z end (g ∙ clusters-on v t (c .at) (c .at) u begin some r n wide .same) m s (omega (arith, first-up, g)) e

@@ -16,7 +16,7 @@ use Rattle.text.specs.Code.{firstSequence, isTail, jamo, printable, prof
 use Rattle.text.specs.Segmentation.{neverJoinsBefore}
 use Rattle.text.specs.Code.Boundaries.{alone, alone-numbers, lone-alone}
 use Rattle.text.specs.Tests.{and-T, cases, is-false, is-true, or-T, true-T, in-range, every, every-one}
-use Rattle.text.specs.Utf8.{Range, decode, to, value, within}
+use Rattle.text.specs.Utf8.{Range, decode, decodeFrom, to, value, within}
 use Rattle.text.specs.Utf8.Ascii.{low-sequence}
 use Rattle.text.specs.Width.{wides, width01}
 use Rattle.text.proofs.Units.{first-by}
@@ -85,6 +85,12 @@ ascii-sequence s p a h e l =
 
 pub ascii-first : (s : List ℕ) (p a : ℕ) → p < length s → a ≡ getD s p 0 → a ≤ 0x7F → sequenceOf a 1 ≡ firstSequence (decode (drop p s))
 ascii-first s p a h e l = ascii-sequence s p a h e (omega arith)
+
+-- no bytes begin with a sequence
+pub no-sequence : (s : List ℕ) → length s ≡ 0 → sequenceOf 0 0 ≡ firstSequence (decode s)
+unfolding firstSequence decode decodeFrom
+no-sequence [] h = refl
+no-sequence (b ∷ s) h = absurd (omega arith)
 
 -- of two bytes below 80, the first not CR, no rule of the profile joins the second to the first
 pub apart : (p : code.Profile) (b a : ℕ) (k : Context) → b < 128 → a < 128 → (b ≢ 13) → joined (number (profileOf p .class b)) k (number (profileOf p .class a)) ≡ false

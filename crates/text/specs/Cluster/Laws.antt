@@ -1,12 +1,13 @@
 -- A text's clusters hold its scalars, and are found one after the other.
 use mathlib.Core.Path.{_≡_, refl, sym, ap, ap₂, _∙_}
-use Prim.Native.Nat.{ℕ, suc}
+use Prim.Native.Nat.{ℕ, suc, _+_}
 use mathlib.Core.Bool.{Bool, true, false, not, cond, _&&_, true≢false}
 use mathlib.Core.List.{List, [], _∷_, _++_}
-use lib.ListN.{take, drop}
+use lib.ListN.{length, take, drop, length-append}
 use lib.Dec.{T, eqb, eqb→eq}
 use Rattle.text.specs.Tests.{and-T, is-true, true-T, cases}
-use Rattle.text.specs.Utf8.{Scalar}
+use Rattle.text.specs.Utf8.{Scalar, bytesOf}
+use Rattle.text.specs.Utf8.Laws.{bytesOf-append}
 use Rattle.text.specs.Class.{Profile, among, number}
 use Rattle.text.specs.Cluster.{Context, start, after, joined, classOf, context, joins, joinsNext, addToCluster, clustersAfter, clusters, joinAll}
 
@@ -17,6 +18,13 @@ join-nil = refl
 pub join-cons : (g : List Scalar) (gs : List (List Scalar)) → joinAll (g ∷ gs) ≡ g ++ joinAll gs
 unfolding joinAll
 join-cons g gs = refl
+
+-- their bytes
+pub join-bytes : (g : List Scalar) (gs : List (List Scalar)) → bytesOf (joinAll (g ∷ gs)) ≡ bytesOf g ++ bytesOf (joinAll gs)
+join-bytes g gs = ap bytesOf (join-cons g gs) ∙ bytesOf-append g (joinAll gs)
+
+pub join-length : (g : List Scalar) (gs : List (List Scalar)) → length (bytesOf (joinAll (g ∷ gs))) ≡ length (bytesOf g) + length (bytesOf (joinAll gs))
+join-length g gs = ap length (join-bytes g gs) ∙ length-append (bytesOf g) (bytesOf (joinAll gs))
 
 module _ (P : Profile) where
   addToCluster-all : (w : Bool) (c : Scalar) (gs : List (List Scalar)) → joinAll (addToCluster P w c gs) ≡ c ∷ joinAll gs
