@@ -19,7 +19,7 @@ use Rattle.text.specs.Tests.{and-T, cases, is-false, is-true, or-T, true
 use Rattle.text.specs.Utf8.{Range, decode, decodeFrom, to, value, within}
 use Rattle.text.specs.Utf8.Ascii.{low-sequence}
 use Rattle.text.specs.Width.{wides, width01}
-use Rattle.text.proofs.Units.{first-by}
+use Rattle.text.proofs.SequenceBytes.{first-by}
 use Rattle.text.specs.declared.class.Profile as code
 
 -- ---- below 80

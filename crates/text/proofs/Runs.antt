@@ -16,7 +16,7 @@ use Rattle.text.specs.Utf8.{Scalar, decode, decodeFrom, sequence, value}
 use Rattle.text.specs.Utf8.Laws.{sequence-le}
 use Rattle.text.specs.declared.utf8.Sequence.{Sequence}
 use Rattle.text.proofs.ContinuationBytes.{back-to, seq-lead, seq-tails}
-use Rattle.text.proofs.Units.{first-by, run-end, run-more, run-none}
+use Rattle.text.proofs.SequenceBytes.{first-by, run-end, run-more, run-none}
 
 pub record Head (s : List ℕ) (d : Scalar) (es : List Scalar) : Type 0 where
   pub some : 1 ≤ length (d .bytes)
