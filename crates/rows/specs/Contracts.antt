@@ -16,7 +16,7 @@ use Rattle.text.specs.Cluster.{clusters}
 use Rattle.spans.specs.Spans.{Record}
 use Rattle.spans.specs.Spans.ContentLaw.{textIn}
 use Rattle.spans.specs.Calls.{Read}
-use Rattle.spans.specs.Contracts.{readAs}
+use Rattle.spans.specs.Calls.Contracts.{readAs}
 use Rattle.spans.specs.Numbers.{ReadNumbers}
 use Rattle.rows.specs.Words.{Word, words}
 use Rattle.rows.specs.Words.Laws.{firstWord}

@@ -44,7 +44,7 @@ use Rattle.text.specs.declared.Answer.{Answer}
 use Rattle.text.proofs.Answer as R
 use Rattle.text.proofs.Answer.Laws as R′
 use Rattle.spans.specs.declared.Span.{Span}
-use Rattle.spans.specs.Contracts.{readAs}
+use Rattle.spans.specs.Calls.Contracts.{readAs}
 use Rattle.spans.proofs.Span as T
 use Rattle.rows.specs.Calls.{heightCall}
 use Rattle.rows.specs.Contracts.{Called}

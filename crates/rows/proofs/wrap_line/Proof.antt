@@ -45,7 +45,7 @@ use Rattle.text.proofs.Answer as R
 use Rattle.text.proofs.Answer.Laws as R′
 use Rattle.spans.specs.declared.Span.{Span}
 use Rattle.spans.specs.Calls.{noRecord, readCall}
-use Rattle.spans.specs.Contracts.{readAs}
+use Rattle.spans.specs.Calls.Contracts.{readAs}
 use Rattle.spans.proofs.Span as T
 use Rattle.buffer.specs.Sink.{cleared}
 use Rattle.rows.specs.Contracts.{SpansRoom, MadeWrap, beginning, wrappingOf, decided, outcomeOf, answerOf, Called}

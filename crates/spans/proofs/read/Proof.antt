@@ -1,4 +1,4 @@
--- A walk of the code, by hand, with four calls. The buffer is lent again to `prepare`; the list is lent again, and the buffer as a `&`, to `fill`; the buffer goes to `finish` and the list to `clear_spans` for good. Of each callee the proof knows its contract alone.
+-- A walk of the code, by hand, with four calls. The buffer is lent again to `prepare`; the list is lent again, and the buffer as a `&`, to `parse_spans`; the buffer goes to `finish` and the list to `clear_spans` for good. Of each callee the proof knows its contract alone.
 use mathlib.Core.Path.{_≡_, refl, sym, _∙_, ap, subst}
 use Prim.Native.Nat.{ℕ, _<_, _^_, _-_}
 use mathlib.Core.List.{[], _∷_, List, _++_}
@@ -45,8 +45,8 @@ use Rattle.text.proofs.Answer.Laws as R′
 use Rattle.spans.specs.declared.Span.{Span}
 use Rattle.spans.specs.declared.Reading.{Reading}
 use Rattle.spans.specs.Calls.{noRecord, readCall}
-use Rattle.spans.specs.Contracts.{readAs, Prepared, Fillable, Filled, Holds as HoldsIn, Finished}
-use Rattle.spans.proofs.CallLaws.{fill-ready, read-done}
+use Rattle.spans.specs.Calls.Contracts.{readAs, Prepared, ParseSpansReady, SpansParsed, Holds as HoldsIn, Finished}
+use Rattle.spans.proofs.ReadCall.{parse-ready, read-done}
 use Rattle.spans.proofs.Span as T
 use Rattle.spans.proofs.Span.Laws as T′
 use Rattle.spans.proofs.Reading as K
@@ -57,10 +57,10 @@ use Rattle.spans.proofs.prepare as prep
 use Rattle.spans.proofs.prepare.Symbol as prep-def
 use Rattle.spans.proofs.prepare.Symbol.{name as #spans·prepare}
 use Rattle.spans.proofs.prepare.Met as prep-thm
-use Rattle.spans.proofs.fill as fill
-use Rattle.spans.proofs.fill.Symbol as fill-def
-use Rattle.spans.proofs.fill.Symbol.{name as #spans·fill}
-use Rattle.spans.proofs.fill.Met as fill-thm
+use Rattle.spans.proofs.parse_spans as parse_spans
+use Rattle.spans.proofs.parse_spans.Symbol as parse-def
+use Rattle.spans.proofs.parse_spans.Symbol.{name as #spans·parse_spans}
+use Rattle.spans.proofs.parse_spans.Met as parse-thm
 use Rattle.spans.proofs.finish as fin
 use Rattle.spans.proofs.finish.Symbol as fin-def
 use Rattle.spans.proofs.finish.Symbol.{name as #spans·finish}
@@ -100,8 +100,8 @@ module _ {M : Type 1} (𝓤 : URA M) (H : Heap 𝓤) (A : Atoms 𝓤) (mem : Mem
   abbrev Prep : Contract 𝓤
   Prep = tripleOf 𝓤 H A prep.signature (prep.spec 𝓤 H A mem run)
 
-  abbrev Fill : Contract 𝓤
-  Fill = tripleOf 𝓤 H A fill.signature (fill.spec 𝓤 H A mem run)
+  abbrev Parse : Contract 𝓤
+  Parse = tripleOf 𝓤 H A parse_spans.signature (parse_spans.spec 𝓤 H A mem run)
 
   abbrev Fin : Contract 𝓤
   Fin = tripleOf 𝓤 H A fin.signature (fin.spec 𝓤 H A mem run)
@@ -186,12 +186,12 @@ module _ {M : Type 1} (𝓤 : URA M) (H : Heap 𝓤) (A : Atoms 𝓤) (W : Given
   abbrev SharedConv : ℕ → GName → List ℕ → Item 𝓤
   SharedConv μ δ zs = ‵ (ShrSlice (named 1) (μ ∷ []) u8 .own (x δ zs) (tv (length ts) ∷ []))
 
-  abbrev to-fill : ℕ → GName → ℕ → GName → List ℕ → Reading → Fill 𝓤 H A mem run .Ghost
-  to-fill μ ε μ′ δ zs c = (((μ ∷ [], (μ′ ∷ [], (κm, tt))), (fullShare, (fullShare, (qm, tt))), tt, (y ε ss, (x δ zs, (found, (c, tt)))), (sv (length ss) ∷ [], (tv (length ts) ∷ [], (mv ∷ [], (kmach c ∷ [], tt))))), tt)
+  abbrev to-parse : ℕ → GName → ℕ → GName → List ℕ → Reading → Parse 𝓤 H A mem run .Ghost
+  to-parse μ ε μ′ δ zs c = (((μ ∷ [], (μ′ ∷ [], (κm, tt))), (fullShare, (fullShare, (qm, tt))), tt, (y ε ss, (x δ zs, (found, (c, tt)))), (sv (length ss) ∷ [], (tv (length ts) ∷ [], (mv ∷ [], (kmach c ∷ [], tt))))), tt)
 
-  goes-fill : (μ : ℕ) (ε : GName) (μ′ : ℕ) (δ : GName) (zs : List ℕ) (c : Reading) → Is K.the-row c (kvals c) → Fillable zs (found .now) (length ss) c
-      → ent 𝓤 (sep 𝓤 (sep 𝓤 (A .lft (μ ∷ []) fullShare) (sep 𝓤 (A .lft (μ′ ∷ []) fullShare) (A .lft κm qm))) (sep 𝓤 (sem 𝓤 H A (MutSlice (named 0) (μ ∷ []) T.the-row .own (y ε ss) (sv (length ss) ∷ []))) (sep 𝓤 (sem 𝓤 H A (ShrSlice (named 1) (μ′ ∷ []) u8 .own (x δ zs) (tv (length ts) ∷ []))) (sem 𝓤 H A (ShrSlice (named 1) κm usize .own found (mv ∷ [])))))) (Fill 𝓤 H A mem run .pre (to-fill μ ε μ′ δ zs c))
-  goes-fill μ ε μ′ δ zs c is h = qed W ((‵ (flft (μ ∷ []) fullShare) ⊛ ‵ (flft (μ′ ∷ []) fullShare) ⊛ ‵ (flft κm qm)) ∷ NewSpans μ ε ∷ (SharedConv μ′ δ zs ⊛ FoundOwn) ∷ []) ∵
+  goes-parse : (μ : ℕ) (ε : GName) (μ′ : ℕ) (δ : GName) (zs : List ℕ) (c : Reading) → Is K.the-row c (kvals c) → ParseSpansReady zs (found .now) (length ss) c
+      → ent 𝓤 (sep 𝓤 (sep 𝓤 (A .lft (μ ∷ []) fullShare) (sep 𝓤 (A .lft (μ′ ∷ []) fullShare) (A .lft κm qm))) (sep 𝓤 (sem 𝓤 H A (MutSlice (named 0) (μ ∷ []) T.the-row .own (y ε ss) (sv (length ss) ∷ []))) (sep 𝓤 (sem 𝓤 H A (ShrSlice (named 1) (μ′ ∷ []) u8 .own (x δ zs) (tv (length ts) ∷ []))) (sem 𝓤 H A (ShrSlice (named 1) κm usize .own found (mv ∷ [])))))) (Parse 𝓤 H A mem run .pre (to-parse μ ε μ′ δ zs c))
+  goes-parse μ ε μ′ δ zs c is h = qed W ((‵ (flft (μ ∷ []) fullShare) ⊛ ‵ (flft (μ′ ∷ []) fullShare) ⊛ ‵ (flft κm qm)) ∷ NewSpans μ ε ∷ (SharedConv μ′ δ zs ⊛ FoundOwn) ∷ []) ∵
       says ! h $ split ! $ move ! (1 ∷ []) $ split ! $ nothing ! $ move ! (2 ∷ 0 ∷ []) $ join ! $ move ! (1 ∷ 0 ∷ []) $ join ! $ move ! (1 ∷ 0 ∷ []) $ join ! $
       nothing ! $ owned ! K.the-row (Is K.the-row) (LL.makes K.the-type K′.the-plain 𝓤 H A) c _ is $ fjoin ! $ move ! (3 ∷ []) $ split ! $ move ! (1 ∷ 2 ∷ []) $ fjoin ! $ move ! (1 ∷ 0 ∷ []) $ fjoin ! $ move ! (2 ∷ 0 ∷ []) $ fjoin ! $ move ! (1 ∷ 0 ∷ []) $ done !
 
@@ -224,7 +224,7 @@ module _ {M : Type 1} (𝓤 : URA M) (H : Heap 𝓤) (A : Atoms 𝓤) (W : Given
   unit-typed : (v : Val) → v ∷ [] ≡ vunit ∷ [] → Holds (hasTy tyUnit v) × WT v
   unit-typed v e = subst (λ (u : Val). Holds (hasTy tyUnit u) × WT u) (sym (ap only e)) (tt, tt)
 
-  module _ (C : Calls 𝓤 H) (Λ : Loops 𝓤 H) (fm : FmC 𝓤 H (W .laws) C) (known-prep : Triple 𝓤 (C #spans·prepare) (Prep 𝓤 H A mem run)) (known-fill : Triple 𝓤 (C #spans·fill) (Fill 𝓤 H A mem run)) (known-fin : Triple 𝓤 (C #spans·finish) (Fin 𝓤 H A mem run)) (known-clear : Triple 𝓤 (C #spans·clear-spans) (Clear 𝓤 H A mem run)) where
+  module _ (C : Calls 𝓤 H) (Λ : Loops 𝓤 H) (fm : FmC 𝓤 H (W .laws) C) (known-prep : Triple 𝓤 (C #spans·prepare) (Prep 𝓤 H A mem run)) (known-parse : Triple 𝓤 (C #spans·parse_spans) (Parse 𝓤 H A mem run)) (known-fin : Triple 𝓤 (C #spans·finish) (Fin 𝓤 H A mem run)) (known-clear : Triple 𝓤 (C #spans·clear-spans) (Clear 𝓤 H A mem run)) where
     walk : ent 𝓤 (onEntry 𝓤 H A f.signature (κl, (κm, (κ, (κ′, tt)))) (ql, (qm, (q, (q′, tt)))) a vals) (WpFn 𝓤 H C Λ code.function (lv ∷ mv ∷ tv (length ts) ∷ sv (length ss) ∷ []) Post)
     walk =
         qed W ((‵ (flft κl ql) ⊛ ‵ (flft κm qm) ⊛ ‵ (flft κ q) ⊛ ‵ (flft κ′ q′) ⊛ ‵ ftrue) ∷ ‵ (owns (ShrSlice (named 0) κl u8 ∷ ShrSlice (named 1) κm usize ∷ MutSlice (named 2) κ u8 ∷ MutSlice (named 3) κ′ T.the-row ∷ []) a vals) ∷ []) ∵ enter ! C Λ code.function (lv ∷ mv ∷ tv (length ts) ∷ sv (length ss) ∷ []) _ $
@@ -257,7 +257,7 @@ module _ {M : Type 1} (𝓤 : URA M) (H : Heap 𝓤) (A : Atoms 𝓤) (W : Given
         assigns ! (agg ! (and-then ! (load ! (from ! (stop !)) (look ! 24 refl)) (and-then ! (load ! (from ! (fld ! refl (stop !))) (look-in ! 38 (sub ! 1 refl (whole !)))) (no-more !)))) (from ! (stop !)) (init ! 22 refl (tt, (tt, (record { fits = room′ .0 }, tt)))) $
         assigns ! (addr ! (from ! (fld ! refl (hop ! (look-in ! 40 (sub ! 0 refl (whole !))) (stop !))))) (from ! (stop !)) (init ! 20 refl (tt, tt)) $
         assigns ! (agg ! (and-then ! (load ! (from ! (stop !)) (look ! 20 refl)) (and-then ! (load ! (from ! (fld ! refl (stop !))) (look-in ! 40 (sub ! 1 refl (whole !)))) (no-more !)))) (from ! (stop !)) (init ! 18 refl (tt, (tt, (record { fits = room .0 }, tt)))) $
-        -- `fill`: the list is lent again, and the buffer as a `&`
+        -- `parse_spans`: the list is lent again, and the buffer as a `&`
         rewrite ! 5 (λ (k : ℕ). ConvOwn (zs .1 .1 .0) k) (sym l) refl $
         lft-new ! tt (λ μ. lft-new ! tt (λ μ′. move ! (7 ∷ 6 ∷ []) $
         use2 W (later (some (λ (δ′ : GName). ‵ (ShrSlice (named 1) (μ′ ∷ []) u8 .own (x δ′ (zs .1 .1 .0)) (tv (length (zs .1 .1 .0)) ∷ [])) ⊛ ‵ (LentShared u8 κ (μ′ ∷ []) q γ b o (zs .1 .1 .0))))) (lends-shared u8 κ (μ′ ∷ []) q γ b o 𝓤 H A W (named 2) (named 1) (zs .1 .1 .0)) $ await ! tt $ pick ! (λ δ′. split ! $
@@ -265,11 +265,11 @@ module _ {M : Type 1} (𝓤 : URA M) (H : Heap 𝓤) (A : Atoms 𝓤) (W : Given
         move ! (9 ∷ 8 ∷ []) $
         use2 W (later (some (λ (ε : GName). NewSpans μ ε ⊛ ‵ (LentAgain T.the-row κ′ (μ ∷ []) q′ γ′ b′ o′ ε ss)))) (lends-again T.the-row κ′ (μ ∷ []) q′ γ′ b′ o′ 𝓤 H A W (named 3) (named 0) ss) $ await ! tt $ pick ! (λ ε. split ! $
         move ! (9 ∷ []) $ use1 W (FoundOwn ⊛ FoundOwn) (shr-slice-copy 𝓤 H A W (named 1) κm usize .twice found (mv ∷ [])) $ split ! $
-        move ! (6 ∷ 10 ∷ []) $ join ! $ move ! (7 ∷ 0 ∷ []) $ join ! $ move ! (5 ∷ 1 ∷ []) $ join ! $ move ! (1 ∷ 3 ∷ 0 ∷ []) $ use3 W (raw (Fill 𝓤 H A mem run .pre (to-fill μ ε μ′ δ′ (zs .1 .1 .0) c))) (goes-fill μ ε μ′ δ′ (zs .1 .1 .0) c (k-vals c v c-is) (fill-ready (line .now) (found .now) (length ts) (zs .1 .1 .0) (length ss) c e)) $
-        calls-at ! fm (Fill 𝓤 H A mem run) known-fill (to-fill μ ε μ′ δ′ (zs .1 .1 .0) c) (and-then ! (load ! (from ! (stop !)) (look ! 20 refl)) (and-then ! (load ! (from ! (stop !)) (look ! 16 refl)) (and-then ! (load ! (from ! (stop !)) (look ! 40 refl)) (and-then ! (load ! (from ! (stop !)) (look ! 34 refl)) (no-more !))))) (λ w.
-        use1 W (later (some (λ (r : Reading). ((‵ (flft (μ ∷ []) fullShare) ⊛ ‵ (flft (μ′ ∷ []) fullShare) ⊛ ‵ (flft κm qm) ⊛ ‵ ftrue) ⊛ ‵ (K.the-row .own r (w ∷ []))) ⊛ raw (ensured 𝓤 H A fill.ended (fill.clauses 𝓤 H A mem run) (μ ∷ [], (μ′ ∷ [], (κm, tt))) (y ε ss, (x δ′ (zs .1 .1 .0), (found, (c, tt)))) tt r)))) (id⊢ 𝓤 _) $ await ! tt $ pick ! (λ r.
-        split ! $ move ! (1 ∷ []) $ use1 W (some (λ (ws : List Span × (Unit {0} × (Unit {0} × (Unit {0} × Unit {0})))). ‵ (lasts fill.ended (μ ∷ [], (μ′ ∷ [], (κm, tt))) (y ε ss, (x δ′ (zs .1 .1 .0), (found, (c, tt)))) ws) ⊛ raw (fact 𝓤 (Filled (zs .1 .1 .0) (found .now) (ws .0) c r)))) (id⊢ 𝓤 _) $ pick ! (λ ws.
-        split ! $ move ! (1 ∷ []) $ heard ! (Filled (zs .1 .1 .0) (found .now) (ws .0) c r) (λ e′. fsplit ! $ fsplit ! $ move ! (1 ∷ []) $ feqL ! (λ l′.
+        move ! (6 ∷ 10 ∷ []) $ join ! $ move ! (7 ∷ 0 ∷ []) $ join ! $ move ! (5 ∷ 1 ∷ []) $ join ! $ move ! (1 ∷ 3 ∷ 0 ∷ []) $ use3 W (raw (Parse 𝓤 H A mem run .pre (to-parse μ ε μ′ δ′ (zs .1 .1 .0) c))) (goes-parse μ ε μ′ δ′ (zs .1 .1 .0) c (k-vals c v c-is) (parse-ready (line .now) (found .now) (length ts) (zs .1 .1 .0) (length ss) c e)) $
+        calls-at ! fm (Parse 𝓤 H A mem run) known-parse (to-parse μ ε μ′ δ′ (zs .1 .1 .0) c) (and-then ! (load ! (from ! (stop !)) (look ! 20 refl)) (and-then ! (load ! (from ! (stop !)) (look ! 16 refl)) (and-then ! (load ! (from ! (stop !)) (look ! 40 refl)) (and-then ! (load ! (from ! (stop !)) (look ! 34 refl)) (no-more !))))) (λ w.
+        use1 W (later (some (λ (r : Reading). ((‵ (flft (μ ∷ []) fullShare) ⊛ ‵ (flft (μ′ ∷ []) fullShare) ⊛ ‵ (flft κm qm) ⊛ ‵ ftrue) ⊛ ‵ (K.the-row .own r (w ∷ []))) ⊛ raw (ensured 𝓤 H A parse_spans.ended (parse_spans.clauses 𝓤 H A mem run) (μ ∷ [], (μ′ ∷ [], (κm, tt))) (y ε ss, (x δ′ (zs .1 .1 .0), (found, (c, tt)))) tt r)))) (id⊢ 𝓤 _) $ await ! tt $ pick ! (λ r.
+        split ! $ move ! (1 ∷ []) $ use1 W (some (λ (ws : List Span × (Unit {0} × (Unit {0} × (Unit {0} × Unit {0})))). ‵ (lasts parse_spans.ended (μ ∷ [], (μ′ ∷ [], (κm, tt))) (y ε ss, (x δ′ (zs .1 .1 .0), (found, (c, tt)))) ws) ⊛ raw (fact 𝓤 (SpansParsed (zs .1 .1 .0) (found .now) (ws .0) c r)))) (id⊢ 𝓤 _) $ pick ! (λ ws.
+        split ! $ move ! (1 ∷ []) $ heard ! (SpansParsed (zs .1 .1 .0) (found .now) (ws .0) c r) (λ e′. fsplit ! $ fsplit ! $ move ! (1 ∷ []) $ feqL ! (λ l′.
         move ! (2 ∷ []) $ split ! $ move ! (1 ∷ []) $ peeks ! K.the-row (Is K.the-row) (shows 𝓤 H A K.the-row) r (w ∷ []) (λ r-is.
         land ! (from ! (stop !)) (init ! 35 refl (LL.lawful K.the-type K′.the-laws 𝓤 H A W .typed r _ r-is .0)) $
         rewrite ! 35 (λ (u : Val). ‵ (fat fullShare K′.mir l₆ 0 u)) (ap only (LL.tells K.the-type K′.the-laws r _ r-is)) refl $ drop ! $
@@ -308,13 +308,13 @@ module _ {M : Type 1} (𝓤 : URA M) (H : Heap 𝓤) (A : Atoms 𝓤) (W : Given
         keep ! (6 ∷ 3 ∷ 4 ∷ 0 ∷ 1 ∷ 5 ∷ []) $
         by ! (exits t (os .0) (vs .0) (read-done (line .now) (found .now) (length ts) (length ss) (zs .1 .1 .0) c e (ws .0) r e′ l′ (os .0) t e″ (vs .0) e‴) (l″ ∙ l) (l‴ ∙ l′) (r-vals t z t-is))))))))))))))))))))))))))))))))))))))))))))))))))))
 
-module _ {M : Type 1} (𝓤 : URA M) (H : Heap 𝓤) (A : Atoms 𝓤) (W : Given 𝓤 H A) (mem : Memory → SProp 𝓤) (run : Routine → Fun 𝓤) (𝓣 : Tables 𝓤 H) (known-prep : Triple 𝓤 (𝓣 .C #spans·prepare) (Prep 𝓤 H A mem run)) (known-fill : Triple 𝓤 (𝓣 .C #spans·fill) (Fill 𝓤 H A mem run)) (known-fin : Triple 𝓤 (𝓣 .C #spans·finish) (Fin 𝓤 H A mem run)) (known-clear : Triple 𝓤 (𝓣 .C #spans·clear-spans) (Clear 𝓤 H A mem run)) where
+module _ {M : Type 1} (𝓤 : URA M) (H : Heap 𝓤) (A : Atoms 𝓤) (W : Given 𝓤 H A) (mem : Memory → SProp 𝓤) (run : Routine → Fun 𝓤) (𝓣 : Tables 𝓤 H) (known-prep : Triple 𝓤 (𝓣 .C #spans·prepare) (Prep 𝓤 H A mem run)) (known-parse : Triple 𝓤 (𝓣 .C #spans·parse_spans) (Parse 𝓤 H A mem run)) (known-fin : Triple 𝓤 (𝓣 .C #spans·finish) (Fin 𝓤 H A mem run)) (known-clear : Triple 𝓤 (𝓣 .C #spans·clear-spans) (Clear 𝓤 H A mem run)) where
   f-walks : Walks 𝓤 H A f.ended stayed (WpFn 𝓤 H (𝓣 .C) (𝓣 .Λ) code.function) (f.clauses 𝓤 H A mem run)
   f-walks = walked 𝓤 H A f.ended stayed (f.clauses 𝓤 H A mem run) (WpFn 𝓤 H (𝓣 .C) (𝓣 .Λ) code.function)
       (λ κs. (slice-vals, (slice-vals, (slice-vals, (slice-vals, tt))))) (λ κs. (shr-slice-tells (named 0) (κs .0) u8, (shr-slice-tells (named 1) (κs .1 .0) usize, (mut-slice-tells (named 2) (κs .1 .1 .0) u8, (mut-slice-tells (named 3) (κs .1 .1 .1 .0) T.the-row, tt)))))
       (λ κs qs bounds a g are. via 𝓤 _ (fst∗ 𝓤 _ (emp 𝓤))
       (walk 𝓤 H A W mem run (κs .0) (κs .1 .0) (κs .1 .1 .0) (κs .1 .1 .1 .0) (qs .0) (qs .1 .0) (qs .1 .1 .0) (qs .1 .1 .1 .0) (a .0) (a .1 .0) (a .1 .1 .0 .ptr .0) (a .1 .1 .0 .ptr .1) (a .1 .1 .0 .name) (a .1 .1 .0 .now) (a .1 .1 .1 .0 .ptr .0) (a .1 .1 .1 .0 .ptr .1) (a .1 .1 .1 .0 .name) (a .1 .1 .1 .0 .now)
-      (are .0 .0 .1) (are .1 .0 .0 .1) (are .1 .1 .0 .0 .1) (are .1 .1 .1 .0 .0 .1) (𝓣 .C) (𝓣 .Λ) (fmOf 𝓤 H (W .laws) 𝓣) known-prep known-fill known-fin known-clear))
+      (are .0 .0 .1) (are .1 .0 .0 .1) (are .1 .1 .0 .0 .1) (are .1 .1 .1 .0 .0 .1) (𝓣 .C) (𝓣 .Λ) (fmOf 𝓤 H (W .laws) 𝓣) known-prep known-parse known-fin known-clear))
 
   f-meets : Meets 𝓤 H A f.signature (WpFn 𝓤 H (𝓣 .C) (𝓣 .Λ) code.function) (f.spec 𝓤 H A mem run)
   f-meets = walk-meets 𝓤 H A f.ended stayed W (goes-dropped 𝓤 H A W 4 (shrSliceOf (0 ∷ []) tt (plain (λ _. u8))) yes (λ κs x f. refl), (goes-dropped 𝓤 H A W 4 (shrSliceOf (1 ∷ []) tt (plain (λ _. usize))) yes (λ κs x f. refl), (goes-gave-slice 𝓤 H A W 4 2 tt (plain (λ _. u8)), (goes-gave-slice 𝓤 H A W 4 3 tt (plain (λ _. T.the-row)), tt)))) (f.clauses 𝓤 H A mem run) (WpFn 𝓤 H (𝓣 .C) (𝓣 .Λ) code.function) (WpFn-mono 𝓤 H (W .laws) 𝓣 code.function) f-walks
@@ -326,6 +326,6 @@ read-spec 𝓤 H 𝓜 𝓖 𝓡 =
     (tables 𝓤 H 𝓜 𝓡 code.env .C) (tables 𝓤 H 𝓜 𝓡 code.env .Λ) #spans·read code.function (code.unfolded 𝓤 H 𝓜 𝓡)
     (f-meets 𝓤 H (𝓖 .A) (givenOf 𝓤 H 𝓜 𝓖) (𝓜 .mem) (𝓡 .run) (tablesOf 𝓤 H 𝓜 (tables 𝓤 H 𝓜 𝓡 code.env))
     (cited 𝓤 H (Prep 𝓤 H (𝓖 .A) (𝓜 .mem) (𝓡 .run)) 𝓜 𝓡 code.env #spans·prepare prep-def.routine code.calls-spans·prepare (prep-thm.met 𝓤 H 𝓜 𝓖 𝓡))
-    (cited 𝓤 H (Fill 𝓤 H (𝓖 .A) (𝓜 .mem) (𝓡 .run)) 𝓜 𝓡 code.env #spans·fill fill-def.routine code.calls-spans·fill (fill-thm.met 𝓤 H 𝓜 𝓖 𝓡))
+    (cited 𝓤 H (Parse 𝓤 H (𝓖 .A) (𝓜 .mem) (𝓡 .run)) 𝓜 𝓡 code.env #spans·parse_spans parse-def.routine code.calls-spans·parse-spans (parse-thm.met 𝓤 H 𝓜 𝓖 𝓡))
     (cited 𝓤 H (Fin 𝓤 H (𝓖 .A) (𝓜 .mem) (𝓡 .run)) 𝓜 𝓡 code.env #spans·finish fin-def.routine code.calls-spans·finish (fin-thm.met 𝓤 H 𝓜 𝓖 𝓡))
     (cited 𝓤 H (Clear 𝓤 H (𝓖 .A) (𝓜 .mem) (𝓡 .run)) 𝓜 𝓡 code.env #spans·clear-spans clear-def.routine code.calls-spans·clear-spans (clear-thm.met 𝓤 H 𝓜 𝓖 𝓡)))
