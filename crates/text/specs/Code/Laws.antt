@@ -24,6 +24,14 @@ use Rattle.text.specs.declared.class.Profile as code
 use Rattle.text.specs.declared.utf8.Sequence.{Sequence}
 use Rattle.text.specs.Code.{firstOf, firstSequence, profileOf, runOf, sequenceOf, size}
 
+pub size-nil : size [] ≡ 0
+unfolding size
+size-nil = refl
+
+pub size-cons : (c : Scalar) (s : List Scalar) → size (c ∷ s) ≡ length (c .bytes) + size s
+unfolding size
+size-cons c s = refl
+
 pub size-append : (a b : List Scalar) → size (a ++ b) ≡ size a + size b
 unfolding size
 size-append [] b = omega arith
@@ -158,6 +166,14 @@ width-le v = cases (among (number (class01 v)) (cr ∷ lf ∷ control ∷ extend
 pub width-two : (f : code.Profile) (v x : ℕ) → x ≡ profileOf f .width v → x ≤ 2
 unfolding profileOf profile01
 width-two f v x e = rw e (width-le v)
+
+pub width-nil : (P : Profile) → widthOf P [] ≡ 0
+unfolding widthOf
+width-nil P = refl
+
+pub width-cons : (P : Profile) (c : Scalar) (s : List Scalar) → widthOf P (c ∷ s) ≡ P .width (c .code) + widthOf P s
+unfolding widthOf
+width-cons P c s = refl
 
 pub width-append : (P : Profile) (a b : List Scalar) → widthOf P (a ++ b) ≡ widthOf P a + widthOf P b
 unfolding widthOf
