@@ -1,9 +1,10 @@
 pub mod Parameters
 pub mod KnownParameters
 pub mod Sequences
-pub mod Clusters
-pub mod Single
-pub mod Bases
+pub mod ClusterBytes
+pub mod PlainClusters
+pub mod PrintableBytes
+pub mod SyllablesAndOthers
 pub mod ReaderLaws
 pub mod Searching
 pub mod StretchLaws

@@ -11,23 +11,27 @@ use lib.ListN.{length, take, drop, getD, length-append, length-drop, drop-of-len
 use lib.Seq.{drop-cons, drop-drop, getD-drop, getD-take, slice, length-slice}
 use borrow.Author.Tests.{eqb-true, eqb-false, ne-eqb, ltb-true}
 use lib.Dec.{eqb, leb, ltb, eqb→eq, nltb→le}
-use Rattle.text.specs.Tests.{cases, and-T, true-T}
-use Rattle.text.specs.Utf8.{Scalar, ascii, decode, decodeFrom, runOf, bytesOf}
-use Rattle.text.specs.Utf8.Laws.{bytesOf-append}
+use Rattle.text.specs.Tests.{cases, and-T, is-true, true-T}
+use Rattle.text.specs.Utf8.{Scalar, ascii, decode, runOf, bytesOf}
+use Rattle.text.specs.Utf8.Laws.{bytes-nil, bytesOf-append}
 use Rattle.text.specs.Utf8.Runs.{run-fits}
 use Rattle.text.specs.Class.{Profile}
-use Rattle.text.specs.Width.{profile01, widthOf}
-use Rattle.text.specs.Cluster.{clusters, clustersAfter, joinAll}
-use Rattle.text.specs.Cluster.Laws.{clusters-all, clusters-first}
+use Rattle.text.specs.Class.Ascii.{printable-range}
+use Rattle.text.specs.Width.{widthOf}
+use Rattle.text.specs.Cluster.{clusters, joinAll}
+use Rattle.text.specs.Cluster.Laws.{clusters-nil, clusters-none, join-cons, join-nil}
+use Rattle.text.specs.Cluster.Ascii.{printable-width}
 use Rattle.text.specs.Cluster.Walk.{size-is, first-size, first-none, cluster-some, cluster-behind, cluster-length, next-clusters}
 use Rattle.text.specs.Code.{profileOf, size, firstSize, firstOf, printable}
 use Rattle.text.specs.Segmentation.{neverJoinsBefore}
 use Rattle.text.specs.Code.Boundaries.{Boundary, lone-boundary}
-use Rattle.text.specs.Code.Laws.{plain-width as plain-columns}
+use Rattle.text.specs.Code.Laws.{FirstCluster, run-nil, size-cons, size-nil}
+use Rattle.text.specs.Code.Profile01.{ascii-classes}
 use Rattle.text.specs.Scalar.{packedAt}
-use Rattle.text.specs.Scalar.Laws.{first-some, packed-inside, packed-none, packed-some}
+use Rattle.text.specs.Scalar.Laws.{first-some, packed-inside, packed-none}
 use Rattle.text.specs.Segmentation.{NextCluster, NextClusterReady}
 use Rattle.text.specs.TextParts.{textAt}
+use Rattle.text.specs.TextParts.Laws.{ascii-at, first-there}
 use Rattle.text.specs.declared.segmentation.ClusterStep.{ClusterStep}
 use Rattle.text.specs.declared.class.Profile as code
 use Rattle.spans.specs.Sequence as found
@@ -35,14 +39,14 @@ use Rattle.spans.specs.Sequence.{sgr, eraseToEnd, ignored, hyperlink, li
 use Rattle.spans.specs.Sequence.Laws.{parse-length, parse-last}
 use Rattle.spans.specs.Spans.{Content, Span, span, Seen, plain, special, seen, spansAt, text, control, invalid, unprintable, escape, tab, crlf, lf, Record, aRecord, kindOf, matchOf, recordOf, records}
 use Rattle.spans.specs.Spans.Steps.{extent, isPlain, plainCluster, plain-same, plainSize, plainText, skipped, step-text, step-special, step-invalid, NoText, seen-noText}
-use Rattle.spans.specs.Contracts.{alone, clustersAt, PlainTo, clustersSize, ClustersTo, runAt, Part, Within, Ahead, SkipReady, Skip, told, escapeLook, lookBytes, aLook, Fresh, Ready, isMatch, matchIn, textRecord, recordsFrom, invalidAt, Stepped, ControlReady, Escaping, Mark, SpecialStep}
+use Rattle.spans.specs.Contracts.{c0NotCr, clustersAt, PlainTo, clustersSize, printablePair, ClustersTo, runAt, Part, Within, Ahead, SkipReady, Skip, told, escapeLook, lookBytes, aLook, Fresh, Ready, isMatch, matchIn, textRecord, recordsFrom, invalidAt, Stepped, ControlReady, Escaping, Mark, SpecialStep}
 use Rattle.spans.specs.declared.sequence.Sequence as sequence
 use Rattle.spans.specs.declared.reader.Look.{Look}
 use Rattle.spans.specs.declared.reader.Place.{Place}
 use Rattle.spans.specs.declared.reader.Matched.{Matched}
 use Rattle.spans.specs.declared.reader.NextSpan.{NextSpan}
-use Rattle.spans.proofs.Clusters.{plain-width, first-byte, look-bytes, lookOf}
-use Rattle.spans.proofs.Single.{control-single, control-special, low, plain-here, plain-on, run-byte}
+use Rattle.spans.proofs.ClusterBytes.{plain-width, look-bytes, lookOf}
+use Rattle.spans.proofs.PlainClusters.{control-end, control-size, plain-here, plain-on}
 use Rattle.spans.proofs.Sequences.{part-slice}
 
 -- what holds of a list holds if it does of none and of a first and others
@@ -51,8 +55,7 @@ by-first [] f h = f refl
 by-first (g ∷ hs) f h = h g hs refl
 
 no-clusters : (P : Profile) → clustersAt P [] ≡ []
-unfolding runOf decode decodeFrom clusters clustersAfter
-no-clusters P = refl
+no-clusters P = rw run-nil (clusters-nil P)
 
 module _ (P : Profile) (t : List ℕ) (at : ℕ) where
   abbrev here : List (List Scalar)
@@ -66,13 +69,8 @@ module _ (P : Profile) (t : List ℕ) (at : ℕ) where
 
 -- ---- runs
 
-run-none : (P : Profile) (s : List ℕ) → clustersAt P s ≡ [] → runOf (decode s) ≡ []
-unfolding joinAll
-run-none P s e = sym (clusters-all P (runOf (decode s))) ∙ ap joinAll e
-
 size-none : (P : Profile) (s : List ℕ) → clustersAt P s ≡ [] → size (runOf (decode s)) ≡ 0
-unfolding size
-size-none P s e = rw (run-none P s e)
+size-none P s e = rw (clusters-none P (runOf (decode s)) e) size-nil
 
 -- the run's end stays where it is behind the first cluster
 module _ (P : Profile) (t : List ℕ) (at : ℕ) (g : List Scalar) (gs : List (List Scalar)) (e : clustersAt P (drop at t) ≡ g ∷ gs) where
@@ -93,124 +91,129 @@ run-inside t at = rw (size-is (runOf (decode (drop at t))), ← length-drop at t
 pub record ClustersLoop (P : Profile) (t : List ℕ) (at p u : ℕ) : Type 0 where
   pub to : PlainTo P t at p
   pub scalar : u ≡ packedAt P t p
-  pub work : p + clustersSize P false (clustersAt P (drop p t)) ≡ at + clustersSize P false (clustersAt P (drop at t))
+  pub work : p + clustersSize P false (drop p t) (clustersAt P (drop p t)) ≡ at + clustersSize P false (drop at t) (clustersAt P (drop at t))
 
 pub clusters-begin : (P : Profile) (t : List ℕ) (at u : ℕ) → at < length t → u ≡ packedAt P t at → ClustersLoop P t at at u
 clusters-begin P t at u h e = record { to = plain-here P t at (omega (arith, h)); scalar = e; work = refl }
 
 -- a printable byte begins a cluster that has a width
-printable-wide : (v : code.Profile) (t : List ℕ) (p : ℕ) → printable (getD t p 0) ≡ true → 1 ≤ widthOf (profileOf v) (firstOf (clusters (profileOf v) (textAt t p)))
-unfolding profileOf profile01 widthOf firstOf
-printable-wide v t p e =
-    let w = low (getD t p 0) e in
+printable-at : (t : List ℕ) (p : ℕ) → printable (getD t p 0) ≡ true → textAt t p ≡ ascii (getD t p 0) ∷ textAt t (p + 1)
+printable-at t p e =
+    let w = printable-range (getD t p 0) e in
     let h : p < length t = cases (ltb p (length t)) (λ l. ltb-true _ _ l) (λ l. absurd (omega (arith, w .0, List·getD-eq-default t 0 (nltb→le p (length t) (rw l tt))))) in
-    rw (run-byte t p (getD t p 0) h refl (omega (arith, w .1)), clusters-first profile01 (ascii (getD t p 0)) (textAt t (p + 1)), plain-columns (getD t p 0) (w .0) (w .1)) (omega arith)
+    ascii-at t p (getD t p 0) h refl (omega (arith, w .1))
 
-no-first : (P : Profile) → widthOf P (firstOf (clusters P [])) ≡ 0
-unfolding widthOf firstOf clusters clustersAfter
-no-first P = refl
+printable-wide : (v : code.Profile) (t : List ℕ) (p : ℕ) → printable (getD t p 0) ≡ true → 1 ≤ widthOf (profileOf v) (firstOf (clusters (profileOf v) (textAt t p)))
+printable-wide v t p e = rw (printable-at t p e) (printable-width (profileOf v) (ascii-classes v) (getD t p 0) (textAt t (p + 1)) e)
 
--- clusters behind others, by the byte that they begin with
-module _ (P : Profile) (t : List ℕ) (e : ℕ) where
-  begins : (g : List Scalar) (gs : List (List Scalar)) → clustersAt P (drop e t) ≡ g ∷ gs → getD (bytesOf g) 0 0 ≡ getD t e 0
-  begins g gs q = first-byte P (drop e t) g gs q ∙ byte-here P t e
+-- clusters behind others, by the bytes there
+behind-same : (P : Profile) (s : List ℕ) (gs : List (List Scalar)) → printablePair s ≡ false → clustersSize P true s gs ≡ clustersSize P false s gs
+unfolding clustersSize
+behind-same P s [] k = refl
+behind-same P s (g ∷ gs) k = rw k refl
 
-  behind-same : (gs : List (List Scalar)) → clustersAt P (drop e t) ≡ gs → printable (getD t e 0) ≡ false → clustersSize P true gs ≡ clustersSize P false gs
-  unfolding clustersSize
-  behind-same [] q k = refl
-  behind-same (g ∷ gs) q k = rw (begins g gs q, k) refl
-
-  behind-none : (gs : List (List Scalar)) → clustersAt P (drop e t) ≡ gs → printable (getD t e 0) ≡ true → clustersSize P true gs ≡ 0
-  unfolding clustersSize
-  behind-none [] q k = refl
-  behind-none (g ∷ gs) q k = rw (begins g gs q, k) refl
+behind-none : (P : Profile) (s : List ℕ) (gs : List (List Scalar)) → printablePair s ≡ true → clustersSize P true s gs ≡ 0
+unfolding clustersSize
+behind-none P s [] k = refl
+behind-none P s (g ∷ gs) k = rw k refl
 
 module _ (v : code.Profile) (t : List ℕ) (at p u : ℕ) (z : ClustersLoop (profileOf v) t at p u) where
   pub clusters-past : u ≡ 0 → ClustersTo (profileOf v) t at p
-  unfolding plainSize clustersSize clusters clustersAfter
+  unfolding plainSize clustersSize
   clusters-past e =
-      let n : textAt t p ≡ [] = packed-none (profileOf v) t p u (z .scalar) e in
+      let m : textAt t p ≡ [] = packed-none (profileOf v) t p u (z .scalar) e in
+      let n : clustersAt (profileOf v) (drop p t) ≡ [] = ap (clusters (profileOf v)) m ∙ clusters-nil (profileOf v) in
       record {
-        is = omega (arith, z .work, ap (λ (l : List Scalar). clustersSize (profileOf v) false (clusters (profileOf v) l)) n);
+        is = omega (arith, z .work, ap (clustersSize (profileOf v) false (drop p t)) n);
         to = z .to;
-        ends = λ k. ap (λ (l : List Scalar). plainSize (profileOf v) (clusters (profileOf v) l)) n;
-        further = λ k. absurd (omega (arith, printable-wide v t p k, ap (λ (l : List Scalar). widthOf (profileOf v) (firstOf (clusters (profileOf v) l))) n, no-first (profileOf v)));
+        ends = λ k. ap (plainSize (profileOf v)) n;
+        further = λ k. absurd (omega (arith, ap size (sym (printable-at t p k) ∙ m), size-nil, size-cons (ascii (getD t p 0)) (textAt t (p + 1))));
       }
 
   module _ (some : u ≢ 0) where
     pub clusters-ready : NextClusterReady (profileOf v) t p u
     clusters-ready = record { inside = packed-inside (profileOf v) t p u (z .scalar) some; scalar = z .scalar }
 
-    -- the cluster there
-    record First : Type 0 where
-      g : List Scalar
-      gs : List (List Scalar)
-      is : clustersAt (profileOf v) (drop p t) ≡ g ∷ gs
-      same : firstOf (clusters (profileOf v) (textAt t p)) ≡ g
+    -- the cluster there, and those behind it
+    there : FirstCluster (profileOf v) (textAt t p)
+    there = first-there (profileOf v) (textAt t p) (λ e. omega (arith, e, first-some (profileOf v) t p u (z .scalar) some))
 
-    first : First
-    unfolding firstOf size
-    first =
-        by-first (clustersAt (profileOf v) (drop p t))
-        (λ e. absurd (let n : size (firstOf (clusters (profileOf v) (textAt t p))) ≡ 0 = rw e refl in omega (arith, first-some (profileOf v) t p u (z .scalar) some)))
-        (λ g gs e. record { g = g; gs = gs; is = e; same = rw e refl })
+    first : List Scalar
+    first = firstOf (clustersAt (profileOf v) (drop p t))
+
+    behind : List (List Scalar)
+    behind = clusters (profileOf v) (there .rest)
+
+    is : clustersAt (profileOf v) (drop p t) ≡ first ∷ behind
+    unfolding first behind
+    is = there .clusters
 
     module _ (r : ClusterStep) (n : NextCluster (profileOf v) t p r) where
-      end-is : r .part .end .0 ≡ p + extent (first .g)
-      end-is = n .part .end ∙ ap (λ (k : ℕ). p + k) (ap size (first .same) ∙ size-is (first .g))
+      end-is : r .part .end .0 ≡ p + extent first
+      unfolding first
+      end-is = n .part .end ∙ ap (λ (k : ℕ). p + k) (size-is first)
 
-      plain-is : plainCluster (profileOf v) (first .g) ≡ not (eqb (r .part .width .0) 0)
-      plain-is = plain-width v (drop p t) (first .g) (first .gs) (first .is) ∙ ap (λ (k : ℕ). not (eqb k 0)) (sym (n .part .width ∙ ap (widthOf (profileOf v)) (first .same)))
+      plain-is : plainCluster (profileOf v) first ≡ not (eqb (r .part .width .0) 0)
+      unfolding first
+      plain-is = plain-width v (drop p t) first behind is ∙ ap (λ (k : ℕ). not (eqb k 0)) (sym (n .part .width))
+
+      no-text : r .part .width .0 ≡ 0 → plainSize (profileOf v) (clustersAt (profileOf v) (drop p t)) ≡ 0
+      unfolding plainSize
+      no-text e = let b : plainCluster (profileOf v) first ≡ false = plain-is ∙ rw e refl in rw (is, b) refl
 
       pub clusters-stop : r .part .width .0 ≡ 0 → ClustersTo (profileOf v) t at p
-      unfolding plainSize clustersSize
+      unfolding clustersSize
       clusters-stop e =
-          let b : plainCluster (profileOf v) (first .g) ≡ false = plain-is ∙ rw e refl in
-          let m : clustersSize (profileOf v) false (clustersAt (profileOf v) (drop p t)) ≡ 0 = rw (first .is, b) refl in
+          let b : plainCluster (profileOf v) first ≡ false = plain-is ∙ rw e refl in
+          let m : clustersSize (profileOf v) false (drop p t) (clustersAt (profileOf v) (drop p t)) ≡ 0 = rw (is, b) refl in
           record {
             is = omega (arith, z .work, m);
             to = z .to;
-            ends = λ k. rw (first .is, b) refl;
+            ends = λ k. no-text e;
             further = λ k. absurd (omega (arith, printable-wide v t p k, n .part .width, e));
           }
 
       pub clusters-less : length t - r .part .end .0 < length t - p
-      clusters-less = omega (arith, end-is, cluster-some (profileOf v) (drop p t) (first .g) (first .gs) (first .is), clusters-ready .inside)
+      clusters-less = omega (arith, end-is, cluster-some (profileOf v) (drop p t) first behind is, clusters-ready .inside)
 
       module _ (wide : r .part .width .0 ≢ 0) where
-        plain-here-is : plainCluster (profileOf v) (first .g) ≡ true
+        plain-here-is : plainCluster (profileOf v) first ≡ true
         plain-here-is = plain-is ∙ rw (ne-eqb (r .part .width .0) 0 wide) refl
 
-        others : clustersAt (profileOf v) (drop (r .part .end .0) t) ≡ first .gs
-        others = ap (λ (k : ℕ). clustersAt (profileOf v) (drop k t)) end-is ∙ behind-clusters (profileOf v) t p (first .g) (first .gs) (first .is)
+        others : clustersAt (profileOf v) (drop (r .part .end .0) t) ≡ behind
+        others = ap (λ (k : ℕ). clustersAt (profileOf v) (drop k t)) end-is ∙ behind-clusters (profileOf v) t p first behind is
 
         clusters-on : PlainTo (profileOf v) t at (r .part .end .0)
         unfolding plainSize
         clusters-on =
-            let m : plainSize (profileOf v) (clustersAt (profileOf v) (drop p t)) ≡ extent (first .g) + plainSize (profileOf v) (first .gs) = rw (first .is, plain-here-is) refl in
+            let m : plainSize (profileOf v) (clustersAt (profileOf v) (drop p t)) ≡ extent first + plainSize (profileOf v) behind = rw (is, plain-here-is) refl in
             plain-on (profileOf v) t at p (r .part .end .0) (z .to) (record {
               same = rw others (omega (arith, end-is, m));
               up = omega (arith, end-is);
               low = n .part .inside;
             })
 
-        work-on : r .part .end .0 + clustersSize (profileOf v) true (first .gs) ≡ at + clustersSize (profileOf v) false (clustersAt (profileOf v) (drop at t))
+        work-on : r .part .end .0 + clustersSize (profileOf v) true (drop (r .part .end .0) t) behind ≡ at + clustersSize (profileOf v) false (drop at t) (clustersAt (profileOf v) (drop at t))
         unfolding clustersSize
         work-on =
-            let m : clustersSize (profileOf v) false (clustersAt (profileOf v) (drop p t)) ≡ extent (first .g) + clustersSize (profileOf v) true (first .gs) = rw (first .is, plain-here-is) refl in
+            let d : drop (extent first) (drop p t) ≡ drop (r .part .end .0) t = drop-drop (extent first) p t ∙ ap (λ (k : ℕ). drop k t) (sym end-is) in
+            let m : clustersSize (profileOf v) false (drop p t) (clustersAt (profileOf v) (drop p t)) ≡ extent first + clustersSize (profileOf v) true (drop (r .part .end .0) t) behind = rw (is, plain-here-is, d) refl in
             omega (arith, end-is, m, z .work)
 
-        module _ (b : ℕ) (x : Bool) (e : b ≡ getD t (r .part .end .0) 0) (f : x ≡ printable b) where
-          pub clusters-more : x ≡ false → ClustersLoop (profileOf v) t at (r .part .end .0) (r .next)
-          clusters-more q =
-              let k : printable (getD t (r .part .end .0) 0) ≡ false = rw e at (sym f ∙ q) in
-              record { to = clusters-on; scalar = n .next; work = rw (others, ← behind-same (profileOf v) t (r .part .end .0) (first .gs) others k) work-on }
+        module _ (a b : ℕ) (x : Bool) (e : a ≡ getD t (r .part .end .0) 0) (g : b ≡ getD t (r .part .end .0 + 1) 0) (f : x ≡ printable a) where
+          pair-is : printablePair (drop (r .part .end .0) t) ≡ (x && ltb b 0x80)
+          pair-is =
+              let h : getD (drop (r .part .end .0) t) 0 0 ≡ a = getD-drop (r .part .end .0) t 0 0 ∙ ap (λ (k : ℕ). getD t k 0) (add-zero (r .part .end .0)) ∙ sym e in
+              ap₂ (λ (k l : ℕ). printable k && ltb l 0x80) h (getD-drop (r .part .end .0) t 1 0 ∙ sym g) ∙ ap (λ (k : Bool). k && ltb b 0x80) (sym f)
 
-          pub clusters-printable : x ≡ true → ClustersTo (profileOf v) t at (r .part .end .0)
+          pub clusters-more : (x && ltb b 0x80) ≡ false → ClustersLoop (profileOf v) t at (r .part .end .0) (r .next)
+          clusters-more q = record { to = clusters-on; scalar = n .next; work = rw (others, ← behind-same (profileOf v) (drop (r .part .end .0) t) behind (pair-is ∙ q)) work-on }
+
+          pub clusters-printable : (x && ltb b 0x80) ≡ true → ClustersTo (profileOf v) t at (r .part .end .0)
           clusters-printable q =
-              let k : printable (getD t (r .part .end .0) 0) ≡ true = rw e at (sym f ∙ q) in
+              let k : printable (getD t (r .part .end .0) 0) ≡ true = rw (← e, ← f) (is-true x (and-T x (ltb b 0x80) (true-T q) .0)) in
               record {
-                is = omega (arith, work-on, behind-none (profileOf v) t (r .part .end .0) (first .gs) others k);
+                is = omega (arith, work-on, behind-none (profileOf v) (drop (r .part .end .0) t) behind (pair-is ∙ q));
                 to = clusters-on;
                 ends = λ y. absurd (true≢false (sym k ∙ y));
                 further = λ y. omega (arith, clusters-less, z .to .up, n .part .inside);
@@ -226,25 +229,16 @@ text-past P t at i z h =
 
 -- ---- controls
 
-module _ (p : code.Profile) (t : List ℕ) (at : ℕ) (h : at < length t) (c : alone (getD t at 0) ≡ true) where
-  pub control-size : plainSize (profileOf p) (clustersAt (profileOf p) (drop at t)) ≡ 0
-  unfolding profileOf plainSize
-  control-size = rw (control-single t at (getD t at 0) h refl c, control-special t at (getD t at 0) h refl c)
-
-  pub control-end : at + 1 ≡ at + firstSize (profileOf p) (runOf (decode (drop at t)))
-  unfolding profileOf bytesOf
-  control-end = ap (λ (n : ℕ). at + n) (sym (first-size profile01 (runOf (decode (drop at t))) (ascii (getD t at 0) ∷ []) (clustersAt profile01 (drop (at + 1) t)) (control-single t at (getD t at 0) h refl c)))
-
-alone-size : (p : code.Profile) (t : List ℕ) (at a : ℕ) (x : Bool) → a ≡ getD t at 0 → x ≡ alone a → x ≡ true → plainSize (profileOf p) (clustersAt (profileOf p) (drop at t)) ≡ 0
+c0-size : (p : code.Profile) (t : List ℕ) (at a : ℕ) (x : Bool) → a ≡ getD t at 0 → x ≡ c0NotCr a → x ≡ true → plainSize (profileOf p) (clustersAt (profileOf p) (drop at t)) ≡ 0
 unfolding plainSize
-alone-size p t at a x e f q =
-    let c : alone (getD t at 0) ≡ true = rw e at (sym f ∙ q) in
+c0-size p t at a x e f q =
+    let c : c0NotCr (getD t at 0) ≡ true = rw e at (sym f ∙ q) in
     cases (ltb at (length t))
     (λ h. control-size p t at (ltb-true _ _ h) c)
     (λ h. let k : length t ≤ at = nltb→le _ _ (rw h tt) in rw (drop-of-length-le t k, no-clusters (profileOf p)) refl)
 
 -- past the end stands a byte 0, which is one of them
-pub other-here : (t : List ℕ) (at a : ℕ) (x : Bool) → a ≡ getD t at 0 → x ≡ alone a → x ≡ false → at < length t
+pub other-here : (t : List ℕ) (at a : ℕ) (x : Bool) → a ≡ getD t at 0 → x ≡ c0NotCr a → x ≡ false → at < length t
 other-here t at a x e f q =
     cases (ltb at (length t))
     (λ h. ltb-true _ _ h)
@@ -254,15 +248,15 @@ other-here t at a x e f q =
     absurd (true≢false (rw z at (sym f ∙ q))))
 
 module _ (p : code.Profile) (t : List ℕ) (at i a : ℕ) (x : PlainTo (profileOf p) t at i) (y : PlainTo (profileOf p) t i a) where
-  pub text-control : (c : ℕ) (e : Bool) → c ≡ getD t a 0 → e ≡ alone c → e ≡ true → a ≡ at + plainSize (profileOf p) (clustersAt (profileOf p) (drop at t))
-  text-control c e f g h = omega (arith, plain-on (profileOf p) t at i a x y .same, alone-size p t a c e f g h)
+  pub text-control : (c : ℕ) (e : Bool) → c ≡ getD t a 0 → e ≡ c0NotCr c → e ≡ true → a ≡ at + plainSize (profileOf p) (clustersAt (profileOf p) (drop at t))
+  text-control c e f g h = omega (arith, plain-on (profileOf p) t at i a x y .same, c0-size p t a c e f g h)
 
   module _ (b : ℕ) (w : PlainTo (profileOf p) t a b) where
     text-to : PlainTo (profileOf p) t at b
     text-to = plain-on (profileOf p) t at a b (plain-on (profileOf p) t at i a x y) w
 
-    pub text-control-behind : (c : ℕ) (e : Bool) → c ≡ getD t b 0 → e ≡ alone c → e ≡ true → b ≡ at + plainSize (profileOf p) (clustersAt (profileOf p) (drop at t))
-    text-control-behind c e f g h = omega (arith, text-to .same, alone-size p t b c e f g h)
+    pub text-control-behind : (c : ℕ) (e : Bool) → c ≡ getD t b 0 → e ≡ c0NotCr c → e ≡ true → b ≡ at + plainSize (profileOf p) (clustersAt (profileOf p) (drop at t))
+    text-control-behind c e f g h = omega (arith, text-to .same, c0-size p t b c e f g h)
 
     module _ (end c : ℕ) (z : ClustersTo (profileOf p) t b end) (e : c ≡ getD t end 0) (k : Bool) (f : k ≡ printable c) where
       pub text-more : k ≡ true → PlainTo (profileOf p) t at end
@@ -350,13 +344,12 @@ module _ (P : Profile) (t : List ℕ) (at stop i : ℕ) (z : SkipLoop P t at sto
 
 -- clusters that are skipped whole
 skip-over : (P : Profile) (gs hs : List (List Scalar)) (j : ℕ) → skipped P (extent (joinAll gs) + j) (gs ++ hs) ≡ extent (joinAll gs) + skipped P j hs
-unfolding joinAll bytesOf
-skip-over P [] hs j = let e : 0 + j ≡ j = omega arith in rw e (omega arith)
+skip-over P [] hs j = let e : 0 + j ≡ j = omega arith in rw (join-nil, bytes-nil, e) (omega arith)
 skip-over P (g ∷ gs) hs j =
     let l : extent (g ++ joinAll gs) ≡ extent g + extent (joinAll gs) = ap length (bytesOf-append g (joinAll gs)) ∙ length-append (bytesOf g) (bytesOf (joinAll gs)) in
     let r = skip-over P gs hs j in
     let n : ℕ = extent g + extent (joinAll gs) + j in
-    rw l (cases (eqb n 0)
+    rw (join-cons g gs, l) (cases (eqb n 0)
     (λ e.
     let z : n ≡ 0 = eqb-true n 0 e in
     omega (arith, skip-none P n (g ∷ (gs ++ hs)) z, skip-none P (extent (joinAll gs) + j) (gs ++ hs) (omega arith), r))
@@ -519,14 +512,14 @@ module _ (P : Profile) (t : List ℕ) (at end : ℕ) (z : plainSize P (clustersA
 -- ---- `escape_span`
 
 module _ (t : List ℕ) (c : Place) (z : Escaping t c) where
-  escape-alone : alone (getD t (c .at) 0) ≡ true
-  escape-alone = rw (z .escape)
+  escape-c0 : c0NotCr (getD t (c .at) 0) ≡ true
+  escape-c0 = rw (z .escape)
 
   escape-size : (p : code.Profile) → plainSize (profileOf p) (clustersAt (profileOf p) (drop (c .at) t)) ≡ 0
-  escape-size p = control-size p t (c .at) (z .ready .here) escape-alone
+  escape-size p = control-size p t (c .at) (z .ready .here) escape-c0
 
   escape-end : (p : code.Profile) → c .at + 1 ≡ c .at + firstSize (profileOf p) (runOf (decode (drop (c .at) t)))
-  escape-end p = control-end p t (c .at) (z .ready .here) escape-alone
+  escape-end p = control-end p t (c .at) (z .ready .here) escape-c0
 
   escape-room : (runAt t (c .at + 1) ≡ runAt t (c .at)) × ((c .at + 1 ≤ runAt t (c .at)) × (runAt t (c .at) ≤ length t))
   escape-room =
@@ -638,7 +631,7 @@ text-record m at n s = cases (isMatch m) (λ b. rw b) (λ b. rw b)
 pub invalid-is : (c : Place) (r : Record) → r ≡ aRecord 4 (c .at) 1 0 → record { span = r; place = record { at = c .at + 1; run = c .run } } ≡ invalidAt c
 invalid-is c r e = rw e
 
-pub control-ready : (t : List ℕ) (c : Place) (a : ℕ) (x : Bool) → Ready t c → a ≡ getD t (c .at) 0 → x ≡ alone a → x ≡ true → ControlReady t c
+pub control-ready : (t : List ℕ) (c : Place) (a : ℕ) (x : Bool) → Ready t c → a ≡ getD t (c .at) 0 → x ≡ c0NotCr a → x ≡ true → ControlReady t c
 control-ready t c a x z e f q = record { ready = z; control = rw e at (sym f ∙ q) }
 
 module _ (P : Profile) (t : List ℕ) (c : Place) (z : Ready t c) where
@@ -647,12 +640,12 @@ module _ (P : Profile) (t : List ℕ) (c : Place) (z : Ready t c) where
 
   module _ (u : ℕ) (f : u ≡ packedAt P t (c .at)) where
     pub invalid-step : (m : Matched) (r : NextSpan) → u ≡ 0 → r ≡ invalidAt c → Stepped P t m (c .at) r
-    unfolding recordsFrom records recordOf kindOf matchOf size
+    unfolding recordsFrom records recordOf kindOf matchOf
     invalid-step m r h e =
         let at : ℕ = c .at in
         let n : runOf (decode (drop at t)) ≡ [] = packed-none P t at u f h in
         let d : drop at t ≡ getD t at 0 ∷ drop (suc at) t = drop-cons t at 0 (z .here) in
-        let v : c .at < c .run → c .run ≡ c .at = λ k. z .fresh k ∙ rw n (add-zero at) in
+        let v : c .at < c .run → c .run ≡ c .at = λ k. z .fresh k ∙ rw (n, size-nil) (add-zero at) in
         rw e (record {
           same = ap (λ (l : List ℕ). map recordOf (spansAt P (matchIn m) at l)) d ∙ ap (map recordOf) (step-invalid P (matchIn m) at (getD t at 0) (drop (suc at) t) (rw d at n))
               ∙ ap (λ (i : ℕ). aRecord 4 at 1 0 ∷ map recordOf (spansAt P (matchIn m) i (drop i t))) (sym (add-one at));
@@ -661,24 +654,8 @@ module _ (P : Profile) (t : List ℕ) (c : Place) (z : Ready t c) where
           low = omega (arith, z .here);
         })
 
-    pub mark-ready : (x : Bool) (a end e : ℕ) → a ≡ getD t (c .at) 0 → x ≡ alone a → x ≡ false → (u ≡ 0 → ⊥) → end ≡ c .at + plainSize P (clustersAt P (drop (c .at) t)) → end ≤ c .at
-        → e ≡ c .at + firstSize P (runOf (decode (drop (c .at) t))) → Mark P t c e
-    unfolding size
-    mark-ready x a end e b q w n g h k =
-        let v = packed-some P t (c .at) u f n in
-        let i : c .at < runAt t (c .at) = rw (v .run) (omega (arith, v .len, v .some)) in
-        record {
-          ready = z;
-          special = omega arith;
-          ends = k;
-          some = by-first (clustersAt P (drop (c .at) t))
-              (λ y. absurd (omega (arith, size-none P (drop (c .at) t) y)))
-              (λ y ys r. omega (arith, first-size P (runOf (decode (drop (c .at) t))) y ys r, cluster-some P (drop (c .at) t) y ys r));
-          other = λ y. let j : a ≡ 0x1B = b ∙ y in let o : true ≡ false = rw j at (sym q ∙ w) in absurd (true≢false o);
-        }
-
   module _ (end : ℕ) (g : end ≡ c .at + plainSize P (clustersAt P (drop (c .at) t))) where
-    pub text-step : (m : Matched) (r : Record) → c .at < end → r ≡ textRecord m (c .at) (end - c .at) → Stepped P t m (c .at) (record { span = r; place = record { at = end; run = c .run } })
+    text-step : (m : Matched) (r : Record) → c .at < end → r ≡ textRecord m (c .at) (end - c .at) → Stepped P t m (c .at) (record { span = r; place = record { at = end; run = c .run } })
     unfolding recordsFrom records plainSize
     text-step m r h e =
         let at : ℕ = c .at in
@@ -700,3 +677,28 @@ module _ (P : Profile) (t : List ℕ) (c : Place) (z : Ready t c) where
 
   pub special-done : (m : Matched) (r : NextSpan) → SpecialStep P t (c .at) r → Stepped P t m (c .at) r
   special-done m r h = h m
+
+-- the first cluster: a mark where it has no width, else the beginning of a text
+module _ (v : code.Profile) (t : List ℕ) (c : Place) (z : Ready t c) (u : ℕ) (f : u ≡ packedAt (profileOf v) t (c .at)) (some : u ≢ 0) (r : ClusterStep) (n : NextCluster (profileOf v) t (c .at) r) where
+  begin : ClustersLoop (profileOf v) t (c .at) (c .at) u
+  begin = clusters-begin (profileOf v) t (c .at) u (z .here) f
+
+  first-up : c .at < r .part .end .0
+  first-up = omega (arith, clusters-less v t (c .at) (c .at) u begin some r n, n .part .inside)
+
+  pub mark-ready : (x : Bool) (a : ℕ) → a ≡ getD t (c .at) 0 → x ≡ c0NotCr a → x ≡ false → r .part .width .0 ≡ 0 → Mark (profileOf v) t c (r .part .end .0)
+  unfolding firstSize
+  mark-ready x a b q w e = record {
+    ready = z;
+    special = no-text v t (c .at) (c .at) u begin some r n e;
+    ends = n .part .end;
+    some = first-up;
+    other = λ y. let j : a ≡ 0x1B = b ∙ y in let o : true ≡ false = rw j at (sym q ∙ w) in absurd (true≢false o);
+  }
+
+  module _ (wide : r .part .width .0 ≢ 0) (end : ℕ) (g : end ≡ r .part .end .0 + plainSize (profileOf v) (clustersAt (profileOf v) (drop (r .part .end .0) t))) where
+    pub text-up : c .at ≤ end
+    text-up = omega (arith, first-up, g)
+
+    pub text-done : (m : Matched) (s : Record) → s ≡ textRecord m (c .at) (end - c .at) → Stepped (profileOf v) t m (c .at) (record { span = s; place = record { at = end; run = c .run } })
+    text-done m s e = text-step (profileOf v) t c z end (g ∙ clusters-on v t (c .at) (c .at) u begin some r n wide .same) m s (omega (arith, first-up, g)) e

@@ -5,17 +5,16 @@ use native.Mathlib.Numerals.{add-one}
 use native.Mathlib.Omega.{arith}
 use mathlib.Core.Bool.{Bool, true, false, _||_, or-true}
 use mathlib.Core.List.{List, [], _∷_, _++_, map, append-assoc, append-nil}
-use mathlib.Core.Option.{Option, none, some}
+use mathlib.Core.Option.{none, some}
 use lib.ListN.{length, take, drop, getD, drop-of-length-le, length-append, length-map}
 use lib.Seq.{drop-cons, take-all, length-take-le}
 use lib.Dec.{T, leb, ltb, leb→le, ltb→lt, nltb→le}
 use borrow.Author.Tests.{eq-eqb, ne-eqb, le-leb, leb-true, leb-false, ltb-true, ltb-false, lt-ltb}
 use Rattle.text.specs.Tests.{cases, and-T, or-T, or-false, true-T, is-true}
-use Rattle.text.specs.Utf8.{decode, decodeFrom, runs}
 use Rattle.text.specs.Class.{Profile}
 use Rattle.spans.specs.Search.{trimmed, escapes, searchedLength, inOrder, offsetFrom, readPart, readMatches, read}
-use Rattle.spans.specs.Spans.{Span, spansAt, spans, readPieces, Record, aRecord, recordOf, records}
-use Rattle.spans.specs.Spans.Laws.{map-append}
+use Rattle.spans.specs.Spans.{Span, spansAt, spans, Record, aRecord, recordOf, records}
+use Rattle.spans.specs.Spans.Laws.{map-append, no-spans}
 use Rattle.spans.specs.Spans.Steps.{step-some}
 use Rattle.buffer.specs.Numbers.{smallerOf}
 use Rattle.buffer.specs.Numbers.Laws.{smaller-right}
@@ -38,10 +37,6 @@ records-append a b = map-append recordOf a b
 part-records : (P : Profile) (m : Matched) (line : List ℕ) (at end : ℕ) → recordsFrom P m (take end line) at ≡ records (readPart P (matchIn m) at end line)
 unfolding recordsFrom readPart
 part-records P m line at end = ap (λ (l : List ℕ). records (spansAt P (matchIn m) at l)) (sym (part-slice line at end))
-
-no-spans : (P : Profile) (m : Option ℕ) (at : ℕ) → spansAt P m at [] ≡ []
-unfolding spansAt decode decodeFrom runs readPieces
-no-spans P m at = refl
 
 -- a stretch with no bytes left has no records
 no-records : (P : Profile) (m : Matched) (t : List ℕ) (at : ℕ) → length t ≤ at → recordsFrom P m t at ≡ []

@@ -9,6 +9,7 @@ use lib.ListN.{length, take, drop, getD, replicate}
 use lib.Dec.{eqb, leb, ltb}
 use Rattle.text.specs.Utf8.{Scalar, decode, runOf, bytesOf}
 use Rattle.text.specs.Class.{Profile, number}
+use Rattle.text.specs.Class.Ascii.{syllableOrOther}
 use Rattle.text.specs.Cluster.{clusters}
 use Rattle.text.specs.Code.{size, firstSize, printable}
 use Rattle.text.specs.Segmentation.{neverJoinsBefore}
@@ -135,13 +136,9 @@ pub record Within (s : List ℕ) (at end : ℕ) : Type 0 where
 
 -- ---- clusters
 
--- a control below 20, CR apart
-abbrev pub alone : ℕ → Bool
-alone b = leb b 0x1F && not (eqb b 0x0D)
-
--- the number of class LV, LVT or other
-abbrev pub base : ℕ → Bool
-base k = eqb k 8 || (eqb k 9 || eqb k 11)
+-- a C0 control, CR apart
+abbrev pub c0NotCr : ℕ → Bool
+c0NotCr b = leb b 0x1F && not (eqb b 0x0D)
 
 -- the clusters of the run that a line begins with
 abbrev pub clustersAt : Profile → List ℕ → List (List Scalar)
@@ -165,28 +162,33 @@ pub record PrintableTo (P : Profile) (t : List ℕ) (at r : ℕ) : Type 0 where
   pub to : PlainTo P t at r
 
 -- what stands behind a scalar of class LV, LVT or other leaves it a cluster by itself: another of these, a byte below 80, or the text's end
-unfoldable pub leavesBase : Profile → Bool → List Scalar → Bool
-leavesBase P damaged [] = not damaged
-leavesBase P damaged (c ∷ s) = base (number (P .class (c .code))) || ltb (getD (c .bytes) 0 0) 0x80
+unfoldable pub leavesSyllable : Profile → Bool → List Scalar → Bool
+leavesSyllable P damaged [] = not damaged
+leavesSyllable P damaged (c ∷ s) = syllableOrOther (number (P .class (c .code))) || ltb (getD (c .bytes) 0 0) 0x80
 
 -- the bytes of the scalars of these classes in front that are left so
-unfoldable pub basesSize : Profile → Bool → List Scalar → ℕ
-unfolding leavesBase
-basesSize P damaged [] = 0
-basesSize P damaged (c ∷ s) =
-    let more : ℕ = length (c .bytes) + basesSize P damaged s in
-    cond (base (number (P .class (c .code))) && leavesBase P damaged s) more 0
+unfoldable pub syllablesSize : Profile → Bool → List Scalar → ℕ
+unfolding leavesSyllable
+syllablesSize P damaged [] = 0
+syllablesSize P damaged (c ∷ s) =
+    let more : ℕ = length (c .bytes) + syllablesSize P damaged s in
+    cond (syllableOrOther (number (P .class (c .code))) && leavesSyllable P damaged s) more 0
 
--- the bytes of the plain clusters in front, up to one that begins with a printable byte; the first may begin with one where nothing stands before
-unfoldable pub clustersSize : Profile → Bool → List (List Scalar) → ℕ
-clustersSize P behind [] = 0
-clustersSize P behind (g ∷ gs) =
-    let more : ℕ = length (bytesOf g) + clustersSize P true gs in
-    cond (behind && printable (getD (bytesOf g) 0 0)) 0 (cond (plainCluster P g) more 0)
+-- a printable byte before a byte below 80 or the end
+abbrev pub printablePair : List ℕ → Bool
+printablePair s = printable (getD s 0 0) && ltb (getD s 1 0) 0x80
 
--- r is where these end that begin at a place: where the plain ones end, or before a printable byte
+-- the bytes of the plain clusters in front of the bytes s, up to such a pair behind the first
+unfoldable pub clustersSize : Profile → Bool → List ℕ → List (List Scalar) → ℕ
+clustersSize P behind s [] = 0
+clustersSize P behind s (g ∷ gs) =
+    let n : ℕ = length (bytesOf g) in
+    let more : ℕ = n + clustersSize P true (drop n s) gs in
+    cond (behind && printablePair s) 0 (cond (plainCluster P g) more 0)
+
+-- r is where these end that begin at a place: where the plain ones end, or before such a pair
 pub record ClustersTo (P : Profile) (t : List ℕ) (at r : ℕ) : Type 0 where
-  pub is : r ≡ at + clustersSize P false (clustersAt P (drop at t))
+  pub is : r ≡ at + clustersSize P false (drop at t) (clustersAt P (drop at t))
   pub to : PlainTo P t at r
   pub ends : printable (getD t r 0) ≡ false → plainSize P (clustersAt P (drop r t)) ≡ 0
   pub further : printable (getD t r 0) ≡ true → at < r
@@ -221,8 +223,8 @@ abbrev pub runAt : List ℕ → ℕ → ℕ
 runAt t at = at + size (runOf (decode (drop at t)))
 
 -- r is where these end that begin at a place
-pub record BasesTo (P : Profile) (t : List ℕ) (at r : ℕ) : Type 0 where
-  pub is : r ≡ at + basesSize P (ltb (runAt t at) (length t)) (runOf (decode (drop at t)))
+pub record SyllablesTo (P : Profile) (t : List ℕ) (at r : ℕ) : Type 0 where
+  pub is : r ≡ at + syllablesSize P (ltb (runAt t at) (length t)) (runOf (decode (drop at t)))
   pub to : PlainTo P t at r
 
 abbrev pub Ahead : List ℕ → ℕ → ℕ → Type 0
@@ -275,7 +277,7 @@ invalidAt c = record { span = aRecord 4 (c .at) 1 0; place = record { at = c .at
 
 pub record ControlReady (t : List ℕ) (c : Place) : Type 0 where
   pub ready : Ready t c
-  pub control : alone (getD t (c .at) 0) ≡ true
+  pub control : c0NotCr (getD t (c .at) 0) ≡ true
 
 pub record Escaping (t : List ℕ) (c : Place) : Type 0 where
   pub ready : Ready t c

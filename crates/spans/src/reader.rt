@@ -16,11 +16,12 @@ use text::utf8::run_end;
 ghost use mathlib.Core.Path.{_≡_};
 ghost use Prim.Native.Nat.{_+_, _-_, _≤_, _<_};
 ghost use lib.ListN.{length, getD, drop};
+ghost use Rattle.text.specs.Class.Ascii.{syllableOrOther};
 ghost use Rattle.text.specs.Code.{profileOf};
 ghost use Rattle.spans.specs.Sequence.{missing};
 ghost use Rattle.spans.specs.Spans.{aRecord};
 ghost use Rattle.spans.specs.Spans.Steps.{plainSize};
-ghost use Rattle.spans.specs.Contracts.{alone, base, clustersAt, PrintableTo, BasesTo, ClustersTo, escapeLook, lookBytes, Part, SkipReady, Skip, runAt, textRecord, invalidAt, Escaping, Mark, ControlReady, SpecialStep, Ready, Stepped};
+ghost use Rattle.spans.specs.Contracts.{c0NotCr, clustersAt, PrintableTo, SyllablesTo, ClustersTo, escapeLook, lookBytes, Part, SkipReady, Skip, runAt, textRecord, invalidAt, Escaping, Mark, ControlReady, SpecialStep, Ready, Stepped};
 
 // What a cluster that is no part of a text is: a kind of span, and its length.
 pub struct Look {
@@ -47,9 +48,9 @@ pub struct NextSpan {
     pub place: Place,
 }
 
-// Is the byte a control, CR apart? No rule joins what stands behind it.
-fn is_alone(b: u8) -> bool
-    ensures { λ r. ⌜ r ≡ alone b ⌝ }
+// Is the byte a C0 control, CR apart? No rule joins what stands behind it.
+fn is_c0_not_cr(b: u8) -> bool
+    ensures { λ r. ⌜ r ≡ c0NotCr b ⌝ }
 {
     (b <= 0x1F) & (b != 0x0D)
 }
@@ -78,22 +79,22 @@ fn printable_end(profile: Profile, t: &[u8], at: usize) -> usize
 }
 
 // Is it class LV, LVT or other? No rule joins two scalars of these classes, and none of them is without width.
-fn is_base(class: u8) -> bool
-    ensures { λ r. ⌜ r ≡ base class ⌝ }
+fn is_syllable_or_other(class: u8) -> bool
+    ensures { λ r. ⌜ r ≡ syllableOrOther class ⌝ }
 {
     (class == LV) | ((class == LVT) | (class == OTHER))
 }
 
 // Past scalars of these classes, in the same way.
-fn bases_end(profile: Profile, t: &[u8], at: usize) -> usize
+fn syllables_and_others_end(profile: Profile, t: &[u8], at: usize) -> usize
     requires { ⌜ at ≤ length (now t) ⌝ }
-    ensures { λ r. ⌜ BasesTo (profileOf profile) (now (t .entry)) at r ⌝ }
+    ensures { λ r. ⌜ SyllablesTo (profileOf profile) (now (t .entry)) at r ⌝ }
 {
     let mut i = at;
     let mut next = at;
     while next < t.len() {
         let u = scalar_at(profile, t, next);
-        if is_base((u / 8 % 16) as u8) {
+        if is_syllable_or_other((u / 8 % 16) as u8) {
             i = next;
             next += u % 8;
         } else {
@@ -106,7 +107,7 @@ fn bases_end(profile: Profile, t: &[u8], at: usize) -> usize
     next
 }
 
-// Past clusters that have a width: they are parts of a text. Up to a printable byte behind the first.
+// Past clusters that have a width: they are parts of a text. Up to a printable byte behind the first that no mark follows.
 fn clusters_end(profile: Profile, t: &[u8], at: usize) -> usize
     requires { ⌜ at < length (now t) ⌝ }
     ensures { λ r. ⌜ ClustersTo (profileOf profile) (now (t .entry)) at r ⌝ }
@@ -123,7 +124,8 @@ fn clusters_end(profile: Profile, t: &[u8], at: usize) -> usize
         let end = part.end;
         p = end.0;
         u = step.next;
-        if is_printable(byte_at(t, p) as u32) {
+        let printable = is_printable(byte_at(t, p) as u32);
+        if printable & (byte_at(t, p + 1) < 0x80) {
             return p;
         }
     }
@@ -138,11 +140,11 @@ fn text_end(profile: Profile, t: &[u8], at: usize) -> usize
     let mut i = at;
     while i < t.len() {
         let a = printable_end(profile, t, i);
-        if is_alone(byte_at(t, a)) {
+        if is_c0_not_cr(byte_at(t, a)) {
             return a;
         }
-        let b = bases_end(profile, t, a);
-        if is_alone(byte_at(t, b)) {
+        let b = syllables_and_others_end(profile, t, a);
+        if is_c0_not_cr(byte_at(t, b)) {
             return b;
         }
         let end = clusters_end(profile, t, b);
@@ -306,22 +308,27 @@ pub(crate) fn next_span(profile: Profile, t: &[u8], c: Place, m: Matched) -> Nex
     ensures { λ r. ⌜ Stepped (profileOf profile) (now (t .entry)) m (c .at) r ⌝ }
 {
     let at = c.at;
-    if is_alone(byte_at(t, at)) {
+    if is_c0_not_cr(byte_at(t, at)) {
         return control_span(profile, t, c);
     }
-    if scalar_at(profile, t, at) == 0 {
+    let u = scalar_at(profile, t, at);
+    if u == 0 {
         return invalid_span(c);
     }
-    let end = text_end(profile, t, at);
-    if at < end {
-        let span = text_span(at, end, m);
-        return NextSpan {
-            span: span,
-            place: Place {
-                at: end,
-                run: c.run,
-            },
-        };
+    let step = next_cluster(profile, t, BytePlace(at), u);
+    let part = step.part;
+    let first = part.end;
+    let width = part.width;
+    if width.0 == 0 {
+        return mark_span(profile, t, c, first.0);
     }
-    mark_span(profile, t, c, cluster_end(profile, t, at))
+    let end = text_end(profile, t, first.0);
+    let span = text_span(at, end, m);
+    NextSpan {
+        span: span,
+        place: Place {
+            at: end,
+            run: c.run,
+        },
+    }
 }

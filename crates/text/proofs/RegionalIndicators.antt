@@ -20,7 +20,7 @@ use Rattle.text.specs.Scalar.Laws.{NoScalar, PackedScalar, packed-inside
 use Rattle.text.specs.Tests.{cases, in-range, every, every-one}
 use Rattle.text.specs.TextParts.{textAt}
 use Rattle.text.specs.Utf8.{Scalar, bytesOf, decode, runOf, sequence, to, within}
-use Rattle.text.proofs.BackwardWalk.{Left, class-of, flip, flip-false, headOf, joined-indicators, odd-on, odd-other, odd-ri}
+use Rattle.text.proofs.BackwardWalk.{Left, class-of, flip, flip-false, front-is, headOf, joined-indicators, odd-on, odd-other, odd-ri}
 use Rattle.text.proofs.LeadBytes.{high-len}
 use Rattle.text.proofs.PackedScalars.{indicator}
 use Rattle.text.proofs.Runs.{Head, back-scalar, run-drop, run-head, run-inside, size-reverse}
@@ -191,17 +191,9 @@ even-front t q i h w =
 
 -- ---- counting up to an even place
 
--- what stands before a place of a text is one list of scalars
-front-same : (t : List ℕ) (rest es rest′ es′ : List Scalar) → runOf (decode t) ≡ reverseAux rest es → runOf (decode t) ≡ reverseAux rest′ es′ → size rest ≡ size rest′ → rest ≡ rest′
-front-same t rest es rest′ es′ p p′ s =
-    let a = run-prefix (reverse rest) es t (p ∙ reverseAux-eq rest es) .0 in
-    let b = run-prefix (reverse rest′) es′ t (p′ ∙ reverseAux-eq rest′ es′) .0 in
-    let n : size (reverse rest) ≡ size (reverse rest′) = size-reverse rest ∙ s ∙ sym (size-reverse rest′) in
-    sym (reverse-reverse rest) ∙ ap reverse (sym a ∙ ap (λ (k : ℕ). runOf (decode (take k t))) n ∙ b) ∙ reverse-reverse rest′
-
 pub odd-even : (v : code.Profile) (t : List ℕ) (i : ℕ) (odd total : Bool) (even : ℕ) → EvenAt t even → i ≡ even → Left (profileOf v) t i odd total → odd ≡ total
 odd-even v t i odd total even e z l =
-    let same : l .rest ≡ e .rest = front-same t (l .rest) (l .es) (e .rest) (e .es) (l .parts) (e .parts) (l .place ∙ z ∙ sym (e .place)) in
+    let same : l .rest ≡ e .rest = sym (front-is t even (l .rest) (l .es) (l .parts) (l .place ∙ z)) ∙ front-is t even (e .rest) (e .es) (e .parts) (e .place) in
     let o : context (profileOf v) (l .rest) .odd ≡ false = ap (λ (x : List Scalar). context (profileOf v) x .odd) same ∙ e .even v in
     sym (l .parity ∙ ap (flip odd) o ∙ flip-false odd)
 

@@ -6,11 +6,12 @@ use mathlib.Core.Path.{_≡_}
 use lib.Dec.{eqb, leb, ltb}
 use lib.ListN.{getD, length, take}
 use Rattle.text.specs.Class.{Profile}
-use Rattle.text.specs.Cluster.{context, joins}
+use Rattle.text.specs.Cluster.{context, joins, joinsNext}
 use Rattle.text.specs.Code.{isTail, profileOf, runOf, size, whole}
 use Rattle.text.specs.Overstrike.{backspace}
 use Rattle.text.specs.Scalar.{packedAt}
 use Rattle.text.specs.Segmentation.{neverJoinsBefore}
+use Rattle.text.specs.TextParts.{textAt}
 use Rattle.text.specs.Utf8.{Scalar, ascii, decode}
 use Rattle.text.specs.declared.backward.Erasure.{Erasure}
 use Rattle.text.specs.declared.class.Profile as code
@@ -26,16 +27,26 @@ module _ (P : Profile) where
   withoutLast [] = []
   withoutLast (c ∷ rest) = let further : List Scalar = withoutLast rest in cond (joins P rest c) further rest
 
-  -- r says whether an odd number of regional indicators ends at q, and whether there is no boundary at q, where q is the end of a scalar of t
-  abbrev pub OddTo : List ℕ → ℕ → Bool → Type 0
-  OddTo t q r = (rest es : List Scalar) → runOf (decode t) ≡ reverseAux rest es → size rest ≡ q → r ≡ context P rest .odd
-
-  abbrev pub JoinsAt : List ℕ → ℕ → Bool → Type 0
-  JoinsAt t q r = (c : Scalar) (rest es : List Scalar) → runOf (decode t) ≡ reverseAux rest (c ∷ es) → size rest ≡ q → r ≡ joins P rest c
-
 -- a text's scalars, the last first
 unfoldable pub backward : List ℕ → List Scalar
 backward t = reverse (runOf (decode t))
+
+-- a scalar of t begins at q
+pub record ScalarStart (t : List ℕ) (q : ℕ) : Type 0 where
+  pub c : Scalar
+  pub rest : List Scalar
+  pub es : List Scalar
+  pub parts : runOf (decode t) ≡ reverseAux rest (c ∷ es)
+  pub place : size rest ≡ q
+
+module _ (P : Profile) where
+  -- an odd number of regional indicators ends at q
+  abbrev pub oddTo : List ℕ → ℕ → Bool
+  oddTo t q = context P (backward (take q t)) .odd
+
+  -- there is no boundary at q
+  abbrev pub joinsAt : List ℕ → ℕ → Bool
+  joinsAt t q = joinsNext P (backward (take q t)) (textAt t q)
 
 -- ---- regional indicators
 

@@ -6,6 +6,7 @@ use lib.Dec.{eqb}
 use Rattle.text.specs.Utf8.{Range, to, within}
 pub mod Ranges
 pub mod Document01
+pub mod Ascii
 
 pub data Class : Type 0 where
   cr lf control extend zwj classL classV classT classLV classLVT regionalIndicator other : Class

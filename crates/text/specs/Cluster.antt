@@ -7,6 +7,7 @@ use Rattle.text.specs.Class.{cr, lf, control, extend, zwj, classL, class
 pub mod Laws
 pub mod Walk
 pub mod Spaces
+pub mod Ascii
 
 -- what the rules ask of the scalars before, besides the last one's class: an odd number of regional indicators ends there
 pub record Context : Type 0 where

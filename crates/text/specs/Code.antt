@@ -17,6 +17,7 @@ use Rattle.text.specs.declared.class.Profile as code
 pub mod Laws
 pub mod FirstSequence
 pub mod Boundaries
+pub mod Profile01
 
 -- document 01's profile, whatever the version: other versions join it as cases
 unfoldable pub profileOf : code.Profile → Profile

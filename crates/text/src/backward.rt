@@ -16,7 +16,7 @@ ghost use lib.ListN.{length};
 ghost use Rattle.text.specs.Utf8.{decode};
 ghost use Rattle.text.specs.Code.{profileOf, runOf, size, whole};
 ghost use Rattle.text.specs.Scalar.{packedAt};
-ghost use Rattle.text.specs.Backward.{back, OddTo, JoinsAt, withoutLast, EvenAt, indicatorAt, endsInPair, betweenIndicators, evenBefore, Erased};
+ghost use Rattle.text.specs.Backward.{back, ScalarStart, oddTo, joinsAt, withoutLast, EvenAt, indicatorAt, endsInPair, betweenIndicators, evenBefore, Erased};
 
 // Where a text ends behind an erasure, and a place up to there at which an even number of regional indicators ends.
 pub struct Erasure {
@@ -58,10 +58,10 @@ fn is_indicator(profile: Profile, t: &[u8], at: usize) -> bool
     scalar_at(profile, t, at) == 4 + INDICATOR
 }
 
-// Does an odd number of regional indicators end at q, the end of a scalar of the text? An even number is known to end at `even`.
+// Does an odd number of regional indicators end at q, the start of a scalar of the text? An even number is known to end at `even`.
 fn odd_to(profile: Profile, t: &[u8], q: usize, even: usize) -> bool
-    requires { ⌜ (q ≤ length (now t)) × EvenAt (now t) even ⌝ }
-    ensures { λ r. ⌜ OddTo (profileOf profile) (now (t .entry)) q r ⌝ }
+    requires { ⌜ (q ≤ length (now t)) × ScalarStart (now t) q × EvenAt (now t) even ⌝ }
+    ensures { λ r. ⌜ r ≡ oddTo (profileOf profile) (now (t .entry)) q ⌝ }
 {
     let mut odd = false;
     let mut i = q;
@@ -81,8 +81,8 @@ fn odd_to(profile: Profile, t: &[u8], q: usize, even: usize) -> bool
 
 // Is there no boundary at q, the start of a scalar of the text?
 fn joins_at(profile: Profile, t: &[u8], q: usize, even: usize) -> bool
-    requires { ⌜ (q < length (now t)) × EvenAt (now t) even ⌝ }
-    ensures { λ r. ⌜ JoinsAt (profileOf profile) (now (t .entry)) q r ⌝ }
+    requires { ⌜ (q < length (now t)) × ScalarStart (now t) q × EvenAt (now t) even ⌝ }
+    ensures { λ r. ⌜ r ≡ joinsAt (profileOf profile) (now (t .entry)) q ⌝ }
 {
     if q == 0 {
         return false;

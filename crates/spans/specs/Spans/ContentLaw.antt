@@ -1,25 +1,25 @@
 -- What a span holds is what its record says of the line: the code above has only the record and the converted line.
 use mathlib.Core.Path.{_≡_, refl, sym, ap, ap₂, _∙_}
-use Prim.Native.Nat.{ℕ, zero, suc, _+_, _-_, _≤_}
+use Prim.Native.Nat.{ℕ, zero, suc, _+_, _-_}
 use native.Mathlib.Omega.{arith}
 use mathlib.Core.Bool.{Bool, true, false, cond, _||_}
 use mathlib.Core.List.{List, [], _∷_, _++_, append-assoc, append-nil}
 use mathlib.Core.Option.{Option, none, some}
 use lib.ListN.{length, take, drop, getD, length-append, take-append-drop, drop-of-length-le}
 use lib.Seq.{take-append-seam, take-nil, drop-append-le}
-use lib.Dec.{T, eqb, leb, eqb→eq}
+use lib.Dec.{eqb, leb}
 use borrow.Author.Tests.{leb-true, leb-false}
-use Rattle.text.specs.Tests.{cases, and-T, true-T}
+use Rattle.text.specs.Tests.{cases}
 use Rattle.text.specs.Each.{All, all-nil, all-cons, all-append, all-split, all-map}
 use Rattle.text.specs.Places.{behind, behind-byte}
-use Rattle.text.specs.Utf8.{Scalar, decode, Piece, runOf, bytesOf, sameBytes, reads}
-use Rattle.text.specs.Utf8.Laws.{bytesOf-append, pieceBytes, pieceBytes-runs, decodedBytes-decode}
+use Rattle.text.specs.Utf8.{Scalar, decode, Piece, runOf, bytesOf, reads}
+use Rattle.text.specs.Utf8.Laws.{bytesOf-append, pieceBytes, pieces-damaged, pieces-run, reads-is, pieceBytes-runs, decodedBytes-decode}
 use Rattle.text.specs.Utf8.Valid.{Valid, ValidPiece, runs-valid, run-text}
 use Rattle.text.specs.Class.{Profile}
 use Rattle.text.specs.Width.{widthOf}
 use Rattle.text.specs.Cluster.{clusters, joinAll}
-use Rattle.text.specs.Cluster.Laws.{clusters-all}
-use Rattle.spans.specs.Sequence.{Sequence, sgr, eraseToEnd, ignored, hyperlink, lineDrawing, Found, found, missing, parse}
+use Rattle.text.specs.Cluster.Laws.{clusters-all, join-bytes, join-cons}
+use Rattle.spans.specs.Sequence.{sgr, eraseToEnd, ignored, hyperlink, lineDrawing, Found, found, missing, parse}
 use Rattle.spans.specs.Sequence.Laws.{parse-stable}
 use Rattle.spans.specs.Search.{Stretch, offsetFrom, escapes, readPart, readMatches, read}
 use Rattle.spans.specs.Spans.{Content, text, control, invalid, unprintable, escape, tab, crlf, lf, Span, span, Seen, plain, special, escapeSeen, controlSeen, joinText, addText, addCluster, seen, readFrom, readPieces, spansAt, spans, Record, aRecord, kindOf, matchOf, recordOf}
@@ -167,13 +167,6 @@ cond-stands : (line : List ℕ) (p : ℕ) (b : Bool) (x y : Seen) → (b ≡ tru
 cond-stands line p true x y f g = f refl
 cond-stands line p false x y f g = g refl
 
-same-bytes : (s t : List ℕ) → T (sameBytes s t) → s ≡ t
-unfolding sameBytes
-same-bytes [] [] h = refl
-same-bytes [] (b ∷ t) h = absurd h
-same-bytes (a ∷ s) [] h = absurd h
-same-bytes (a ∷ s) (b ∷ t) h = let w = and-T (eqb a b) (sameBytes s t) h in ap₂ (λ (x : ℕ) (l : List ℕ). x ∷ l) (eqb→eq a b (w .0)) (same-bytes s t (w .1))
-
 module _ (line : List ℕ) (p : ℕ) (after : List ℕ) where
   escape-stands : (f : Found) (s : List ℕ) → parse s ≡ f → drop p line ≡ 0x1B ∷ (s ++ after) → SeenStands line p (escapeSeen f)
   unfolding SeenStands escapeSeen Stands sequenceIn
@@ -188,13 +181,13 @@ module _ (line : List ℕ) (p : ℕ) (after : List ℕ) where
 
 module _ (P : Profile) (line : List ℕ) where
   seen-stands : (p : ℕ) (g : List Scalar) (s after : List ℕ) → drop p line ≡ bytesOf g ++ (s ++ after) → All Valid g → SeenStands line p (seen P g s)
-  unfolding seen reads SeenStands Stands
+  unfolding seen SeenStands Stands
   seen-stands p g s after d v =
-      cond-stands line p (sameBytes (bytesOf g) (0x1B ∷ [])) _ _
-      (λ e. escape-stands line p after (parse s) s refl (d ∙ ap (λ (l : List ℕ). l ++ (s ++ after)) (same-bytes (bytesOf g) (0x1B ∷ []) (true-T e))))
-      (λ e. cond-stands line p (sameBytes (bytesOf g) (0x0D ∷ 0x0A ∷ [])) _ _ (λ e. tt)
-      (λ e. cond-stands line p (sameBytes (bytesOf g) (0x0A ∷ [])) _ _ (λ e. tt)
-      (λ e. cond-stands line p (sameBytes (bytesOf g) (0x09 ∷ [])) _ _ (λ e. tt)
+      cond-stands line p (reads g (0x1B ∷ [])) _ _
+      (λ e. escape-stands line p after (parse s) s refl (d ∙ ap (λ (l : List ℕ). l ++ (s ++ after)) (reads-is g (0x1B ∷ []) e)))
+      (λ e. cond-stands line p (reads g (0x0D ∷ 0x0A ∷ [])) _ _ (λ e. tt)
+      (λ e. cond-stands line p (reads g (0x0A ∷ [])) _ _ (λ e. tt)
+      (λ e. cond-stands line p (reads g (0x09 ∷ [])) _ _ (λ e. tt)
       (λ e. control-stands line p (s ++ after) (bytesOf g) _ d
       (cond-stands line p (eqb (widthOf P g) 0) _ _
       (λ e. record { bytes = d ∙ ap (λ (l : List ℕ). bytesOf g ++ l) (sym (behind p line (bytesOf g) (s ++ after) d)); len = refl; valid = v })
@@ -214,31 +207,32 @@ module _ (P : Profile) (line : List ℕ) where
 
   readFrom-stands : (m : Option ℕ) (p k : ℕ) (gs : List (List Scalar)) (after : List ℕ) → drop p line ≡ bytesOf (joinAll gs) ++ after → All Valid (joinAll gs)
       → All (StandsIn line) (readFrom P m p k gs)
-  unfolding readFrom joinAll
+  unfolding readFrom
   readFrom-stands m p k [] after d v = all-nil
   readFrom-stands m p zero (g ∷ gs) after d v =
-      let w = all-split g v in
-      let e : drop p line ≡ bytesOf g ++ (bytesOf (joinAll gs) ++ after) = d ∙ ap (λ (l : List ℕ). l ++ after) (bytesOf-append g (joinAll gs)) ∙ append-assoc (bytesOf g) (bytesOf (joinAll gs)) after in
+      let w = all-split g (rw (join-cons g gs) at v) in
+      let e : drop p line ≡ bytesOf g ++ (bytesOf (joinAll gs) ++ after) = d ∙ ap (λ (l : List ℕ). l ++ after) (join-bytes g gs) ∙ append-assoc (bytesOf g) (bytesOf (joinAll gs)) after in
       let f = behind p line (bytesOf g) (bytesOf (joinAll gs) ++ after) e in
       addCluster-stands m p g (seen P g (bytesOf (joinAll gs))) (λ k. readFrom P m (p + length (bytesOf g)) k gs) (e ∙ ap (λ (l : List ℕ). bytesOf g ++ l) (sym f)) (w .0) (seen-stands p g (bytesOf (joinAll gs)) after e (w .0))
       (readFrom-begins m (p + length (bytesOf g)) gs)
       (λ k. readFrom-stands m (p + length (bytesOf g)) k gs after f (w .1))
   readFrom-stands m p (suc k) (g ∷ gs) after d v =
-      let e : drop p line ≡ bytesOf g ++ (bytesOf (joinAll gs) ++ after) = d ∙ ap (λ (l : List ℕ). l ++ after) (bytesOf-append g (joinAll gs)) ∙ append-assoc (bytesOf g) (bytesOf (joinAll gs)) after in
-      readFrom-stands m (p + length (bytesOf g)) (suc k - length (bytesOf g)) gs after (behind p line (bytesOf g) (bytesOf (joinAll gs) ++ after) e) (all-split g v .1)
+      let e : drop p line ≡ bytesOf g ++ (bytesOf (joinAll gs) ++ after) = d ∙ ap (λ (l : List ℕ). l ++ after) (join-bytes g gs) ∙ append-assoc (bytesOf g) (bytesOf (joinAll gs)) after in
+      readFrom-stands m (p + length (bytesOf g)) (suc k - length (bytesOf g)) gs after (behind p line (bytesOf g) (bytesOf (joinAll gs) ++ after) e) (all-split g (rw (join-cons g gs) at v) .1)
 
   -- ---- lines, and lines with matches
 
   readPieces-stands : (m : Option ℕ) (p : ℕ) {ps : List Piece} (after : List ℕ) → drop p line ≡ pieceBytes ps ++ after → All ValidPiece ps → All (StandsIn line) (readPieces P m p ps)
-  unfolding readPieces pieceBytes Stands
+  unfolding readPieces Stands
   readPieces-stands m p after d all-nil = all-nil
   readPieces-stands m p after d (all-cons {s = ps} (ValidPiece.valid {s = s} v) a) =
-      let e : drop p line ≡ bytesOf s ++ (pieceBytes ps ++ after) = d ∙ append-assoc (bytesOf s) (pieceBytes ps) after in
+      let e : drop p line ≡ bytesOf s ++ (pieceBytes ps ++ after) = d ∙ ap (λ (l : List ℕ). l ++ after) (pieces-run s ps) ∙ append-assoc (bytesOf s) (pieceBytes ps) after in
       let c : joinAll (clusters P s) ≡ s = clusters-all P s in
       all-append (readFrom-stands m p zero (clusters P s) (pieceBytes ps ++ after) (rw c e) (rw c v))
       (readPieces-stands m (p + length (bytesOf s)) after (behind p line (bytesOf s) (pieceBytes ps ++ after) e) a)
   readPieces-stands m p after d (all-cons {s = ps} (ValidPiece.ill {b = b}) a) =
-      all-cons (ap (λ (l : List ℕ). getD l 0 0) d) (readPieces-stands m (suc p) after (behind-byte p line b (pieceBytes ps ++ after) d) a)
+      let e : drop p line ≡ b ∷ (pieceBytes ps ++ after) = d ∙ ap (λ (l : List ℕ). l ++ after) (pieces-damaged b ps) in
+      all-cons (ap (λ (l : List ℕ). getD l 0 0) e) (readPieces-stands m (suc p) after (behind-byte p line b (pieceBytes ps ++ after) e) a)
 
   spansAt-stands : (m : Option ℕ) (p : ℕ) (s after : List ℕ) → drop p line ≡ s ++ after → All (StandsIn line) (spansAt P m p s)
   unfolding spansAt

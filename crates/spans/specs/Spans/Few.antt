@@ -3,7 +3,7 @@ use mathlib.Core.Path.{_≡_, refl, ap, _∙_}
 use Prim.Native.Nat.{ℕ, zero, suc, _+_, _-_, _≤_}
 use native.Mathlib.Omega.{arith}
 use mathlib.Core.Bool.{true, false, _&&_}
-use mathlib.Core.List.{List, [], _∷_, _++_}
+use mathlib.Core.List.{List, [], _∷_}
 use mathlib.Core.Option.{Option, none, some}
 use lib.ListN.{length, take, drop, length-append, length-drop}
 use lib.Seq.{length-take-le, take-all}
@@ -12,13 +12,13 @@ use borrow.Author.Tests.{leb-true, leb-false, ltb-true, ltb-false, le-ltb}
 use Rattle.text.specs.Tests.{cases, and-T, true-T, is-true}
 use Rattle.text.specs.Each.{All, all-nil, all-cons}
 use Rattle.text.specs.Utf8.{Scalar, decode, Piece, bytesOf}
-use Rattle.text.specs.Utf8.Laws.{bytesOf-append, pieceBytes, pieceBytes-runs, decodedBytes-decode}
+use Rattle.text.specs.Utf8.Laws.{pieceBytes, pieces-damaged, pieces-run, pieceBytes-runs, decodedBytes-decode}
 use Rattle.text.specs.Utf8.Valid.{ValidPiece, runs-valid}
 use Rattle.text.specs.Class.{Profile}
 use Rattle.text.specs.Cluster.{clusters, joinAll}
-use Rattle.text.specs.Cluster.Laws.{clusters-all}
+use Rattle.text.specs.Cluster.Laws.{clusters-all, join-length}
+use Rattle.text.specs.Cluster.Walk.{clusters-some}
 use Rattle.spans.specs.Spans.{Content, text, control, invalid, unprintable, escape, tab, crlf, lf, Span, Seen, plain, special, joinText, addText, addCluster, seen, readFrom, readPieces, spansAt, spans}
-use Rattle.spans.specs.Spans.Inside.{clusters-some}
 use Rattle.spans.specs.Search.{Stretch, escapeMatch, addStretch, escapesFrom, trimmed, escapes, searchedLength, inOrder, offsetFrom, readPart, readMatches, read}
 
 -- a cluster adds at most one span
@@ -46,25 +46,23 @@ addCluster-few m p g n (special c k) go most h = omega (arith, h (k - n))
 
 module _ (P : Profile) where
   readFrom-few : (gs : List (List Scalar)) → (m : Option ℕ) (p k : ℕ) → All (λ (g : List Scalar). 1 ≤ length (bytesOf g)) gs → length (readFrom P m p k gs) ≤ length (bytesOf (joinAll gs))
-  unfolding readFrom joinAll
+  unfolding readFrom
   readFrom-few [] = λ m p k a. omega arith
   readFrom-few (g ∷ gs) = λ m p k a. go (λ m p k a. readFrom-few gs m p k a) m p k a
     where
       go : ((m : Option ℕ) (p k : ℕ) → All (λ (g : List Scalar). 1 ≤ length (bytesOf g)) gs → length (readFrom P m p k gs) ≤ length (bytesOf (joinAll gs)))
           → (m : Option ℕ) (p k : ℕ) → All (λ (g : List Scalar). 1 ≤ length (bytesOf g)) (g ∷ gs) → length (readFrom P m p k (g ∷ gs)) ≤ length (bytesOf (joinAll (g ∷ gs)))
       go ih m p zero (all-cons s a) =
-          let n : length (bytesOf (g ++ joinAll gs)) ≡ length (bytesOf g) + length (bytesOf (joinAll gs)) = ap length (bytesOf-append g (joinAll gs)) ∙ length-append (bytesOf g) (bytesOf (joinAll gs)) in
-          omega (arith, addCluster-few m p g (length (bytesOf g)) (seen P g (bytesOf (joinAll gs))) (λ k. readFrom P m (p + length (bytesOf g)) k gs) (length (bytesOf (joinAll gs))) (λ k. ih m (p + length (bytesOf g)) k a))
+          omega (arith, join-length g gs, addCluster-few m p g (length (bytesOf g)) (seen P g (bytesOf (joinAll gs))) (λ k. readFrom P m (p + length (bytesOf g)) k gs) (length (bytesOf (joinAll gs))) (λ k. ih m (p + length (bytesOf g)) k a))
       go ih m p (suc k) (all-cons s a) =
-          let n : length (bytesOf (g ++ joinAll gs)) ≡ length (bytesOf g) + length (bytesOf (joinAll gs)) = ap length (bytesOf-append g (joinAll gs)) ∙ length-append (bytesOf g) (bytesOf (joinAll gs)) in
-          omega (arith, ih m (p + length (bytesOf g)) (suc k - length (bytesOf g)) a)
+          omega (arith, join-length g gs, ih m (p + length (bytesOf g)) (suc k - length (bytesOf g)) a)
 
   readPieces-few : (m : Option ℕ) (p : ℕ) {ps : List Piece} → All ValidPiece ps → length (readPieces P m p ps) ≤ length (pieceBytes ps)
-  unfolding readPieces pieceBytes
+  unfolding readPieces
   readPieces-few m p all-nil = omega arith
   readPieces-few m p (all-cons {s = ps} (ValidPiece.valid {s = s} v) a) =
-      simp length-append (omega (arith, ap (λ (t : List Scalar). length (bytesOf t)) (clusters-all P s), readFrom-few (clusters P s) m p zero (clusters-some P (clusters P s) s refl v), readPieces-few m (p + length (bytesOf s)) a))
-  readPieces-few m p (all-cons {s = ps} (ValidPiece.ill {b = b}) a) = omega (arith, readPieces-few m (suc p) a)
+      rw (pieces-run s ps) (simp length-append (omega (arith, ap (λ (t : List Scalar). length (bytesOf t)) (clusters-all P s), readFrom-few (clusters P s) m p zero (clusters-some P (clusters P s) s refl v), readPieces-few m (p + length (bytesOf s)) a)))
+  readPieces-few m p (all-cons {s = ps} (ValidPiece.ill {b = b}) a) = rw (pieces-damaged b ps) (omega (arith, readPieces-few m (suc p) a))
 
   spansAt-few : (m : Option ℕ) (p : ℕ) (s : List ℕ) → length (spansAt P m p s) ≤ length s
   unfolding spansAt

@@ -7,22 +7,23 @@ use mathlib.Core.List.{List, [], _∷_, _++_}
 use mathlib.Core.Option.{Option, none, some}
 use lib.ListN.{length, take, drop, length-append, length-drop, drop-of-length-le}
 use lib.Seq.{take-nil, length-take-le, take-all}
-use lib.Dec.{T, eqb, leb}
+use lib.Dec.{eqb, leb}
 use borrow.Author.Tests.{leb-true, leb-false}
-use Rattle.text.specs.Tests.{cases, and-T, true-T}
-use Rattle.text.specs.Each.{All, all-nil, all-cons, all-append, all-map, all-split}
-use Rattle.text.specs.Utf8.{Scalar, decode, decodeFrom, Piece, runs, bytesOf, sameBytes, reads}
-use Rattle.text.specs.Utf8.Laws.{bytesOf-append, pieceBytes, pieceBytes-runs, decodedBytes-decode}
-use Rattle.text.specs.Utf8.Valid.{Valid, ValidPiece, runs-valid}
+use Rattle.text.specs.Tests.{cases}
+use Rattle.text.specs.Each.{All, all-nil, all-cons, all-append, all-map}
+use Rattle.text.specs.Utf8.{Scalar, decode, Piece, run, bytesOf, reads}
+use Rattle.text.specs.Utf8.Laws.{pieceBytes, pieces-damaged, pieces-run, reads-is, pieceBytes-runs, decodedBytes-decode}
+use Rattle.text.specs.Utf8.Valid.{ValidPiece, runs-valid}
 use Rattle.text.specs.Class.{Profile}
 use Rattle.text.specs.Width.{widthOf}
 use Rattle.text.specs.Cluster.{clusters, joinAll}
-use Rattle.text.specs.Cluster.Laws.{clusters-all}
-use Rattle.text.specs.Cluster.Walk.{first}
-use Rattle.spans.specs.Sequence.{Sequence, Found, found, missing, parse}
+use Rattle.text.specs.Cluster.Laws.{clusters-all, join-length}
+use Rattle.text.specs.Cluster.Walk.{clusters-some}
+use Rattle.spans.specs.Sequence.{Found, found, missing, parse}
 use Rattle.spans.specs.Sequence.Laws.{parse-length}
 use Rattle.spans.specs.Search.{Stretch, offsetFrom, escapes, readPart, readMatches, read}
 use Rattle.spans.specs.Spans.{Content, text, control, invalid, unprintable, escape, tab, crlf, lf, Span, span, Seen, plain, special, escapeSeen, controlSeen, joinText, addText, addCluster, seen, readFrom, readPieces, spansAt, spans}
+use Rattle.spans.specs.Spans.Laws.{no-spans}
 
 -- a span from p on, up to q
 pub record Between (p q : ℕ) (s : Span) : Type 0 where
@@ -76,25 +77,15 @@ control-most n [] w h z = z
 control-most n (b ∷ []) w h z = cond-most n (leb b 0x1F || eqb b 0x7F) (special (control b) 1) w (λ e. h) (λ e. z)
 control-most n (b ∷ c ∷ g) w h z = z
 
-two-bytes : (g : List ℕ) (a b : ℕ) → T (sameBytes g (a ∷ b ∷ [])) → 2 ≤ length g
-unfolding sameBytes
-two-bytes [] a b h = absurd h
-two-bytes (x ∷ []) a b h = absurd (and-T (eqb x a) false h .1)
-two-bytes (x ∷ y ∷ g) a b h = omega arith
-
-valid-some : (c : Scalar) (s : List Scalar) → All Valid (c ∷ s) → 1 ≤ length (bytesOf (c ∷ s))
-unfolding bytesOf
-valid-some c s (all-cons v a) = simp length-append (omega (arith, v .some))
-
 module _ (P : Profile) where
   seen-most : (g : List Scalar) (s : List ℕ) → 1 ≤ length (bytesOf g) → AtMost (length (bytesOf g) + length s) (seen P g s)
-  unfolding seen reads AtMost
+  unfolding seen AtMost
   seen-most g s h =
       let n : ℕ = length (bytesOf g) + length s in
-      cond-most n (sameBytes (bytesOf g) (0x1B ∷ [])) _ _ (λ e. escape-most n s (parse s) refl (omega arith))
-      (λ e. cond-most n (sameBytes (bytesOf g) (0x0D ∷ 0x0A ∷ [])) _ _ (λ e. omega (arith, two-bytes (bytesOf g) 0x0D 0x0A (true-T e)))
-      (λ e. cond-most n (sameBytes (bytesOf g) (0x0A ∷ [])) _ _ (λ e. omega arith)
-      (λ e. cond-most n (sameBytes (bytesOf g) (0x09 ∷ [])) _ _ (λ e. omega arith)
+      cond-most n (reads g (0x1B ∷ [])) _ _ (λ e. escape-most n s (parse s) refl (omega arith))
+      (λ e. cond-most n (reads g (0x0D ∷ 0x0A ∷ [])) _ _ (λ e. omega (arith, ap length (reads-is g (0x0D ∷ 0x0A ∷ []) e)))
+      (λ e. cond-most n (reads g (0x0A ∷ [])) _ _ (λ e. omega arith)
+      (λ e. cond-most n (reads g (0x09 ∷ [])) _ _ (λ e. omega arith)
       (λ e. control-most n (bytesOf g) _ (omega arith) (cond-most n (eqb (widthOf P g) 0) _ _ (λ e. omega arith) (λ e. tt))))))
 
   addCluster-inside : (m : Option ℕ) (p q : ℕ) (g : List Scalar) (n : ℕ) (w : Seen) (go : ℕ → List Span) → p + length (bytesOf g) ≤ q → p + n ≤ q → AtMost n w → ((k : ℕ) → All (Between (p + length (bytesOf g)) q) (go k))
@@ -103,55 +94,44 @@ module _ (P : Profile) where
   addCluster-inside m p q g n plain go h k z a = addText-inside m p q g (go zero) h (a zero)
   addCluster-inside m p q g n (special c j) go h k z a = all-cons (between p q j c (omega arith)) (later p (p + length (bytesOf g)) q (omega arith) (a (j - length (bytesOf g))))
 
-  pub clusters-some : (gs : List (List Scalar)) → (s : List Scalar) → clusters P s ≡ gs → All Valid s → All (λ (g : List Scalar). 1 ≤ length (bytesOf g)) gs
-  clusters-some [] = λ s e a. all-nil
-  clusters-some (g ∷ gs) = λ s e a.
-      let f = first P s g gs e in
-      let v = all-split g (rw (f .text) at a) in
-      let k : 1 ≤ length (bytesOf g) = rw (f .some) (valid-some (f .head) (f .more) (rw (f .some) at (v .0))) in
-      all-cons k (clusters-some gs (f .rest) (f .others) (v .1))
-
   readFrom-inside : (gs : List (List Scalar)) → (m : Option ℕ) (p k q : ℕ) → All (λ (g : List Scalar). 1 ≤ length (bytesOf g)) gs → p + length (bytesOf (joinAll gs)) ≤ q → All (Between p q) (readFrom P m p k gs)
-  unfolding readFrom joinAll
+  unfolding readFrom
   readFrom-inside [] = λ m p k q a h. all-nil
   readFrom-inside (g ∷ gs) = λ m p k q a h. go (λ m p k q a h. readFrom-inside gs m p k q a h) m p k q a h
     where
       go : ((m : Option ℕ) (p k q : ℕ) → All (λ (g : List Scalar). 1 ≤ length (bytesOf g)) gs → p + length (bytesOf (joinAll gs)) ≤ q → All (Between p q) (readFrom P m p k gs))
           → (m : Option ℕ) (p k q : ℕ) → All (λ (g : List Scalar). 1 ≤ length (bytesOf g)) (g ∷ gs) → p + length (bytesOf (joinAll (g ∷ gs))) ≤ q → All (Between p q) (readFrom P m p k (g ∷ gs))
       go ih m p zero q (all-cons s a) h =
-          let n : length (bytesOf (g ++ joinAll gs)) ≡ length (bytesOf g) + length (bytesOf (joinAll gs)) = ap length (bytesOf-append g (joinAll gs)) ∙ length-append (bytesOf g) (bytesOf (joinAll gs)) in
+          let n = join-length g gs in
           addCluster-inside m p q g (length (bytesOf g) + length (bytesOf (joinAll gs))) (seen P g (bytesOf (joinAll gs))) (λ k. readFrom P m (p + length (bytesOf g)) k gs) (omega arith) (omega arith) (seen-most g (bytesOf (joinAll gs)) s)
           (λ k. ih m (p + length (bytesOf g)) k q a (omega arith))
       go ih m p (suc k) q (all-cons s a) h =
-          let n : length (bytesOf (g ++ joinAll gs)) ≡ length (bytesOf g) + length (bytesOf (joinAll gs)) = ap length (bytesOf-append g (joinAll gs)) ∙ length-append (bytesOf g) (bytesOf (joinAll gs)) in
+          let n = join-length g gs in
           later p (p + length (bytesOf g)) q (omega arith) (ih m (p + length (bytesOf g)) (suc k - length (bytesOf g)) q a (omega arith))
 
   -- ---- lines, and lines with matches
 
   readPieces-inside : (m : Option ℕ) (p q : ℕ) {ps : List Piece} → All ValidPiece ps → p + length (pieceBytes ps) ≤ q → All (Between p q) (readPieces P m p ps)
-  unfolding readPieces pieceBytes
+  unfolding readPieces
   readPieces-inside m p q all-nil h = all-nil
   readPieces-inside m p q (all-cons {s = ps} (ValidPiece.valid {s = s} v) a) h =
-      let n : length (bytesOf s ++ pieceBytes ps) ≡ length (bytesOf s) + length (pieceBytes ps) = length-append (bytesOf s) (pieceBytes ps) in
-      all-append (readFrom-inside (clusters P s) m p zero q (clusters-some (clusters P s) s refl v) (rw (clusters-all P s) (omega arith)))
+      let n : length (pieceBytes (run s ∷ ps)) ≡ length (bytesOf s) + length (pieceBytes ps) = ap length (pieces-run s ps) ∙ length-append (bytesOf s) (pieceBytes ps) in
+      all-append (readFrom-inside (clusters P s) m p zero q (clusters-some P (clusters P s) s refl v) (rw (clusters-all P s) (omega arith)))
       (later p (p + length (bytesOf s)) q (omega arith) (readPieces-inside m (p + length (bytesOf s)) q a (omega arith)))
   readPieces-inside m p q (all-cons {s = ps} (ValidPiece.ill {b = b}) a) h =
+      let n = ap length (pieces-damaged b ps) in
       all-cons (between p q 1 (invalid b) (omega arith)) (later p (suc p) q (omega arith) (readPieces-inside m (suc p) q a (omega arith)))
 
   spansAt-inside : (m : Option ℕ) (p q : ℕ) (s : List ℕ) → p + length s ≤ q → All (Between p q) (spansAt P m p s)
   unfolding spansAt
   spansAt-inside m p q s h = readPieces-inside m p q (runs-valid s) (rw (pieceBytes-runs (decode s) ∙ decodedBytes-decode s) h)
 
-  no-spans : (m : Option ℕ) (p : ℕ) → spansAt P m p [] ≡ []
-  unfolding spansAt decode decodeFrom runs readPieces
-  no-spans m p = refl
-
   readPart-inside : (m : Option ℕ) (a b : ℕ) (line : List ℕ) → All (Between 0 (length line)) (readPart P m a b line)
   unfolding readPart
   readPart-inside m a b line =
       cases (leb a (length line))
       (λ e. later 0 a (length line) (omega arith) (spansAt-inside m a (length line) (take (b - a) (drop a line)) (room (b - a) (drop a line) (rw (length-drop a line) (omega (arith, leb-true a (length line) e))))))
-      (λ e. rw (drop-of-length-le line {i = a} (omega (arith, leb-false a (length line) e)), take-nil {A = ℕ} (b - a), no-spans m a) all-nil)
+      (λ e. rw (drop-of-length-le line {i = a} (omega (arith, leb-false a (length line) e)), take-nil {A = ℕ} (b - a), no-spans P m a) all-nil)
     where
       room : (n : ℕ) (s : List ℕ) → a + length s ≤ length line → a + length (take n s) ≤ length line
       room n s h = cases (leb n (length s)) (λ e. rw (length-take-le n s (leb-true n (length s) e)) (omega (arith, leb-true n (length s) e))) (λ e. rw (take-all n s (omega (arith, leb-false n (length s) e))) h)

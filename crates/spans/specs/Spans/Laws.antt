@@ -9,7 +9,8 @@ use lib.ListN.{length, length-append}
 use Rattle.text.specs.Utf8.{Scalar, decode, Piece, run, damaged, runs, bytesOf}
 use Rattle.text.specs.Class.{Profile}
 use Rattle.text.specs.Cluster.{clusters, joinAll}
-use Rattle.text.specs.Utf8.Laws.{pieceBytes}
+use Rattle.text.specs.Utf8.Laws.{pieceBytes, pieces-damaged, pieces-nil, pieces-run}
+use Rattle.text.specs.Utf8.Runs.{runs-nil}
 use Rattle.spans.specs.Spans.{Content, text, control, invalid, unprintable, escape, tab, crlf, lf, Span, span, Seen, plain, special, joinText, addText, addCluster, seen, readFrom, readPieces, spansAt}
 
 pub map-append {ℓ κ} : {A : Type ℓ} {B : Type κ} (f : A → B) (s t : List A) → map f (s ++ t) ≡ map f s ++ map f t
@@ -45,6 +46,10 @@ addCluster-shift m p k g n plain go go′ e = ap (addText m (p + k) g) (e zero) 
 addCluster-shift m p k g n (special w j) go go′ e = ap (λ (l : List Span). span (p + k) j w ∷ l) (e (j - n))
 
 module _ (P : Profile) where
+  pub no-spans : (m : Option ℕ) (p : ℕ) → spansAt P m p [] ≡ []
+  unfolding spansAt readPieces
+  no-spans m p = ap (readPieces P m p) runs-nil
+
   readFrom-shift : (m : Option ℕ) (p k j : ℕ) (gs : List (List Scalar)) → readFrom P m (p + k) j gs ≡ map (shift k) (readFrom P m p j gs)
   unfolding readFrom
   readFrom-shift m p k j [] = refl
@@ -76,13 +81,13 @@ module _ (P : Profile) where
 
   pub readPieces-append : (m : Option ℕ) (p : ℕ) (ps qs : List Piece)
       → readPieces P m p (ps ++ qs) ≡ readPieces P m p ps ++ readPieces P m (p + length (pieceBytes ps)) qs
-  unfolding readPieces pieceBytes
-  readPieces-append m p [] qs = ap (λ (q : ℕ). readPieces P m q qs) (sym (add-zero p))
+  unfolding readPieces
+  readPieces-append m p [] qs = ap (λ (q : ℕ). readPieces P m q qs) (sym (ap (λ (l : List ℕ). p + length l) pieces-nil ∙ add-zero p))
   readPieces-append m p (run s ∷ ps) qs =
       let n : ℕ = length (bytesOf s) in
-      let e : p + n + length (pieceBytes ps) ≡ p + length (bytesOf s ++ pieceBytes ps) = simp length-append (omega arith) in
+      let e : p + n + length (pieceBytes ps) ≡ p + length (pieceBytes (run s ∷ ps)) = rw (pieces-run s ps) (simp length-append (omega arith)) in
       ap (λ (l : List Span). readFrom P m p zero (clusters P s) ++ l) (readPieces-append m (p + n) ps qs ∙ ap (λ (q : ℕ). readPieces P m (p + n) ps ++ readPieces P m q qs) e)
-      ∙ sym (append-assoc (readFrom P m p zero (clusters P s)) (readPieces P m (p + n) ps) (readPieces P m (p + length (bytesOf s ++ pieceBytes ps)) qs))
+      ∙ sym (append-assoc (readFrom P m p zero (clusters P s)) (readPieces P m (p + n) ps) (readPieces P m (p + length (pieceBytes (run s ∷ ps))) qs))
   readPieces-append m p (damaged b ∷ ps) qs =
-      let e : suc p + length (pieceBytes ps) ≡ p + suc (length (pieceBytes ps)) = omega arith in
+      let e : suc p + length (pieceBytes ps) ≡ p + length (pieceBytes (damaged b ∷ ps)) = rw (pieces-damaged b ps) (omega arith) in
       ap (λ (l : List Span). span p 1 (invalid b) ∷ l) (readPieces-append m (suc p) ps qs ∙ ap (λ (q : ℕ). readPieces P m (suc p) ps ++ readPieces P m q qs) e)

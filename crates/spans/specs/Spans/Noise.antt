@@ -7,16 +7,15 @@ use mathlib.Core.List.{List, [], _∷_, _++_, map}
 use mathlib.Core.Option.{Option, none}
 use lib.ListN.{length, drop, getD}
 use lib.Dec.{T}
-use Rattle.text.specs.Tests.{and-T}
 use Rattle.text.specs.Each.{Each, nil, cons, each-same, each-append}
 use Rattle.text.specs.Places.{behind, byte-at, behind-byte}
 use Rattle.text.specs.Utf8.{decode, Piece, run, damaged, runs, bytesOf, noise, allNoise}
 use Rattle.text.specs.Class.{Profile}
 use Rattle.text.specs.Cluster.{clusters}
-use Rattle.text.specs.Utf8.Laws.{pieceBytes, pieceBytes-runs, decodedBytes-decode}
-use Rattle.text.specs.Utf8.Noise.{Byte, Twin, TwinPiece, runs-noise, runs-twin}
+use Rattle.text.specs.Utf8.Laws.{pieceBytes, pieces-damaged, pieces-run, pieceBytes-runs, decodedBytes-decode}
+use Rattle.text.specs.Utf8.Noise.{noise-cons, Byte, Twin, TwinPiece, runs-noise, runs-twin}
 use Rattle.text.specs.Overstrike.{convert}
-use Rattle.text.specs.Overstrike.Noise.{convert-noise}
+use Rattle.text.specs.Overstrike.Noise.{convert-front, convert-noise}
 use Rattle.spans.specs.Spans.{invalid, Span, span, readFrom, readPieces, spansAt, spans, Record, aRecord, recordOf, records, kindOf, matchOf}
 use Rattle.spans.specs.Spans.Laws.{shift, spansAt-shift, readPieces-append}
 
@@ -38,18 +37,11 @@ damage p [] = []
 damage p (n ∷ ns) = span p 1 (invalid n) ∷ damage (suc p) ns
 
 module _ (P : Profile) where
-  convert-front : (ns t : List ℕ) → T (allNoise ns) → convert P (ns ++ t) ≡ ns ++ convert P t
-  unfolding allNoise convert
-  convert-front [] t h = refl
-  convert-front (n ∷ ns) t h =
-      let p = and-T (noise n) (allNoise ns) h in
-      convert-noise P [] n (ns ++ t) (p .0) ∙ ap (λ (l : List ℕ). n ∷ l) (convert-front ns t (p .1))
-
   spansAt-front : (m : Option ℕ) (p : ℕ) (ns t : List ℕ) → T (allNoise ns) → spansAt P m p (ns ++ t) ≡ damage p ns ++ spansAt P m (p + length ns) t
-  unfolding allNoise damage spansAt readPieces
+  unfolding damage spansAt readPieces
   spansAt-front m p [] t h = ap (λ (q : ℕ). spansAt P m q t) (sym (add-zero p))
   spansAt-front m p (n ∷ ns) t h =
-      let q = and-T (noise n) (allNoise ns) h in
+      let q = noise-cons n ns h in
       let e : suc p + length ns ≡ p + suc (length ns) = omega arith in
       spansAt-noise P m p [] n (ns ++ t) (q .0)
       ∙ ap (λ (x : ℕ). span x 1 (invalid n) ∷ spansAt P m (suc x) (ns ++ t)) (add-zero p)
@@ -59,13 +51,13 @@ module _ (P : Profile) where
   pub separation : (a : List ℕ) (n : ℕ) (ns b : List ℕ) → T (allNoise (n ∷ ns))
       → spans P (convert P (a ++ n ∷ (ns ++ b)))
       ≡ spans P (convert P a) ++ (damage (length (convert P a)) (n ∷ ns) ++ map (shift (length (convert P a) + length (n ∷ ns))) (spans P (convert P b)))
-  unfolding spans allNoise damage
+  unfolding spans damage
   separation a n ns b h =
-      let q = and-T (noise n) (allNoise ns) h in
+      let q = noise-cons n ns h in
       let A : List ℕ = convert P a in
       let B : List ℕ = convert P b in
       let e : suc (length A) + length ns ≡ length A + suc (length ns) = omega arith in
-      ap (spansAt P none 0) (convert-noise P a n (ns ++ b) (q .0) ∙ ap (λ (l : List ℕ). A ++ n ∷ l) (convert-front ns b (q .1)))
+      ap (spansAt P none 0) (convert-noise P a n (ns ++ b) (q .0) ∙ ap (λ (l : List ℕ). A ++ n ∷ l) (convert-front P ns b (q .1)))
       ∙ spansAt-noise P none 0 A n (ns ++ B) (q .0)
       ∙ ap (λ (x : ℕ). spansAt P none 0 A ++ span x 1 (invalid n) ∷ spansAt P none (suc x) (ns ++ B)) (zero-add (length A))
       ∙ ap (λ (l : List Span). spansAt P none 0 A ++ span (length A) 1 (invalid n) ∷ l)
@@ -88,16 +80,18 @@ module _ (l m : List ℕ) where
 
   readPieces-twin : (P : Profile) (k : Option ℕ) (p : ℕ) {ps qs : List Piece} → drop p l ≡ pieceBytes ps → drop p m ≡ pieceBytes qs → Each TwinPiece ps qs
       → Each (TwinSpan l m) (readPieces P k p ps) (readPieces P k p qs)
-  unfolding readPieces pieceBytes
+  unfolding readPieces
   readPieces-twin P k p e f nil = nil
   readPieces-twin P k p e f (cons {s = ps} {t = qs} (TwinPiece.same {p = run s}) d) =
       each-append (each-same (λ b. same) (readFrom P k p zero (clusters P s)))
-      (readPieces-twin P k (p + length (bytesOf s)) (behind p l (bytesOf s) (pieceBytes ps) e) (behind p m (bytesOf s) (pieceBytes qs) f) d)
+      (readPieces-twin P k (p + length (bytesOf s)) (behind p l (bytesOf s) (pieceBytes ps) (e ∙ pieces-run s ps)) (behind p m (bytesOf s) (pieceBytes qs) (f ∙ pieces-run s qs)) d)
   readPieces-twin P k p e f (cons {s = ps} {t = qs} (TwinPiece.same {p = damaged b}) d) =
-      cons same (readPieces-twin P k (suc p) (behind-byte p l b (pieceBytes ps) e) (behind-byte p m b (pieceBytes qs) f) d)
+      cons same (readPieces-twin P k (suc p) (behind-byte p l b (pieceBytes ps) (e ∙ pieces-damaged b ps)) (behind-byte p m b (pieceBytes qs) (f ∙ pieces-damaged b qs)) d)
   readPieces-twin P k p e f (cons {s = ps} {t = qs} (TwinPiece.exchanged {b = b} {c = c} h) d) =
-      cons (damaged-twin p (byte-at p l b (pieceBytes ps) e) (byte-at p m c (pieceBytes qs) f) h)
-      (readPieces-twin P k (suc p) (behind-byte p l b (pieceBytes ps) e) (behind-byte p m c (pieceBytes qs) f) d)
+      let x : drop p l ≡ b ∷ pieceBytes ps = e ∙ pieces-damaged b ps in
+      let y : drop p m ≡ c ∷ pieceBytes qs = f ∙ pieces-damaged c qs in
+      cons (damaged-twin p (byte-at p l b (pieceBytes ps) x) (byte-at p m c (pieceBytes qs) y) h)
+      (readPieces-twin P k (suc p) (behind-byte p l b (pieceBytes ps) x) (behind-byte p m c (pieceBytes qs) y) d)
 
 pub spans-twin : (P : Profile) {l m : List ℕ} → Twin l m → Each (TwinSpan l m) (spans P l) (spans P m)
 unfolding spans spansAt

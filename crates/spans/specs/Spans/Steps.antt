@@ -5,25 +5,21 @@ use native.Mathlib.Nat.{add-zero}
 use native.Mathlib.Omega.{arith}
 use mathlib.Core.Bool.{Bool, true, false, cond, _||_}
 use mathlib.Core.List.{List, [], _∷_, _++_, append-nil}
-use mathlib.Core.Option.{Option, none}
-use lib.ListN.{length, take, drop}
+use mathlib.Core.Option.{Option}
+use lib.ListN.{length, drop}
 use lib.Seq.{drop-drop}
 use lib.Dec.{eqb, leb}
 use Rattle.text.specs.Tests.{cases}
-use Rattle.text.specs.Utf8.{Scalar, sequence, scalar, decode, Decoded, wellFormed, runs, runOf, bytesOf, reads}
-use Rattle.text.specs.Utf8.Laws.{decode-bad, decode-good}
-use Rattle.text.specs.Utf8.Runs.{withRun, runs-first, run-length}
+use Rattle.text.specs.Utf8.{Scalar, decode, runs, runOf, bytesOf, reads}
+use Rattle.text.specs.Utf8.Laws.{bytes-nil}
+use Rattle.text.specs.Utf8.Runs.{withRun, with-cons, with-nil, runs-damaged, runs-first, run-length}
 use Rattle.text.specs.Class.{Profile}
 use Rattle.text.specs.Width.{widthOf}
-use Rattle.text.specs.Cluster.{clusters, clustersAfter, joinAll}
-use Rattle.text.specs.Cluster.Laws.{clusters-all}
+use Rattle.text.specs.Cluster.{clusters, joinAll}
+use Rattle.text.specs.Cluster.Laws.{clusters-none}
 use Rattle.text.specs.Cluster.Walk.{first, next-clusters}
 use Rattle.spans.specs.Sequence.{Found, found, missing, parse}
 use Rattle.spans.specs.Spans.{Content, text, control, invalid, unprintable, escape, tab, crlf, lf, Span, span, Seen, plain, special, escapeSeen, controlSeen, joinText, addText, addCluster, seen, readFrom, readPieces, spansAt}
-
-none-some : (ds : List Decoded) (c : Scalar) → runOf (wellFormed c ∷ ds) ≡ [] → ⊥
-unfolding runOf
-none-some ds c e = let z : _≡_ {A = ℕ} 0 1 = cc in omega arith
 
 -- the bytes of a cluster
 abbrev pub extent : List Scalar → ℕ
@@ -93,9 +89,9 @@ module _ (P : Profile) where
 
   pieces-with : (m : Option ℕ) (p : ℕ) (r : List Scalar) (t : List ℕ)
       → readPieces P m p (withRun r (runs (decode t))) ≡ readFrom P m p zero (clusters P r) ++ spansAt P m (p + extent r) t
-  unfolding withRun readPieces spansAt readFrom clusters clustersAfter bytesOf
-  pieces-with m p [] t = ap (λ (q : ℕ). readPieces P m q (runs (decode t))) (sym (add-zero p))
-  pieces-with m p (c ∷ r) t = refl
+  unfolding readPieces spansAt readFrom
+  pieces-with m p [] t = ap (readPieces P m p) (with-nil (runs (decode t))) ∙ ap (λ (q : ℕ). readPieces P m q (runs (decode t))) (sym (add-zero p))
+  pieces-with m p (c ∷ r) t = ap (readPieces P m p) (with-cons c r (runs (decode t)))
 
   -- the spans behind the first run
   abbrev behindRun : Option ℕ → ℕ → List ℕ → List Span
@@ -125,18 +121,13 @@ module _ (P : Profile) where
   skipped zero (g ∷ gs) = 0
   skipped (suc k) (g ∷ gs) = extent g + skipped (suc k - extent g) gs
 
-  no-run : (s : List ℕ) → clustersOf s ≡ [] → runOf (decode s) ≡ []
-  unfolding joinAll
-  no-run s e = sym (clusters-all P (runOf (decode s))) ∙ ap joinAll e
-
   nothing : (m : Option ℕ) (p : ℕ) (s : List ℕ) → runOf (decode s) ≡ [] → behindRun m p s ≡ spansAt P m (p + 0) s
-  unfolding bytesOf
-  nothing m p s e = rw e
+  nothing m p s e = rw (e, bytes-nil) refl
 
   after-skipped : (gs : List (List Scalar)) → (m : Option ℕ) (p k : ℕ) (s : List ℕ) → clustersOf s ≡ gs
       → readFrom P m p k gs ++ behindRun m p s ≡ spansAt P m (p + skipped k gs) (drop (skipped k gs) s)
   unfolding readFrom skipped
-  after-skipped [] = λ m p k s e. nothing m p s (no-run s e)
+  after-skipped [] = λ m p k s e. nothing m p s (clusters-none P (runOf (decode s)) e)
   after-skipped (g ∷ gs) = λ m p k s e. go (λ m p k s e. after-skipped gs m p k s e) m p k s e
     where
       go : ((m : Option ℕ) (p k : ℕ) (s : List ℕ) → clustersOf s ≡ gs → readFrom P m p k gs ++ behindRun m p s ≡ spansAt P m (p + skipped k gs) (drop (skipped k gs) s))
@@ -215,7 +206,7 @@ module _ (P : Profile) where
   after-text : (gs : List (List Scalar)) → (m : Option ℕ) (p : ℕ) (s : List ℕ) → clustersOf s ≡ gs
       → readFrom P m (p + plainSize gs) zero (plainRest gs) ++ behindRun m p s ≡ spansAt P m (p + plainSize gs) (drop (plainSize gs) s)
   unfolding readFrom plainSize plainRest
-  after-text [] = λ m p s e. nothing m p s (no-run s e)
+  after-text [] = λ m p s e. nothing m p s (clusters-none P (runOf (decode s)) e)
   after-text (g ∷ gs) = λ m p s e. cases (plainCluster g)
       (λ f.
       let n : ℕ = plainSize gs in
@@ -251,12 +242,8 @@ module _ (P : Profile) where
 
   -- a byte that begins no run: Invalid
   pub step-invalid : (m : Option ℕ) (p b : ℕ) (s : List ℕ) → runOf (decode (b ∷ s)) ≡ [] → spansAt P m p (b ∷ s) ≡ span p 1 (invalid b) ∷ spansAt P m (suc p) s
-  unfolding spansAt readPieces runs
-  step-invalid m p b s e = go (sequence (b ∷ s)) refl
-    where
-      go : (n : ℕ) → sequence (b ∷ s) ≡ n → spansAt P m p (b ∷ s) ≡ span p 1 (invalid b) ∷ spansAt P m (suc p) s
-      go zero q = ap (λ (ds : List Decoded). readPieces P m p (runs ds)) (decode-bad b s q)
-      go (suc n) q = absurd (none-some (decode (drop (suc n) (b ∷ s))) (scalar (take (suc n) (b ∷ s))) (ap runOf (sym (decode-good b s n q)) ∙ e))
+  unfolding spansAt readPieces
+  step-invalid m p b s e = ap (readPieces P m p) (runs-damaged b s e)
 
   -- a stretch with bytes left has a span
   some-cluster : (m : Option ℕ) (p : ℕ) (s : List ℕ) (g : List Scalar) (gs : List (List Scalar)) → clustersOf s ≡ g ∷ gs → (w : Seen) → seen P g (bytesOf (joinAll gs)) ≡ w → 0 < length (spansAt P m p s)
@@ -268,5 +255,5 @@ module _ (P : Profile) where
   step-some m p b s = go (clustersOf (b ∷ s)) refl
     where
       go : (gs : List (List Scalar)) → clustersOf (b ∷ s) ≡ gs → 0 < length (spansAt P m p (b ∷ s))
-      go [] e = rw (step-invalid m p b s (no-run (b ∷ s) e)) (omega arith)
+      go [] e = rw (step-invalid m p b s (clusters-none P (runOf (decode (b ∷ s))) e)) (omega arith)
       go (g ∷ gs) e = some-cluster m p (b ∷ s) g gs e (seen P g (bytesOf (joinAll gs))) refl

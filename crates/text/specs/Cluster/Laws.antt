@@ -1,14 +1,30 @@
 -- A text's clusters hold its scalars, and are found one after the other.
 use mathlib.Core.Path.{_≡_, refl, sym, ap, ap₂, _∙_}
-use Prim.Native.Nat.{ℕ, suc}
+use Prim.Native.Nat.{ℕ, suc, _+_}
 use mathlib.Core.Bool.{Bool, true, false, not, cond, _&&_, true≢false}
 use mathlib.Core.List.{List, [], _∷_, _++_, reverse, reverseAux}
-use lib.ListN.{take, drop}
+use lib.ListN.{length, take, drop, length-append}
 use lib.Dec.{T, eqb, eqb→eq}
 use Rattle.text.specs.Tests.{and-T, is-true, true-T, cases}
-use Rattle.text.specs.Utf8.{Scalar}
+use Rattle.text.specs.Utf8.{Scalar, bytesOf}
+use Rattle.text.specs.Utf8.Laws.{bytesOf-append}
 use Rattle.text.specs.Class.{Profile, among, number}
 use Rattle.text.specs.Cluster.{Context, start, after, joined, classOf, context, joins, joinsNext, addToCluster, clustersAfter, clusters, joinAll}
+
+pub join-nil : joinAll [] ≡ []
+unfolding joinAll
+join-nil = refl
+
+pub join-cons : (g : List Scalar) (gs : List (List Scalar)) → joinAll (g ∷ gs) ≡ g ++ joinAll gs
+unfolding joinAll
+join-cons g gs = refl
+
+-- their bytes
+pub join-bytes : (g : List Scalar) (gs : List (List Scalar)) → bytesOf (joinAll (g ∷ gs)) ≡ bytesOf g ++ bytesOf (joinAll gs)
+join-bytes g gs = ap bytesOf (join-cons g gs) ∙ bytesOf-append g (joinAll gs)
+
+pub join-length : (g : List Scalar) (gs : List (List Scalar)) → length (bytesOf (joinAll (g ∷ gs))) ≡ length (bytesOf g) + length (bytesOf (joinAll gs))
+join-length g gs = ap length (join-bytes g gs) ∙ length-append (bytesOf g) (bytesOf (joinAll gs))
 
 module _ (P : Profile) where
   addToCluster-all : (w : Bool) (c : Scalar) (gs : List (List Scalar)) → joinAll (addToCluster P w c gs) ≡ c ∷ joinAll gs
@@ -30,6 +46,10 @@ module _ (P : Profile) where
   pub clusters-nil : clusters P [] ≡ []
   unfolding clusters clustersAfter
   clusters-nil = refl
+
+  pub clusters-none : (s : List Scalar) → clusters P s ≡ [] → s ≡ []
+  unfolding joinAll
+  clusters-none s e = sym (clusters-all s) ∙ ap joinAll e
 
 -- ---- one after the other
 
@@ -97,6 +117,15 @@ module _ (P : Profile) where
   pub clusters-first : (c : Scalar) (s : List Scalar) → clusters P (c ∷ s) ≡ (c ∷ take (further (c ∷ []) s) s) ∷ clusters P (drop (further (c ∷ []) s) s)
   unfolding clusters
   clusters-first c s = first-after [] c s
+
+  -- a scalar that no rule joins the next one to is a cluster by itself
+  pub clusters-one : (c : Scalar) → clusters P (c ∷ []) ≡ (c ∷ []) ∷ []
+  unfolding clusters clustersAfter joinsNext addToCluster
+  clusters-one c = refl
+
+  pub clusters-apart : (c d : Scalar) (s : List Scalar) → joins P (c ∷ []) d ≡ false → clusters P (c ∷ d ∷ s) ≡ (c ∷ []) ∷ clusters P (d ∷ s)
+  unfolding further
+  clusters-apart c d s e = clusters-first c (d ∷ s) ∙ rw e refl
 
   -- ---- a boundary cuts the clusters in two
 

@@ -7,7 +7,7 @@ use lib.ListN.{length, take, drop, length-append, take-append-drop}
 use Rattle.text.specs.Utf8.{Scalar, decode, runOf, bytesOf}
 use Rattle.text.specs.Utf8.Runs.{run-valid, run-rest, front-bytes, front-run, rest-bytes, run-length}
 use Rattle.text.specs.Utf8.Valid.{Valid}
-use Rattle.text.specs.Each.{All, all-cons, all-split}
+use Rattle.text.specs.Each.{All, all-nil, all-cons, all-split}
 use Rattle.text.specs.Code.{firstOf, firstSize, size}
 use Rattle.text.specs.Class.{Profile}
 use Rattle.text.specs.Cluster.{clusters, clustersAfter, joinAll}
@@ -48,6 +48,15 @@ module _ (P : Profile) where
         some = sym h;
         others = cc;
       }
+
+  -- each cluster of a valid text has bytes
+  pub clusters-some : (gs : List (List Scalar)) → (s : List Scalar) → clusters P s ≡ gs → All Valid s → All (λ (g : List Scalar). 1 ≤ length (bytesOf g)) gs
+  clusters-some [] = λ s e a. all-nil
+  clusters-some (g ∷ gs) = λ s e a.
+      let f = first s g gs e in
+      let v = all-split g (rw (f .text) at a) in
+      let k : 1 ≤ length (bytesOf g) = rw (f .some) (valid-some (f .head) (f .more) (rw (f .some) at (v .0))) in
+      all-cons k (clusters-some gs (f .rest) (f .others) (v .1))
 
   -- behind the first cluster of a line's run stand the others
   pub next-clusters : (s : List ℕ) (g : List Scalar) (gs : List (List Scalar)) → clusters P (runOf (decode s)) ≡ g ∷ gs → clusters P (runOf (decode (drop (length (bytesOf g)) s))) ≡ gs

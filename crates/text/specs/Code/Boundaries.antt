@@ -14,6 +14,7 @@ use Rattle.text.specs.Utf8.Ascii.{Split, ascii-splits}
 use Rattle.text.specs.Utf8.Runs.{run-rest, run-length}
 use Rattle.text.specs.Class.{cr, lf, control, other, number, among, class01}
 use Rattle.text.specs.Cluster.{Context, joined, joins, context, clusters, joinAll}
+use Rattle.text.specs.Cluster.Ascii.{after-control}
 use Rattle.text.specs.Cluster.Laws.{clusters-all, clusters-split}
 use Rattle.text.specs.declared.class.Profile as code
 use Rattle.text.specs.Width.{profile01}
@@ -107,13 +108,9 @@ break-each : T (every break-class 0 0x20)
 unfolding every break-class among number class01
 break-each = tt
 
-break-numbers : (p : ℕ) (k : Context) (c : ℕ) → among p (lf ∷ control ∷ []) ≡ true → joined p k c ≡ false
-unfolding joined among number
-break-numbers p k c f = cases (eqb p 1) (λ e. rw (eqb-true p 1 e) refl) (λ e. rw (eqb-true p 2 (rw e at f)) refl)
-
 control-breaks : (a : ℕ) (k : Context) (c : ℕ) → a < 0x20 → (a ≢ 13) → joined (number (class01 a)) k c ≡ false
 unfolding break-class
-control-breaks a k c h n = break-numbers (number (class01 a)) k c (rw (ne-eqb a 13 n) at (every-one break-class 0x20 0 a break-each (omega arith) (omega arith)))
+control-breaks a k c h n = after-control (number (class01 a)) k c (rw (ne-eqb a 13 n) at (every-one break-class 0x20 0 a break-each (omega arith) (omega arith)))
 
 -- of two bytes below 80, the first not CR, no rule of the profile joins the second to the first
 pub apart : (p : code.Profile) (b a : ℕ) (k : Context) → b < 128 → a < 128 → (b ≢ 13) → joined (number (profileOf p .class b)) k (number (profileOf p .class a)) ≡ false

@@ -3,11 +3,11 @@ use mathlib.Core.Path.{_≡_, refl, sym, ap, _∙_}
 use Prim.Native.Nat.{ℕ, zero, suc, _≤_, _<_}
 use native.Mathlib.Omega.{arith}
 use mathlib.Core.Bool.{false}
-use mathlib.Core.List.{List, _∷_}
+use mathlib.Core.List.{List, [], _∷_}
 use lib.ListN.{length, take, drop, getD}
 use lib.Seq.{drop-cons, length-take-le}
 use borrow.Author.Tests.{lt-leb}
-use Rattle.text.specs.Utf8.{scalar, value, sequence, decode}
+use Rattle.text.specs.Utf8.{scalar, value, sequence, decode, decodeFrom}
 use Rattle.text.specs.Utf8.Laws.{decode-bad, decode-good, sequence-le}
 use Rattle.text.specs.Utf8.Ascii.{low-sequence}
 use Rattle.text.specs.Code.{firstSequence, isTail, sequenceOf}
@@ -26,6 +26,12 @@ ascii-sequence s p a h e l =
 
 pub ascii-first : (s : List ℕ) (p a : ℕ) → p < length s → a ≡ getD s p 0 → a ≤ 0x7F → sequenceOf a 1 ≡ firstSequence (decode (drop p s))
 ascii-first s p a h e l = ascii-sequence s p a h e (omega arith)
+
+-- no bytes begin with a sequence
+pub no-sequence : (s : List ℕ) → length s ≡ 0 → sequenceOf 0 0 ≡ firstSequence (decode s)
+unfolding firstSequence decode decodeFrom
+no-sequence [] h = refl
+no-sequence (b ∷ s) h = absurd (omega arith)
 
 pub low-tail : (b : ℕ) → b < 128 → isTail b ≡ false
 low-tail b h = rw (lt-leb 0x80 b h) refl

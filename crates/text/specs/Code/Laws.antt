@@ -1,19 +1,19 @@
 -- The run that a text begins with, cut in two between scalars; its width; a text's first cluster.
 use mathlib.Core.Path.{_≡_, refl, sym, ap, ap₂, _∙_}
 use mathlib.Core.Logic.{_≢_}
-use Prim.Native.Nat.{ℕ, zero, suc, _+_, _*_, _≤_, _<_, zero-le}
+use Prim.Native.Nat.{ℕ, zero, suc, _+_, _*_, _≤_, _<_}
 use native.Mathlib.Nat.{add-zero}
 use native.Mathlib.Omega.{arith}
 use mathlib.Core.List.{List, [], _∷_, _++_, map, append-assoc}
 use lib.ListN.{length, take, drop, length-append, length-drop, drop-of-length-le, take-append-drop, getD}
 use lib.Seq.{take-append-seam, drop-append-seam, drop-drop, getD-drop}
-use lib.Dec.{T, eqb, eqb→eq, leb, leb→le}
-use borrow.Author.Tests.{le-leb, eqb-false}
-use mathlib.Core.Bool.{Bool, true, false, not, _&&_, _||_}
-use Rattle.text.specs.Tests.{cases, and-T, is-true, or-T, true-T, every, every-one}
+use lib.Dec.{T, eqb, eqb→eq}
+use mathlib.Core.Bool.{Bool, true, false, _&&_}
+use Rattle.text.specs.Tests.{cases, and-T, true-T, every, every-one}
 use Rattle.text.specs.Each.{All, all-nil, all-cons, all-split}
-use Rattle.text.specs.Utf8.{Scalar, scalar, value, ascii, Decoded, wellFormed, illFormed, sequence, lengthIn, fits, table, decode, decodeFrom, bytesOf}
-use Rattle.text.specs.Utf8.Laws.{decode-good, bytesOf-append, decodedBytes, decodedBytes-decode}
+use Rattle.text.specs.Utf8.{Scalar, scalar, ascii, Decoded, wellFormed, illFormed, fits, decode, decodeFrom, bytesOf}
+use Rattle.text.specs.Utf8.Laws.{bytesOf-append, decodedBytes, decodedBytes-decode}
+use Rattle.text.specs.Utf8.Ascii.{ascii-run}
 use Rattle.text.specs.Utf8.Valid.{Valid, ValidDecoded, decode-valid, decode-text, run-text}
 use Rattle.text.specs.Class.{cr, lf, control, extend, zwj, classV, classT, number, among, Profile, inAny, class01}
 use Rattle.text.specs.Width.{wides, width01, profile01, widthOf}
@@ -153,9 +153,12 @@ module _ (s : List ℕ) (p : ℕ) (u : Sequence) (here : p < length s) (read : u
   none-code z = none-by (decode (drop p s)) refl z .1
 
 -- the end
-pub none-past : (s : List ℕ) (p : ℕ) → length s ≤ p → runOf (decode (drop p s)) ≡ []
+pub run-nil : runOf (decode []) ≡ []
 unfolding runOf decode decodeFrom
-none-past s p h = rw (drop-of-length-le s h)
+run-nil = refl
+
+pub none-past : (s : List ℕ) (p : ℕ) → length s ≤ p → runOf (decode (drop p s)) ≡ []
+none-past s p h = rw (drop-of-length-le s h) run-nil
 
 -- ---- widths
 
@@ -230,14 +233,6 @@ plain-apart : (p : ℕ) (k : Context) (c : ℕ) → p ≡ 11 → c ≡ 11 → jo
 unfolding joined among number
 plain-apart p k c e h = rw (e, h) (cases (k .odd) (λ o. rw o) (λ o. rw o))
 
-plain-sequence : (b : ℕ) (s : List ℕ) → b ≤ 0x7F → sequence (b ∷ s) ≡ 1
-unfolding sequence lengthIn fits table
-plain-sequence b s h = rw (le-leb 0 b zero-le, le-leb b 0x7F h)
-
-plain-decode : (b : ℕ) (s : List ℕ) → b ≤ 0x7F → runOf (decode (b ∷ s)) ≡ ascii b ∷ runOf (decode s)
-unfolding runOf scalar value
-plain-decode b s h = rw (decode-good b s 0 (plain-sequence b s h))
-
 plain-joins : (f : code.Profile) (a b : ℕ) → 0x20 ≤ a → a ≤ 0x7E → 0x20 ≤ b → b ≤ 0x7E → joins (profileOf f) (ascii a ∷ []) (ascii b) ≡ false
 unfolding joins profileOf profile01
 plain-joins f a b h i j k = plain-apart (number (class01 a)) (context (profileOf f) (ascii a ∷ [])) (number (class01 b)) (plain-class a h i) (plain-class b j k)
@@ -251,35 +246,9 @@ pub plain-cluster : (f : code.Profile) (s : List ℕ) (p a b : ℕ) → a ≡ ge
     → firstOf (clusters (profileOf f) (runOf (decode (drop p s)))) ≡ ascii a ∷ []
 plain-cluster f s p a b ea eb h i j k =
     ap (λ (t : List ℕ). firstOf (clusters (profileOf f) (runOf (decode t)))) (two (drop p s) (ea ∙ ap (λ (n : ℕ). getD s n 0) (sym (add-zero p)) ∙ sym (getD-drop p s 0 0)) (eb ∙ sym (getD-drop p s 1 0)))
-    ∙ rw (plain-decode a (b ∷ drop 2 (drop p s)) (omega (arith, i)), plain-decode b (drop 2 (drop p s)) (omega (arith, k))) (plain-first f a b (runOf (decode (drop 2 (drop p s)))) h i j k)
+    ∙ rw (ascii-run a (b ∷ drop 2 (drop p s)) (omega (arith, i)), ascii-run b (drop 2 (drop p s)) (omega (arith, k))) (plain-first f a b (runOf (decode (drop 2 (drop p s)))) h i j k)
   where
     two : (t : List ℕ) → a ≡ getD t 0 0 → b ≡ getD t 1 0 → t ≡ a ∷ b ∷ drop 2 t
     two [] x y = absurd (omega arith)
     two (c ∷ []) x y = absurd (omega arith)
     two (c ∷ d ∷ t) x y = rw (x, y)
-
--- ---- controls
-
-widthless : ℕ → Bool
-unfolding width01
-widthless v = not (leb v 0x1F || eqb v 0x7F) || eqb (width01 v) 0
-
-widthless-all : T (every widthless 0 128)
-unfolding every widthless
-widthless-all = tt
-
-control-low : (v : ℕ) → (leb v 0x1F || eqb v 0x7F) ≡ true → v ≤ 0x7F
-control-low v e = or-T (leb v 0x1F) (eqb v 0x7F) (true-T e) (λ t. omega (arith, leb→le v 0x1F t)) (λ t. omega (arith, eqb→eq v 0x7F t))
-
--- a control byte has no width
-pub control-width : (f : code.Profile) (v : ℕ) → (leb v 0x1F || eqb v 0x7F) ≡ true → widthOf (profileOf f) (runOf (decode (v ∷ []))) ≡ 0
-unfolding profileOf profile01 widthOf widthless runOf decode decodeFrom
-control-width f v e =
-    let h = control-low v e in
-    let k : eqb (width01 v) 0 ≡ true = rw e at (every-one widthless 128 0 v widthless-all (omega arith) (omega (arith, h))) in
-    rw (plain-decode v [] h, eqb→eq (width01 v) 0 (true-T k)) refl
-
--- nor have CR and LF
-pub newline-width : (f : code.Profile) → widthOf (profileOf f) (runOf (decode (0x0D ∷ 0x0A ∷ []))) ≡ 0
-unfolding profileOf profile01 widthOf width01 class01 number among runOf decode
-newline-width f = refl

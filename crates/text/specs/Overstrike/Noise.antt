@@ -1,11 +1,12 @@
 -- Conversion: noise bytes separate, and lines that differ only in which noise bytes they hold have converted lines that do so too.
-use mathlib.Core.Path.{_≡_, ap, _∙_}
+use mathlib.Core.Path.{_≡_, refl, ap, ap₂, _∙_}
 use Prim.Native.Nat.{ℕ}
-use mathlib.Core.List.{List, _∷_, _++_}
+use mathlib.Core.List.{List, [], _∷_, _++_}
 use lib.Dec.{T}
 use Rattle.text.specs.Each.{Each, nil, cons, each-same, each-append}
-use Rattle.text.specs.Utf8.{decode, Piece, run, damaged, runs, bytesOf, noise}
-use Rattle.text.specs.Utf8.Noise.{same, exchanged, Twin, TwinPiece, runs-noise, runs-twin}
+use Rattle.text.specs.Utf8.{decode, Piece, run, damaged, runs, bytesOf, noise, allNoise}
+use Rattle.text.specs.Utf8.Runs.{runs-nil}
+use Rattle.text.specs.Utf8.Noise.{noise-cons, same, exchanged, Twin, TwinPiece, runs-noise, runs-twin}
 use Rattle.text.specs.Class.{Profile}
 use Rattle.text.specs.Overstrike.{convertRun, convertPieces, convert}
 use Rattle.text.specs.Overstrike.Laws.{convert-pieces, convertPieces-append}
@@ -18,6 +19,17 @@ module _ (P : Profile) where
       ∙ ap (convertPieces P) (runs-noise a n t h)
       ∙ convertPieces-append P (runs (decode a)) (damaged n ∷ runs (decode t))
       ∙ rw (convert-pieces P a, convert-pieces P t)
+
+  convert-nil : convert P [] ≡ []
+  unfolding convertPieces
+  convert-nil = convert-pieces P [] ∙ ap (convertPieces P) runs-nil
+
+  -- noise in front
+  pub convert-front : (ns t : List ℕ) → T (allNoise ns) → convert P (ns ++ t) ≡ ns ++ convert P t
+  convert-front [] t h = refl
+  convert-front (n ∷ ns) t h =
+      let p = noise-cons n ns h in
+      convert-noise [] n (ns ++ t) (p .0) ∙ ap₂ (λ (l m : List ℕ). l ++ n ∷ m) convert-nil (convert-front ns t (p .1))
 
   convertPieces-twin : {ps qs : List Piece} → Each TwinPiece ps qs → Twin (convertPieces P ps) (convertPieces P qs)
   unfolding convertPieces

@@ -1,13 +1,15 @@
 -- A text's first cluster, and the text behind a part.
-use mathlib.Core.Path.{_≡_, refl, sym, ap, _∙_}
-use Prim.Native.Nat.{ℕ, _+_}
+use mathlib.Core.Path.{_≡_, refl, sym, ap, ap₂, _∙_}
+use Prim.Native.Nat.{ℕ, _+_, _<_}
+use native.Mathlib.Numerals.{add-one}
 use native.Mathlib.Omega.{arith}
 use mathlib.Core.List.{List, [], _∷_, _++_}
 use mathlib.Core.Logic.{_≢_}
-use lib.ListN.{drop, take}
-use lib.Seq.{drop-drop}
+use lib.ListN.{drop, getD, length, take}
+use lib.Seq.{drop-cons, drop-drop}
 use Rattle.text.specs.Each.{All, all-nil, all-cons}
-use Rattle.text.specs.Utf8.{Scalar}
+use Rattle.text.specs.Utf8.{Scalar, ascii, decode, runOf}
+use Rattle.text.specs.Utf8.Ascii.{ascii-run}
 use Rattle.text.specs.Utf8.Valid.{Valid}
 use Rattle.text.specs.Class.{Profile}
 use Rattle.text.specs.Cluster.{clusters}
@@ -16,6 +18,12 @@ use Rattle.text.specs.Code.{firstOf, size}
 use Rattle.text.specs.Code.Laws.{FirstCluster, first-cluster, run-behind}
 use Rattle.text.specs.TextParts.{textAt, Measured}
 use Rattle.text.specs.declared.TextPart.{TextPart}
+
+-- a byte below 80 at a place
+pub ascii-at : (t : List ℕ) (at b : ℕ) → at < length t → b ≡ getD t at 0 → b < 0x80 → textAt t at ≡ ascii b ∷ textAt t (at + 1)
+ascii-at t at b h e k =
+    ap (λ (l : List ℕ). runOf (decode l)) (drop-cons t at 0 h ∙ ap₂ (λ (x i : ℕ). x ∷ drop i t) (sym e) (sym (add-one at)))
+    ∙ ascii-run b (drop (at + 1) t) k
 
 -- a text begins with its first cluster
 pub first-all : (P : Profile) (t : List Scalar) → (rest : List Scalar) × (t ≡ firstOf (clusters P t) ++ rest)

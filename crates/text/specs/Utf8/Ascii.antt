@@ -2,7 +2,7 @@
 use mathlib.Core.Path.{_≡_, refl, sym, ap, _∙_}
 use Prim.Native.Nat.{ℕ, zero, suc, _+_, _-_, _≤_, _<_, zero-le}
 use native.Mathlib.Omega.{arith}
-use mathlib.Core.Bool.{Bool, true, false, _&&_}
+use mathlib.Core.Bool.{Bool, true, _&&_}
 use mathlib.Core.List.{List, [], _∷_, _++_, append-nil}
 use lib.Dec.{T, leb, leb→le}
 use borrow.Author.Tests.{leb-true, leb-false, le-leb}
@@ -10,7 +10,7 @@ use lib.ListN.{length, take, drop, getD, length-append, List·getD-append}
 use lib.Seq.{length-take-le, getD-append-add}
 use Rattle.text.specs.Tests.{and-T, cases, true-T}
 use Rattle.text.specs.Each.{All, all-nil, all-cons}
-use Rattle.text.specs.Utf8.{Range, table, fits, lengthIn, sequence, value, Scalar, scalar, Decoded, wellFormed, illFormed, decode, runOf, bytesOf}
+use Rattle.text.specs.Utf8.{Range, table, fits, lengthIn, sequence, value, Scalar, scalar, ascii, Decoded, wellFormed, illFormed, decode, runOf, bytesOf}
 use Rattle.text.specs.Utf8.Laws.{decode-bad, decode-good, sequence-le}
 use Rattle.text.specs.Utf8.Valid.{Valid}
 use Rattle.text.specs.Utf8.Runs.{run-valid, run-bytes}
@@ -104,7 +104,12 @@ pub low-sequence : (b : ℕ) (s : List ℕ) → b < 0x80 → sequence (b ∷ s) 
 unfolding sequence lengthIn fits table
 low-sequence b s h = rw (le-leb 0 b zero-le, le-leb b 0x7F (omega arith))
 
-valid-low : (c : Scalar) → Valid c → getD (c .bytes) 0 0 < 0x80 → c .code ≡ getD (c .bytes) 0 0
+pub ascii-run : (b : ℕ) (s : List ℕ) → b < 0x80 → runOf (decode (b ∷ s)) ≡ ascii b ∷ runOf (decode s)
+unfolding runOf scalar value
+ascii-run b s h = ap runOf (decode-good b s 0 (low-sequence b s h))
+
+-- the code of a scalar whose first byte is below 80
+pub valid-low : (c : Scalar) → Valid c → getD (c .bytes) 0 0 < 0x80 → c .code ≡ getD (c .bytes) 0 0
 unfolding scalarOf scalar value
 valid-low c v h = go (c .bytes) refl
   where

@@ -1,13 +1,13 @@
 -- What is decoded holds the bytes that it was read from; a line is decoded one scalar or damaged byte after the other.
-use mathlib.Core.Path.{_≡_, refl, sym, ap, _∙_}
-use Prim.Native.Nat.{ℕ, zero, suc, _+_, _≤_, _<_, zero-le, suc-le-suc}
+use mathlib.Core.Path.{_≡_, refl, sym, ap, ap₂, _∙_}
+use Prim.Native.Nat.{ℕ, zero, suc, _≤_, _<_, zero-le, suc-le-suc}
 use native.Mathlib.Omega.{arith}
 use mathlib.Core.Bool.{Bool, true, false, _&&_, _||_}
 use mathlib.Core.List.{List, [], _∷_, _++_, append-assoc, append-nil}
 use lib.ListN.{length, take, drop, take-append-drop}
-use lib.Dec.{T, leb, ltb, leb→le, ltb→lt}
+use lib.Dec.{T, leb, ltb, leb→le, ltb→lt, eqb, eqb→eq}
 use Rattle.text.specs.Tests.{and-T, or-T, is-true, is-false, true-T, cases}
-use Rattle.text.specs.Utf8.{Range, within, table, fits, lengthIn, sequence, decodedAs, decodeFrom, decode, Decoded, wellFormed, illFormed, scalar, Scalar, Piece, run, damaged, addToRun, runs, bytesOf}
+use Rattle.text.specs.Utf8.{Range, within, table, fits, lengthIn, sequence, decodedAs, decodeFrom, decode, Decoded, wellFormed, illFormed, scalar, Scalar, Piece, run, damaged, addToRun, runs, bytesOf, sameBytes, reads}
 
 -- ---- a sequence lies within the bytes
 
@@ -29,6 +29,14 @@ sequence-le s = lengthIn-le table s
 
 -- ---- bytes
 
+pub bytes-nil : bytesOf [] ≡ []
+unfolding bytesOf
+bytes-nil = refl
+
+pub bytes-one : (c : Scalar) → bytesOf (c ∷ []) ≡ c .bytes
+unfolding bytesOf
+bytes-one c = append-nil (c .bytes)
+
 pub bytesOf-append : (s t : List Scalar) → bytesOf (s ++ t) ≡ bytesOf s ++ bytesOf t
 unfolding bytesOf
 bytesOf-append [] t = refl
@@ -44,6 +52,18 @@ unfolding bytesOf
 pieceBytes [] = []
 pieceBytes (run s ∷ ps) = bytesOf s ++ pieceBytes ps
 pieceBytes (damaged b ∷ ps) = b ∷ pieceBytes ps
+
+pub pieces-nil : pieceBytes [] ≡ []
+unfolding pieceBytes
+pieces-nil = refl
+
+pub pieces-run : (s : List Scalar) (ps : List Piece) → pieceBytes (run s ∷ ps) ≡ bytesOf s ++ pieceBytes ps
+unfolding pieceBytes
+pieces-run s ps = refl
+
+pub pieces-damaged : (b : ℕ) (ps : List Piece) → pieceBytes (damaged b ∷ ps) ≡ b ∷ pieceBytes ps
+unfolding pieceBytes
+pieces-damaged b ps = refl
 
 decodedBytes-from : (k : ℕ) (s : List ℕ) → decodedBytes (decodeFrom k s) ≡ drop k s
 unfolding decodedBytes decodeFrom
@@ -71,6 +91,19 @@ unfolding runs pieceBytes decodedBytes
 pieceBytes-runs [] = refl
 pieceBytes-runs (wellFormed c ∷ us) = addToRun-bytes c (runs us) ∙ ap (λ (l : List ℕ). c .bytes ++ l) (pieceBytes-runs us)
 pieceBytes-runs (illFormed b ∷ us) = ap (λ (l : List ℕ). b ∷ l) (pieceBytes-runs us)
+
+-- ---- the bytes that a text reads as
+
+sameBytes-is : (s t : List ℕ) → T (sameBytes s t) → s ≡ t
+unfolding sameBytes
+sameBytes-is [] [] h = refl
+sameBytes-is [] (b ∷ t) h = absurd h
+sameBytes-is (a ∷ s) [] h = absurd h
+sameBytes-is (a ∷ s) (b ∷ t) h = let w = and-T (eqb a b) (sameBytes s t) h in ap₂ (λ (x : ℕ) (l : List ℕ). x ∷ l) (eqb→eq a b (w .0)) (sameBytes-is s t (w .1))
+
+pub reads-is : (g : List Scalar) (s : List ℕ) → reads g s ≡ true → bytesOf g ≡ s
+unfolding reads
+reads-is g s e = sameBytes-is (bytesOf g) s (true-T e)
 
 -- ---- one after the other
 

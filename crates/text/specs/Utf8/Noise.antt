@@ -10,7 +10,7 @@ use lib.Seq.{take-append-le}
 use lib.Dec.{T, leb, ltb, eqb, leb→le, ltb→lt, eqb→eq}
 use Rattle.text.specs.Tests.{and-T, or-T, is-false, true-T, cases}
 use Rattle.text.specs.Each.{Each, nil, cons}
-use Rattle.text.specs.Utf8.{Range, within, table, fits, lengthIn, sequence, decodedAs, decodeFrom, decode, Decoded, wellFormed, illFormed, scalar, Scalar, Piece, run, damaged, addToRun, runs, noise}
+use Rattle.text.specs.Utf8.{Range, within, table, fits, lengthIn, sequence, decodedAs, decodeFrom, decode, Decoded, wellFormed, illFormed, scalar, Scalar, Piece, run, damaged, addToRun, runs, noise, allNoise}
 use Rattle.text.specs.Utf8.Laws.{sequence-le}
 
 -- ---- ranges in which no noise byte lies
@@ -53,6 +53,10 @@ noise-either n t l =
     (λ u. or-T (eqb n 0xC1) _ u
     (λ e. let h : n ≡ 0xC1 = eqb→eq n 0xC1 e in omega arith)
     (λ v. leb→le _ _ (and-T (leb 0xF5 n) (leb n 0xFF) v .0)))
+
+pub noise-cons : (n : ℕ) (ns : List ℕ) → T (allNoise (n ∷ ns)) → T (noise n) × T (allNoise ns)
+unfolding allNoise
+noise-cons n ns h = and-T (noise n) (allNoise ns) h
 
 pub within-noise : (r : Range) (n : ℕ) → T (clean r) → T (noise n) → within r n ≡ false
 unfolding clean

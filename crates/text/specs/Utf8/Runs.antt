@@ -1,13 +1,13 @@
 -- A line is its first run and what follows it.
 use mathlib.Core.Path.{_≡_, refl, sym, ap, _∙_}
-use Prim.Native.Nat.{ℕ, _+_, _-_, _≤_}
+use Prim.Native.Nat.{ℕ, zero, suc, _+_, _-_, _≤_}
 use native.Mathlib.Omega.{arith}
 use mathlib.Core.List.{List, [], _∷_, _++_, map, append-assoc, append-cancel-left}
 use lib.ListN.{length, take, drop, length-append}
 use lib.Seq.{take-append-seam, drop-append-seam, take-at}
 use Rattle.text.specs.Each.{All, all-nil, all-cons, all-split}
-use Rattle.text.specs.Utf8.{Scalar, decode, Decoded, wellFormed, illFormed, Piece, run, addToRun, runs, runOf, bytesOf}
-use Rattle.text.specs.Utf8.Laws.{bytesOf-append, decodedBytes, decodedBytes-decode}
+use Rattle.text.specs.Utf8.{Scalar, sequence, decode, decodeFrom, Decoded, wellFormed, illFormed, Piece, run, damaged, addToRun, runs, runOf, bytesOf}
+use Rattle.text.specs.Utf8.Laws.{bytesOf-append, decode-bad, decode-good, decodedBytes, decodedBytes-decode}
 use Rattle.text.specs.Utf8.Valid.{Valid, ValidPiece, runs-valid, decode-text, run-text}
 
 -- what follows the run
@@ -38,6 +38,14 @@ after-none (illFormed b ∷ ds) = refl
 unfoldable pub withRun : List Scalar → List Piece → List Piece
 withRun [] ps = ps
 withRun (c ∷ s) ps = run (c ∷ s) ∷ ps
+
+pub with-nil : (ps : List Piece) → withRun [] ps ≡ ps
+unfolding withRun
+with-nil ps = refl
+
+pub with-cons : (c : Scalar) (s : List Scalar) (ps : List Piece) → withRun (c ∷ s) ps ≡ run (c ∷ s) ∷ ps
+unfolding withRun
+with-cons c s ps = refl
 
 runs-more : (c : Scalar) (ds : List Decoded) → addToRun c (runs ds) ≡ run (c ∷ runOf ds) ∷ runs (afterRun ds)
 unfolding addToRun runs runOf afterRun
@@ -77,6 +85,19 @@ after-decode s =
 -- the pieces of a line: its run, and the pieces of what follows
 pub runs-first : (s : List ℕ) → runs (decode s) ≡ withRun (runOf (decode s)) (runs (decode (drop (length (bytesOf (runOf (decode s)))) s)))
 runs-first s = runs-split (decode s) ∙ ap (λ (ds : List Decoded). withRun (runOf (decode s)) (runs ds)) (after-decode s)
+
+pub runs-nil : runs (decode []) ≡ []
+unfolding runs decode decodeFrom
+runs-nil = refl
+
+-- a byte that begins no run is damaged
+pub runs-damaged : (b : ℕ) (s : List ℕ) → runOf (decode (b ∷ s)) ≡ [] → runs (decode (b ∷ s)) ≡ damaged b ∷ runs (decode s)
+unfolding runOf runs
+runs-damaged b s e = go (sequence (b ∷ s)) refl
+  where
+    go : (n : ℕ) → sequence (b ∷ s) ≡ n → runs (decode (b ∷ s)) ≡ damaged b ∷ runs (decode s)
+    go zero q = ap runs (decode-bad b s q)
+    go (suc n) q = absurd (let y : suc (length (runOf (decode (drop (suc n) (b ∷ s))))) ≡ 0 = ap length (ap runOf (sym (decode-good b s n q)) ∙ e) in omega arith)
 
 run-stops : (s : List ℕ) → runOf (decode (drop (length (bytesOf (runOf (decode s)))) s)) ≡ []
 run-stops s = ap runOf (sym (after-decode s)) ∙ after-none (decode s)

@@ -1,7 +1,7 @@
 use Prim.Native.Nat.{_+_, _-_}
 use native.Mathlib.Omega.{arith}
 use lib.ListN.{length}
-use Rattle.spans.proofs.Single.{PrintableLoop, printable-begin, printable-byte, printable-last, printable-more, printable-none, printable-past}
+use Rattle.spans.proofs.PrintableBytes.{PrintableLoop, printable-begin, printable-byte, printable-last, printable-more, printable-none, printable-past}
 use borrow.Author.Needs.{needs}
 use Rattle.spans.proofs.reader.printable_end.Statement.{statement}
 use Rattle.spans.proofs.reader.printable_end.Tie as tie

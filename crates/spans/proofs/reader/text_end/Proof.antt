@@ -2,7 +2,7 @@ use Prim.Native.Nat.{_-_}
 use lib.ListN.{length}
 use Rattle.text.specs.Code.{profileOf}
 use Rattle.spans.specs.Contracts.{PlainTo}
-use Rattle.spans.proofs.Single.{plain-here}
+use Rattle.spans.proofs.PlainClusters.{plain-here}
 use Rattle.spans.proofs.ReaderLaws.{other-here, text-control, text-control-behind, text-falls, text-more, text-past, text-stops}
 use borrow.Author.Needs.{needs}
 use Rattle.spans.proofs.reader.text_end.Statement.{statement}
@@ -23,26 +23,26 @@ printable-end-requires c κs = search needs
 byte-at-requires : tie.Need-byte-at-requires Inv-loop μ-loop
 byte-at-requires c κs = search needs
 
-is-alone-requires : tie.Need-is-alone-requires Inv-loop μ-loop
-is-alone-requires c κs = search needs
+is-c0-not-cr-requires : tie.Need-is-c0-not-cr-requires Inv-loop μ-loop
+is-c0-not-cr-requires c κs = search needs
 
 returns : tie.Need-returns Inv-loop μ-loop
 returns c = search text-control
 
-bases-end-requires : tie.Need-bases-end-requires Inv-loop μ-loop
-bases-end-requires c κs = search needs
+syllables-and-others-end-requires : tie.Need-syllables-and-others-end-requires Inv-loop μ-loop
+syllables-and-others-end-requires c κs = search needs
 
 byte-at-requires-2 : tie.Need-byte-at-requires-2 Inv-loop μ-loop
 byte-at-requires-2 c κs = search needs
 
-is-alone-requires-2 : tie.Need-is-alone-requires-2 Inv-loop μ-loop
-is-alone-requires-2 c κs = search needs
+is-c0-not-cr-requires-2 : tie.Need-is-c0-not-cr-requires-2 Inv-loop μ-loop
+is-c0-not-cr-requires-2 c κs = search needs
 
 returns-2 : tie.Need-returns-2 Inv-loop μ-loop
 returns-2 c = search text-control-behind
 
 clusters-end-requires : tie.Need-clusters-end-requires Inv-loop μ-loop
-clusters-end-requires c κs = other-here (c .before .before .before .before .before .before .before .before .before .before .before .args .t .now) _ _ _ (c .before .before .byte-at2 .ensures) (c .before .is-alone2 .ensures) (c .if2 .left)
+clusters-end-requires c κs = other-here (c .before .before .before .before .before .before .before .before .before .before .before .args .t .now) _ _ _ (c .before .before .byte-at2 .ensures) (c .before .is-c0-not-cr2 .ensures) (c .if2 .left)
 
 byte-at-requires-3 : tie.Need-byte-at-requires-3 Inv-loop μ-loop
 byte-at-requires-3 c κs = search needs
@@ -54,13 +54,13 @@ is-printable-requires : tie.Need-is-printable-requires Inv-loop μ-loop
 is-printable-requires c κs = search needs
 
 loop-less : tie.Need-loop-less Inv-loop μ-loop
-loop-less c = text-falls _ _ _ _ _ (c .before .before .before .before .before .before .before .before .before .before .before .before .before .loop .inv) (c .before .before .before .before .before .before .before .before .before .before .before .printable-end .ensures .to) _ (c .before .before .before .before .before .before .before .bases-end .ensures .to) _ _ (c .before .before .before .clusters-end .ensures) (c .before .before .byte-at3 .ensures) _ (c .before .is-printable .ensures) (c .if3 .taken)
+loop-less c = text-falls _ _ _ _ _ (c .before .before .before .before .before .before .before .before .before .before .before .before .before .loop .inv) (c .before .before .before .before .before .before .before .before .before .before .before .printable-end .ensures .to) _ (c .before .before .before .before .before .before .before .syllables-and-others-end .ensures .to) _ _ (c .before .before .before .clusters-end .ensures) (c .before .before .byte-at3 .ensures) _ (c .before .is-printable .ensures) (c .if3 .taken)
 
 loop-again : tie.Need-loop-again Inv-loop μ-loop
-loop-again c = text-more _ _ _ _ _ (c .before .before .before .before .before .before .before .before .before .before .before .before .before .loop .inv) (c .before .before .before .before .before .before .before .before .before .before .before .printable-end .ensures .to) _ (c .before .before .before .before .before .before .before .bases-end .ensures .to) _ _ (c .before .before .before .clusters-end .ensures) (c .before .before .byte-at3 .ensures) _ (c .before .is-printable .ensures) (c .if3 .taken)
+loop-again c = text-more _ _ _ _ _ (c .before .before .before .before .before .before .before .before .before .before .before .before .before .loop .inv) (c .before .before .before .before .before .before .before .before .before .before .before .printable-end .ensures .to) _ (c .before .before .before .before .before .before .before .syllables-and-others-end .ensures .to) _ _ (c .before .before .before .clusters-end .ensures) (c .before .before .byte-at3 .ensures) _ (c .before .is-printable .ensures) (c .if3 .taken)
 
 returns-3 : tie.Need-returns-3 Inv-loop μ-loop
-returns-3 c = text-stops _ _ _ _ _ (c .before .before .before .before .before .before .before .before .before .before .before .before .before .loop .inv) (c .before .before .before .before .before .before .before .before .before .before .before .printable-end .ensures .to) _ (c .before .before .before .before .before .before .before .bases-end .ensures .to) _ _ (c .before .before .before .clusters-end .ensures) (c .before .before .byte-at3 .ensures) _ (c .before .is-printable .ensures) (c .if3 .left)
+returns-3 c = text-stops _ _ _ _ _ (c .before .before .before .before .before .before .before .before .before .before .before .before .before .loop .inv) (c .before .before .before .before .before .before .before .before .before .before .before .printable-end .ensures .to) _ (c .before .before .before .before .before .before .before .syllables-and-others-end .ensures .to) _ _ (c .before .before .before .clusters-end .ensures) (c .before .before .byte-at3 .ensures) _ (c .before .is-printable .ensures) (c .if3 .left)
 
 returns-4 : tie.Need-returns-4 Inv-loop μ-loop
 returns-4 c = search text-past
@@ -74,11 +74,11 @@ text-end-spec =
     loop-holds
     printable-end-requires
     byte-at-requires
-    is-alone-requires
+    is-c0-not-cr-requires
     returns
-    bases-end-requires
+    syllables-and-others-end-requires
     byte-at-requires-2
-    is-alone-requires-2
+    is-c0-not-cr-requires-2
     returns-2
     clusters-end-requires
     byte-at-requires-3

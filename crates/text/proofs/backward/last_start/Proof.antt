@@ -25,7 +25,7 @@ loop-holds : tie.Need-loop-holds Inv-loop μ-loop
 loop-holds c = search last-begin
 
 joins-at-requires : tie.Need-joins-at-requires Inv-loop μ-loop
-joins-at-requires c κs = search last-inside
+joins-at-requires c κs = (search last-inside, c .before .loop .inv .start, search needs)
 
 scalar-start-requires-2 : tie.Need-scalar-start-requires-2 Inv-loop μ-loop
 scalar-start-requires-2 c κs = omega (arith, last-inside _ (c .before .before .before .before .before .before .before .args .t .now) (c .before .before .before .loop .q) _ (c .before .before .before .loop .inv))

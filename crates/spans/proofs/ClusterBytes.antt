@@ -1,21 +1,24 @@
 -- What a cluster is, by its bytes.
 use mathlib.Core.Path.{_≡_, refl, sym, ap, _∙_}
-use Prim.Native.Nat.{ℕ, suc, _-_, _≤_, _<_}
+use Prim.Native.Nat.{ℕ, suc, _≤_, _<_}
 use native.Mathlib.Omega.{arith}
 use mathlib.Core.Bool.{Bool, true, false, not, cond, _&&_, _||_, and-true, and-false}
 use mathlib.Core.List.{List, [], _∷_}
 use lib.ListN.{length, take, getD}
 use lib.Seq.{getD-take}
-use lib.Dec.{eqb, leb, eqb→eq}
-use borrow.Author.Tests.{ne-eqb, le-leb, eqb-true}
-use Rattle.text.specs.Tests.{and-T, cases, is-true, true-T}
-use Rattle.text.specs.Utf8.{Scalar, decode, runOf, bytesOf, sameBytes, reads}
+use lib.Dec.{eqb, leb, eqb→eq, leb→le}
+use borrow.Author.Tests.{ne-eqb, le-leb, lt-leb, eqb-true}
+use Rattle.text.specs.Tests.{and-T, cases, is-true, or-T, true-T}
+use Rattle.text.specs.Utf8.{Scalar, ascii, decode, runOf, bytesOf}
 use Rattle.text.specs.Class.{Profile}
 use Rattle.text.specs.Width.{widthOf}
 use Rattle.text.specs.Cluster.{clusters}
 use Rattle.text.specs.Cluster.Walk.{cluster-bytes, cluster-length, cluster-run, cluster-some}
-use Rattle.text.specs.Code.{profileOf}
-use Rattle.text.specs.Code.Laws.{control-width, newline-width}
+use Rattle.text.specs.Code.{printable, profileOf}
+use Rattle.text.specs.Code.Laws.{run-nil}
+use Rattle.text.specs.Code.Profile01.{ascii-classes}
+use Rattle.text.specs.Cluster.Ascii.{control-width, newline-width}
+use Rattle.text.specs.Utf8.Ascii.{ascii-run}
 use Rattle.text.specs.Utf8.Runs.{run-fits}
 use Rattle.text.specs.declared.class.Profile as code
 use Rattle.spans.specs.Sequence.{sgr, eraseToEnd, ignored, hyperlink, lineDrawing, Found, found, missing, parse}
@@ -43,7 +46,7 @@ seenOf g n a y w f =
 
 module _ (P : Profile) (g : List Scalar) (y : ℕ) (s : List ℕ) where
   seen-by : (b : List ℕ) → bytesOf g ≡ b → (1 < length b → y ≡ getD b 1 0) → seen P g s ≡ seenOf g (length b) (getD b 0 0) y (widthOf P g) (parse s)
-  unfolding seen reads sameBytes controlSeen seenOf lastSeen
+  unfolding seen controlSeen seenOf lastSeen
   seen-by [] e f = rw e
   seen-by (x ∷ []) e f = rw e (simp (and-true, and-false))
   seen-by (x ∷ z ∷ []) e f = let q : y ≡ z = f (omega arith) in rw (e, q) (simp (and-true, and-false))
@@ -149,12 +152,19 @@ module _ (p : code.Profile) (s : List ℕ) (g : List Scalar) (gs : List (List Sc
   room : length (bytesOf g) ≤ length s
   room = omega (arith, cluster-length (profileOf p) s g gs e, run-fits s)
 
+  control-low : (v : ℕ) → (leb v 0x1F || eqb v 0x7F) ≡ true → (v < 0x80) × (printable v ≡ false)
+  control-low v e =
+      or-T (leb v 0x1F) (eqb v 0x7F) (true-T e)
+      (λ t. let h : v ≤ 0x1F = leb→le v 0x1F t in (omega arith, rw (lt-leb 0x20 v (omega arith)) refl))
+      (λ t. let h : v ≡ 0x7F = eqb→eq v 0x7F t in (omega arith, rw h refl))
+
   control-none : (eqb (length (bytesOf g)) 1 && (leb (getD s 0 0) 0x1F || eqb (getD s 0 0) 0x7F)) ≡ true → widthOf (profileOf p) g ≡ 0
   control-none h =
       let q = and-T (eqb (length (bytesOf g)) 1) _ (true-T h) in
       let n : length (bytesOf g) ≡ 1 = eqb→eq _ _ (q .0) in
       let r : runOf (decode (getD s 0 0 ∷ [])) ≡ g = ap (λ (l : List ℕ). runOf (decode l)) (sym (one s (omega (arith, n, room))) ∙ ap (λ (k : ℕ). take k s) (sym n)) ∙ cluster-run (profileOf p) s g gs e in
-      ap (widthOf (profileOf p)) (sym r) ∙ control-width p (getD s 0 0) (is-true _ (q .1))
+      let l = control-low (getD s 0 0) (is-true _ (q .1)) in
+      ap (widthOf (profileOf p)) (sym r ∙ ascii-run (getD s 0 0) [] (l .0) ∙ ap (λ (t : List Scalar). ascii (getD s 0 0) ∷ t) run-nil) ∙ control-width (profileOf p) (ascii-classes p) (getD s 0 0) (l .0) (l .1)
 
   newline-none : (eqb (length (bytesOf g)) 2 && (eqb (getD s 0 0) 0x0D && eqb (getD s 1 0) 0x0A)) ≡ true → widthOf (profileOf p) g ≡ 0
   newline-none h =
@@ -162,7 +172,8 @@ module _ (p : code.Profile) (s : List ℕ) (g : List Scalar) (gs : List (List Sc
       let w = and-T (eqb (getD s 0 0) 0x0D) _ (q .1) in
       let n : length (bytesOf g) ≡ 2 = eqb→eq _ _ (q .0) in
       let r : runOf (decode (getD s 0 0 ∷ getD s 1 0 ∷ [])) ≡ g = ap (λ (l : List ℕ). runOf (decode l)) (sym (two s (omega (arith, n, room))) ∙ ap (λ (k : ℕ). take k s) (sym n)) ∙ cluster-run (profileOf p) s g gs e in
-      ap (widthOf (profileOf p)) (sym r) ∙ rw (eqb→eq (getD s 0 0) 0x0D (w .0), eqb→eq (getD s 1 0) 0x0A (w .1)) (newline-width p)
+      let k : runOf (decode (0x0D ∷ 0x0A ∷ [])) ≡ ascii 0x0D ∷ ascii 0x0A ∷ [] = rw (ascii-run 0x0D (0x0A ∷ []) (omega arith), ascii-run 0x0A [] (omega arith), run-nil) refl in
+      ap (widthOf (profileOf p)) (sym r ∙ rw (eqb→eq (getD s 0 0) 0x0D (w .0), eqb→eq (getD s 1 0) 0x0A (w .1)) k) ∙ newline-width (profileOf p) (ascii-classes p)
 
   pub plain-width : plainCluster (profileOf p) g ≡ not (eqb (widthOf (profileOf p) g) 0)
   unfolding plainBytes
