@@ -27,11 +27,11 @@ use Rattle.text.specs.declared.utf8.Sequence.{Sequence}
 use Rattle.text.specs.declared.overstrike.Conversion.{Conversion}
 use Rattle.text.specs.declared.overstrike.Progress.{Progress}
 use Rattle.text.specs.declared.class.Profile as code
-use Rattle.text.proofs.RegionalIndicators.{even-zero}
+use Rattle.text.proofs.RegionalIndicators.{parity-zero}
 use Rattle.text.proofs.Runs.{Head, no-head, part-slice, run-drop, run-head, size-reverse}
-use Rattle.text.proofs.Steps.{front-size, front-text, part-none}
+use Rattle.text.proofs.OverstrikeSteps.{front-size, front-text, part-none}
 use Rattle.text.proofs.Texts.{run-prefix}
-use Rattle.text.proofs.Units.{run-good, run-more, run-size, scalarAt}
+use Rattle.text.proofs.SequenceBytes.{run-good, run-more, run-size, scalarAt}
 use Rattle.text.specs.Code.Laws.{none-at, none-past, size-cons, size-nil}
 
 -- ---- the run of a text and what stands behind it
@@ -117,7 +117,7 @@ start-state line l = refl
 pub running-begin : (P : Profile) (line l : List ℕ) → 8 * length line ≤ length l → Running P line l 0 (conversion 0 0 0 0 plain plain 0)
 unfolding runOf decode decodeFrom bytesOf
 running-begin P line l h = record {
-  sound = record { inside = omega arith; valid = refl; part = part-none line; even = even-zero [] };
+  sound = record { inside = omega arith; valid = refl; part = part-none line; parity = parity-zero [] };
   here = omega arith;
   run = omega arith;
   work = ap (λ (t : State). steps P t (clusters P (runOf (decode line)))) (start-state line l);

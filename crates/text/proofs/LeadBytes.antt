@@ -12,7 +12,7 @@ use Rattle.text.specs.Code.{firstSequence, fourBytes, isTail, sequenceFo
 use Rattle.text.specs.Tests.{and-T, cases, iff, is-true, or-T, true-T}
 use Rattle.text.specs.Utf8.{decode, more, to, value, within}
 use Rattle.text.specs.declared.utf8.Sequence.{Sequence}
-use Rattle.text.proofs.Units.{by-chain, chain, decode-at}
+use Rattle.text.proofs.SequenceBytes.{by-chain, chain, decode-at}
 use Rattle.text.specs.declared.class.Profile as code
 use Rattle.text.specs.Code.FirstSequence.{ascii-first}
 

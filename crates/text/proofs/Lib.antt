@@ -1,5 +1,5 @@
 pub mod ClassNumbers
-pub mod Units
+pub mod SequenceBytes
 pub mod ContinuationBytes
 pub mod Runs
 pub mod AsciiRuns
@@ -11,6 +11,6 @@ pub mod Texts
 pub mod RegionalIndicators
 pub mod Erasing
 pub mod Pushing
-pub mod Steps
+pub mod OverstrikeSteps
 pub mod Converting
-pub mod Calling
+pub mod ConvertCall

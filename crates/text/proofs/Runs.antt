@@ -16,7 +16,7 @@ use Rattle.text.specs.Utf8.{Scalar, decode, decodeFrom, sequence, value}
 use Rattle.text.specs.Utf8.Laws.{sequence-le}
 use Rattle.text.specs.declared.utf8.Sequence.{Sequence}
 use Rattle.text.proofs.ContinuationBytes.{back-to, seq-lead, seq-tails}
-use Rattle.text.proofs.Units.{run-more, run-none}
+use Rattle.text.proofs.SequenceBytes.{run-more, run-none}
 use Rattle.text.specs.Code.FirstSequence.{first-by}
 use Rattle.text.specs.Code.Laws.{none-past}
 

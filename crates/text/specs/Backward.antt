@@ -50,39 +50,39 @@ module _ (P : Profile) where
 
 -- ---- regional indicators
 
--- the place i of t ends a scalar, and an even number of regional indicators ends there, in every version of the profile
-pub record EvenAt (t : List ℕ) (i : ℕ) : Type 0 where
+-- a parity place: the place i of t ends a scalar, and an even number of regional indicators ends there, in every version of the profile
+pub record ParityPlace (t : List ℕ) (i : ℕ) : Type 0 where
   pub rest : List Scalar
   pub es : List Scalar
   pub parts : runOf (decode t) ≡ reverseAux rest es
   pub place : size rest ≡ i
-  pub even : (v : code.Profile) → context (profileOf v) rest .odd ≡ false
+  pub parity : (v : code.Profile) → context (profileOf v) rest .odd ≡ false
 
 module _ (P : Profile) where
   -- a regional indicator of four bytes
   abbrev pub indicatorAt : List ℕ → ℕ → Bool
   indicatorAt t i = eqb (packedAt P t i) 212
 
-  -- the last two scalars are regional indicators, and the even place is the text's end
+  -- the last two scalars are regional indicators, and the parity place is the text's end
   abbrev pub endsInPair : List ℕ → ℕ → Bool
-  endsInPair t even = cond (ltb (length t) 8) false (cond (eqb even (length t)) (indicatorAt t (length t - 4) && indicatorAt t (length t - 8)) false)
+  endsInPair t parity = cond (ltb (length t) 8) false (cond (eqb parity (length t)) (indicatorAt t (length t - 4) && indicatorAt t (length t - 8)) false)
 
   -- regional indicators stand before q and behind it
   abbrev pub betweenIndicators : List ℕ → ℕ → Bool
   betweenIndicators t q = cond (ltb q 4) false (indicatorAt t q && indicatorAt t (q - 4))
 
-  -- the even place of a text without its last cluster, which begins at q
-  abbrev pub evenBefore : List ℕ → ℕ → ℕ → ℕ
-  evenBefore t q even =
-      cond (ltb q even) (cond (betweenIndicators t q) q 0)
-      (cond (leb (q - even) 128) even (cond (betweenIndicators t q) q even))
+  -- the parity place of a text without its last cluster, which begins at q
+  abbrev pub parityBefore : List ℕ → ℕ → ℕ → ℕ
+  parityBefore t q parity =
+      cond (ltb q parity) (cond (betweenIndicators t q) q 0)
+      (cond (leb (q - parity) 128) parity (cond (betweenIndicators t q) q parity))
 
   -- the same behind an erasure that leaves the first n bytes
-  abbrev pub evenAfter : List ℕ → ℕ → ℕ → ℕ
-  evenAfter t even n =
-      cond (eqb n (length t)) even
-      (cond (neverJoinsBefore (getD t (length t - 1) 0)) (evenBefore t n even)
-      (cond (endsInPair t even) n (evenBefore t n even)))
+  abbrev pub parityAfter : List ℕ → ℕ → ℕ → ℕ
+  parityAfter t parity n =
+      cond (eqb n (length t)) parity
+      (cond (neverJoinsBefore (getD t (length t - 1) 0)) (parityBefore t n parity)
+      (cond (endsInPair t parity) n (parityBefore t n parity)))
 
 -- ---- erasing
 
@@ -92,8 +92,8 @@ pub record Kept (P : Profile) (t : List ℕ) (r : ℕ) : Type 0 where
   pub erased : r < length t → (backward (take r t) ≡ backspace P (backward t)) × whole (take r t)
   pub added : length t ≤ r → ascii 0x08 ∷ backward t ≡ backspace P (backward t)
 
--- r is the place that a backspace goes back to in t, with the even place before it
+-- r is the place that a backspace goes back to in t, with the parity place before it
 pub record Erased (P : Profile) (t : List ℕ) (i : ℕ) (r : Erasure) : Type 0 where
   pub kept : Kept P t (r .at)
-  pub place : r .even ≡ evenAfter P t i (r .at)
-  pub even : EvenAt (take (r .at) t) (r .even)
+  pub place : r .parity ≡ parityAfter P t i (r .at)
+  pub parity : ParityPlace (take (r .at) t) (r .parity)
