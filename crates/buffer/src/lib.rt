@@ -99,10 +99,13 @@ pub fn push_le2(out: &mut [u8], at: usize, n: usize) -> usize
 pub fn push_le4(out: &mut [u8], at: usize, n: usize) -> usize
     ensures { λ r. ⌜ sink (now (out .exit)) r ≡ emit (sink (now (out .entry)) at) (le4 n) ⌝ }
 {
-    let a = push_byte(out, at, (n % 256) as u8);
-    let b = push_byte(out, a, (n / 256 % 256) as u8);
-    let c = push_byte(out, b, (n / 65536 % 256) as u8);
-    push_byte(out, c, (n / 16777216 % 256) as u8)
+    let bytes = [
+        (n % 256) as u8,
+        (n / 256 % 256) as u8,
+        (n / 65536 % 256) as u8,
+        (n / 16777216 % 256) as u8,
+    ];
+    push_bytes(out, at, &bytes)
 }
 
 // The hexadecimal digit of n, in capitals.

@@ -21,7 +21,6 @@ use Rattle.text.specs.Width.{width01, widthOf, profile01}
 use Rattle.text.specs.Cluster.Walk.{size-is}
 use Rattle.text.specs.Code.{runOf, size, profileOf, sequenceOf, firstSequence, isTail, twoBytes, threeBytes, fourBytes}
 use Rattle.text.specs.Code.Laws.{ScalarAt, scalar-at, none-at, none-past, run-valid, run-front, run-fits, plain-width}
-use Rattle.text.proofs.Ascii.{ascii-first}
 use Rattle.text.proofs.LeadBytes.{two-is, three-is, four-is}
 use Rattle.text.proofs.Texts.{whole-prefix}
 use Rattle.text.specs.TextParts.{textAt}
@@ -29,6 +28,7 @@ use Rattle.text.specs.declared.class.Profile as code
 use Rattle.text.specs.declared.utf8.Sequence.{Sequence}
 use Rattle.drawing.specs.Marks.{replacements, lineDrawn}
 use Rattle.drawing.specs.Contracts.{packedBytes, Replaceable, hasReplacements, CopyRoom, CopyOf}
+use Rattle.text.specs.Code.FirstSequence.{ascii-first}
 
 -- ---- the table
 

@@ -18,9 +18,11 @@ use Rattle.text.specs.Cluster.{joinAll}
 use Rattle.text.specs.Cluster.Walk.{size-is, first-size, first-none, cluster-some, cluster-behind}
 use Rattle.text.specs.Code.{profileOf, firstSize}
 use Rattle.text.specs.Segmentation.{neverJoinsBefore}
-use Rattle.text.specs.Code.Laws.{size-cons, size-nil}
+use Rattle.text.specs.Code.Laws.{size-nil}
 use Rattle.text.specs.Scalar.{packedAt}
-use Rattle.text.specs.Scalar.Laws.{packed-none, packed-some}
+use Rattle.text.specs.Scalar.Laws.{packed-none}
+use Rattle.text.specs.Segmentation.{NextCluster}
+use Rattle.text.specs.declared.segmentation.ClusterStep.{ClusterStep}
 use Rattle.text.specs.declared.class.Profile as code
 use Rattle.spans.specs.Sequence as found
 use Rattle.spans.specs.Sequence.{sgr, eraseToEnd, ignored, hyperlink, lineDrawing, Found, found, missing, parse}
@@ -37,7 +39,8 @@ use Rattle.spans.specs.declared.reader.NextSpan.{NextSpan}
 use Rattle.spans.proofs.ClusterBytes.{head-bytes, kindHead}
 use Rattle.spans.proofs.PlainClusters.{control-end, control-size}
 use Rattle.spans.proofs.Sequences.{part-slice}
-use Rattle.spans.proofs.FirstClusters.{by-first, byte-here, byte-next, size-none, behind-size, behind-clusters, run-inside}
+use Rattle.spans.proofs.TextEnd.{ClustersLoop, clusters-begin, clusters-less, clusters-on, no-text}
+use Rattle.spans.proofs.FirstClusters.{by-first, byte-here, byte-next, behind-size, behind-clusters, run-inside}
 use Rattle.spans.proofs.SkippedClusters.{skip-none, behind-skipped}
 
 -- ---- a cluster that is no part of a text
@@ -308,23 +311,8 @@ module _ (P : Profile) (t : List ℕ) (c : Place) (z : NextSpanReady t c) where
           low = omega (arith, z .here);
         })
 
-    pub mark-ready : (x : Bool) (a end e : ℕ) → a ≡ getD t (c .at) 0 → x ≡ c0NotCr a → x ≡ false → (u ≡ 0 → ⊥) → end ≡ c .at + plainSize P (clustersAt P (drop (c .at) t)) → end ≤ c .at
-        → e ≡ c .at + firstSize P (runOf (decode (drop (c .at) t))) → MarkSpanReady P t c e
-    mark-ready x a end e b q w n g h k =
-        let v = packed-some P t (c .at) u f n in
-        let i : c .at < runAt t (c .at) = rw (v .run, size-cons (v .scalar)) (omega (arith, v .len, v .some)) in
-        record {
-          ready = z;
-          special = omega arith;
-          ends = k;
-          some = by-first (clustersAt P (drop (c .at) t))
-              (λ y. absurd (omega (arith, size-none P (drop (c .at) t) y)))
-              (λ y ys r. omega (arith, first-size P (runOf (decode (drop (c .at) t))) y ys r, cluster-some P (drop (c .at) t) y ys r));
-          other = λ y. let j : a ≡ 0x1B = b ∙ y in let o : true ≡ false = rw j at (sym q ∙ w) in absurd (true≢false o);
-        }
-
   module _ (end : ℕ) (g : end ≡ c .at + plainSize P (clustersAt P (drop (c .at) t))) where
-    pub text-step : (m : Matched) (r : Record) → c .at < end → r ≡ textRecord m (c .at) (end - c .at) → SpanStep P t m (c .at) (record { span = r; place = record { at = end; run = c .run } })
+    text-step : (m : Matched) (r : Record) → c .at < end → r ≡ textRecord m (c .at) (end - c .at) → SpanStep P t m (c .at) (record { span = r; place = record { at = end; run = c .run } })
     unfolding recordsFrom records plainSize
     text-step m r h e =
         let at : ℕ = c .at in
@@ -346,3 +334,28 @@ module _ (P : Profile) (t : List ℕ) (c : Place) (z : NextSpanReady t c) where
 
   pub special-done : (m : Matched) (r : NextSpan) → SpecialStep P t (c .at) r → SpanStep P t m (c .at) r
   special-done m r h = h m
+
+-- the first cluster: a mark where it has no width, else the beginning of a text
+module _ (v : code.Profile) (t : List ℕ) (c : Place) (z : NextSpanReady t c) (u : ℕ) (f : u ≡ packedAt (profileOf v) t (c .at)) (some : u ≢ 0) (r : ClusterStep) (n : NextCluster (profileOf v) t (c .at) r) where
+  begin : ClustersLoop (profileOf v) t (c .at) (c .at) u
+  begin = clusters-begin (profileOf v) t (c .at) u (z .here) f
+
+  first-up : c .at < r .part .end .0
+  first-up = omega (arith, clusters-less v t (c .at) (c .at) u begin some r n, n .part .inside)
+
+  pub mark-ready : (x : Bool) (a : ℕ) → a ≡ getD t (c .at) 0 → x ≡ c0NotCr a → x ≡ false → r .part .width .0 ≡ 0 → MarkSpanReady (profileOf v) t c (r .part .end .0)
+  unfolding firstSize
+  mark-ready x a b q w e = record {
+    ready = z;
+    special = no-text v t (c .at) (c .at) u begin some r n e;
+    ends = n .part .end;
+    some = first-up;
+    other = λ y. let j : a ≡ 0x1B = b ∙ y in let o : true ≡ false = rw j at (sym q ∙ w) in absurd (true≢false o);
+  }
+
+  module _ (wide : r .part .width .0 ≢ 0) (end : ℕ) (g : end ≡ r .part .end .0 + plainSize (profileOf v) (clustersAt (profileOf v) (drop (r .part .end .0) t))) where
+    pub text-up : c .at ≤ end
+    text-up = omega (arith, first-up, g)
+
+    pub text-done : (m : Matched) (s : Record) → s ≡ textRecord m (c .at) (end - c .at) → SpanStep (profileOf v) t m (c .at) (record { span = s; place = record { at = end; run = c .run } })
+    text-done m s e = text-step (profileOf v) t c z end (g ∙ clusters-on v t (c .at) (c .at) u begin some r n wide .same) m s (omega (arith, first-up, g)) e

@@ -1,15 +1,17 @@
 -- Where the text ends that begins at a place: the loops over its clusters and over its parts.
-use mathlib.Core.Path.{_≡_, refl, sym, ap, _∙_}
+use mathlib.Core.Path.{_≡_, refl, sym, ap, ap₂, _∙_}
 use Prim.Native.Nat.{ℕ, _+_, _-_, _≤_, _<_}
+use native.Mathlib.Nat.{add-zero}
 use native.Mathlib.Omega.{arith}
-use mathlib.Core.Bool.{Bool, true, false, true≢false, not}
+use mathlib.Core.Bool.{Bool, true, false, true≢false, not, _&&_}
 use mathlib.Core.List.{List, [], _∷_}
 use mathlib.Core.Logic.{_≢_}
 use lib.ListN.{length, drop, getD, drop-of-length-le, List·getD-eq-default}
+use lib.Seq.{drop-drop, getD-drop}
 use borrow.Author.Tests.{ne-eqb, ltb-true}
 use lib.Dec.{eqb, ltb, nltb→le}
-use Rattle.text.specs.Tests.{cases}
-use Rattle.text.specs.Utf8.{Scalar, ascii, bytesOf}
+use Rattle.text.specs.Tests.{cases, and-T, is-true, true-T}
+use Rattle.text.specs.Utf8.{Scalar, ascii}
 use Rattle.text.specs.Class.{Profile}
 use Rattle.text.specs.Class.Ascii.{printable-range}
 use Rattle.text.specs.Width.{widthOf}
@@ -28,10 +30,10 @@ use Rattle.text.specs.TextParts.Laws.{ascii-at, first-there}
 use Rattle.text.specs.declared.segmentation.ClusterStep.{ClusterStep}
 use Rattle.text.specs.declared.class.Profile as code
 use Rattle.spans.specs.Spans.FirstSpan.{extent, plainCluster, plainSize}
-use Rattle.spans.specs.Reader.{c0NotCr, clustersAt, PlainTo, clustersSize, ClustersTo}
-use Rattle.spans.proofs.ClusterBytes.{plain-width, first-byte}
+use Rattle.spans.specs.Reader.{c0NotCr, clustersAt, PlainTo, clustersSize, printablePair, ClustersTo}
+use Rattle.spans.proofs.ClusterBytes.{plain-width}
 use Rattle.spans.proofs.PlainClusters.{control-size, plain-here, plain-on}
-use Rattle.spans.proofs.FirstClusters.{no-clusters, byte-here, behind-clusters}
+use Rattle.spans.proofs.FirstClusters.{no-clusters, behind-clusters}
 
 -- ---- `clusters_end`
 
@@ -39,7 +41,7 @@ use Rattle.spans.proofs.FirstClusters.{no-clusters, byte-here, behind-c
 pub record ClustersLoop (P : Profile) (t : List ℕ) (at p u : ℕ) : Type 0 where
   pub to : PlainTo P t at p
   pub scalar : u ≡ packedAt P t p
-  pub work : p + clustersSize P false (clustersAt P (drop p t)) ≡ at + clustersSize P false (clustersAt P (drop at t))
+  pub work : p + clustersSize P false (drop p t) (clustersAt P (drop p t)) ≡ at + clustersSize P false (drop at t) (clustersAt P (drop at t))
 
 pub clusters-begin : (P : Profile) (t : List ℕ) (at u : ℕ) → at < length t → u ≡ packedAt P t at → ClustersLoop P t at at u
 clusters-begin P t at u h e = record { to = plain-here P t at (omega (arith, h)); scalar = e; work = refl }
@@ -54,20 +56,16 @@ printable-at t p e =
 printable-wide : (v : code.Profile) (t : List ℕ) (p : ℕ) → printable (getD t p 0) ≡ true → 1 ≤ widthOf (profileOf v) (firstOf (clusters (profileOf v) (textAt t p)))
 printable-wide v t p e = rw (printable-at t p e) (printable-width (profileOf v) (ascii-classes v) (getD t p 0) (textAt t (p + 1)) e)
 
--- clusters behind others, by the byte that they begin with
-module _ (P : Profile) (t : List ℕ) (e : ℕ) where
-  begins : (g : List Scalar) (gs : List (List Scalar)) → clustersAt P (drop e t) ≡ g ∷ gs → getD (bytesOf g) 0 0 ≡ getD t e 0
-  begins g gs q = first-byte P (drop e t) g gs q ∙ byte-here P t e
+-- clusters behind others, by the bytes there
+behind-same : (P : Profile) (s : List ℕ) (gs : List (List Scalar)) → printablePair s ≡ false → clustersSize P true s gs ≡ clustersSize P false s gs
+unfolding clustersSize
+behind-same P s [] k = refl
+behind-same P s (g ∷ gs) k = rw k refl
 
-  behind-same : (gs : List (List Scalar)) → clustersAt P (drop e t) ≡ gs → printable (getD t e 0) ≡ false → clustersSize P true gs ≡ clustersSize P false gs
-  unfolding clustersSize
-  behind-same [] q k = refl
-  behind-same (g ∷ gs) q k = rw (begins g gs q, k) refl
-
-  behind-none : (gs : List (List Scalar)) → clustersAt P (drop e t) ≡ gs → printable (getD t e 0) ≡ true → clustersSize P true gs ≡ 0
-  unfolding clustersSize
-  behind-none [] q k = refl
-  behind-none (g ∷ gs) q k = rw (begins g gs q, k) refl
+behind-none : (P : Profile) (s : List ℕ) (gs : List (List Scalar)) → printablePair s ≡ true → clustersSize P true s gs ≡ 0
+unfolding clustersSize
+behind-none P s [] k = refl
+behind-none P s (g ∷ gs) k = rw k refl
 
 module _ (v : code.Profile) (t : List ℕ) (at p u : ℕ) (z : ClustersLoop (profileOf v) t at p u) where
   pub clusters-past : u ≡ 0 → ClustersTo (profileOf v) t at p
@@ -76,7 +74,7 @@ module _ (v : code.Profile) (t : List ℕ) (at p u : ℕ) (z : ClustersLoop (pro
       let m : textAt t p ≡ [] = packed-none (profileOf v) t p u (z .scalar) e in
       let n : clustersAt (profileOf v) (drop p t) ≡ [] = ap (clusters (profileOf v)) m ∙ clusters-nil (profileOf v) in
       record {
-        is = omega (arith, z .work, ap (clustersSize (profileOf v) false) n);
+        is = omega (arith, z .work, ap (clustersSize (profileOf v) false (drop p t)) n);
         to = z .to;
         ends = λ k. ap (plainSize (profileOf v)) n;
         further = λ k. absurd (omega (arith, ap size (sym (printable-at t p k) ∙ m), size-nil, size-cons (ascii (getD t p 0)) (textAt t (p + 1))));
@@ -109,15 +107,19 @@ module _ (v : code.Profile) (t : List ℕ) (at p u : ℕ) (z : ClustersLoop (pro
       unfolding first
       plain-is = plain-width v (drop p t) first behind is ∙ ap (λ (k : ℕ). not (eqb k 0)) (sym (n .part .width))
 
+      pub no-text : r .part .width .0 ≡ 0 → plainSize (profileOf v) (clustersAt (profileOf v) (drop p t)) ≡ 0
+      unfolding plainSize
+      no-text e = let b : plainCluster (profileOf v) first ≡ false = plain-is ∙ rw e refl in rw (is, b) refl
+
       pub clusters-stop : r .part .width .0 ≡ 0 → ClustersTo (profileOf v) t at p
-      unfolding plainSize clustersSize
+      unfolding clustersSize
       clusters-stop e =
           let b : plainCluster (profileOf v) first ≡ false = plain-is ∙ rw e refl in
-          let m : clustersSize (profileOf v) false (clustersAt (profileOf v) (drop p t)) ≡ 0 = rw (is, b) refl in
+          let m : clustersSize (profileOf v) false (drop p t) (clustersAt (profileOf v) (drop p t)) ≡ 0 = rw (is, b) refl in
           record {
             is = omega (arith, z .work, m);
             to = z .to;
-            ends = λ k. rw (is, b) refl;
+            ends = λ k. no-text e;
             further = λ k. absurd (omega (arith, printable-wide v t p k, n .part .width, e));
           }
 
@@ -131,7 +133,7 @@ module _ (v : code.Profile) (t : List ℕ) (at p u : ℕ) (z : ClustersLoop (pro
         others : clustersAt (profileOf v) (drop (r .part .end .0) t) ≡ behind
         others = ap (λ (k : ℕ). clustersAt (profileOf v) (drop k t)) end-is ∙ behind-clusters (profileOf v) t p first behind is
 
-        clusters-on : PlainTo (profileOf v) t at (r .part .end .0)
+        pub clusters-on : PlainTo (profileOf v) t at (r .part .end .0)
         unfolding plainSize
         clusters-on =
             let m : plainSize (profileOf v) (clustersAt (profileOf v) (drop p t)) ≡ extent first + plainSize (profileOf v) behind = rw (is, plain-here-is) refl in
@@ -141,23 +143,27 @@ module _ (v : code.Profile) (t : List ℕ) (at p u : ℕ) (z : ClustersLoop (pro
               low = n .part .inside;
             })
 
-        work-on : r .part .end .0 + clustersSize (profileOf v) true behind ≡ at + clustersSize (profileOf v) false (clustersAt (profileOf v) (drop at t))
+        work-on : r .part .end .0 + clustersSize (profileOf v) true (drop (r .part .end .0) t) behind ≡ at + clustersSize (profileOf v) false (drop at t) (clustersAt (profileOf v) (drop at t))
         unfolding clustersSize
         work-on =
-            let m : clustersSize (profileOf v) false (clustersAt (profileOf v) (drop p t)) ≡ extent first + clustersSize (profileOf v) true behind = rw (is, plain-here-is) refl in
+            let d : drop (extent first) (drop p t) ≡ drop (r .part .end .0) t = drop-drop (extent first) p t ∙ ap (λ (k : ℕ). drop k t) (sym end-is) in
+            let m : clustersSize (profileOf v) false (drop p t) (clustersAt (profileOf v) (drop p t)) ≡ extent first + clustersSize (profileOf v) true (drop (r .part .end .0) t) behind = rw (is, plain-here-is, d) refl in
             omega (arith, end-is, m, z .work)
 
-        module _ (b : ℕ) (x : Bool) (e : b ≡ getD t (r .part .end .0) 0) (f : x ≡ printable b) where
-          pub clusters-more : x ≡ false → ClustersLoop (profileOf v) t at (r .part .end .0) (r .next)
-          clusters-more q =
-              let k : printable (getD t (r .part .end .0) 0) ≡ false = rw e at (sym f ∙ q) in
-              record { to = clusters-on; scalar = n .next; work = rw (others, ← behind-same (profileOf v) t (r .part .end .0) behind others k) work-on }
+        module _ (a b : ℕ) (x : Bool) (e : a ≡ getD t (r .part .end .0) 0) (g : b ≡ getD t (r .part .end .0 + 1) 0) (f : x ≡ printable a) where
+          pair-is : printablePair (drop (r .part .end .0) t) ≡ (x && ltb b 0x80)
+          pair-is =
+              let h : getD (drop (r .part .end .0) t) 0 0 ≡ a = getD-drop (r .part .end .0) t 0 0 ∙ ap (λ (k : ℕ). getD t k 0) (add-zero (r .part .end .0)) ∙ sym e in
+              ap₂ (λ (k l : ℕ). printable k && ltb l 0x80) h (getD-drop (r .part .end .0) t 1 0 ∙ sym g) ∙ ap (λ (k : Bool). k && ltb b 0x80) (sym f)
 
-          pub clusters-printable : x ≡ true → ClustersTo (profileOf v) t at (r .part .end .0)
+          pub clusters-more : (x && ltb b 0x80) ≡ false → ClustersLoop (profileOf v) t at (r .part .end .0) (r .next)
+          clusters-more q = record { to = clusters-on; scalar = n .next; work = rw (others, ← behind-same (profileOf v) (drop (r .part .end .0) t) behind (pair-is ∙ q)) work-on }
+
+          pub clusters-printable : (x && ltb b 0x80) ≡ true → ClustersTo (profileOf v) t at (r .part .end .0)
           clusters-printable q =
-              let k : printable (getD t (r .part .end .0) 0) ≡ true = rw e at (sym f ∙ q) in
+              let k : printable (getD t (r .part .end .0) 0) ≡ true = rw (← e, ← f) (is-true x (and-T x (ltb b 0x80) (true-T q) .0)) in
               record {
-                is = omega (arith, work-on, behind-none (profileOf v) t (r .part .end .0) behind others k);
+                is = omega (arith, work-on, behind-none (profileOf v) (drop (r .part .end .0) t) behind (pair-is ∙ q));
                 to = clusters-on;
                 ends = λ y. absurd (true≢false (sym k ∙ y));
                 further = λ y. omega (arith, clusters-less, z .to .up, n .part .inside);

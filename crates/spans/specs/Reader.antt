@@ -65,16 +65,21 @@ syllablesSize P damaged (c ∷ s) =
     let more : ℕ = length (c .bytes) + syllablesSize P damaged s in
     cond (syllableOrOther (number (P .class (c .code))) && leavesSyllable P damaged s) more 0
 
--- the bytes of the plain clusters in front, up to one that begins with a printable byte; the first may begin with one where nothing stands before
-unfoldable pub clustersSize : Profile → Bool → List (List Scalar) → ℕ
-clustersSize P behind [] = 0
-clustersSize P behind (g ∷ gs) =
-    let more : ℕ = length (bytesOf g) + clustersSize P true gs in
-    cond (behind && printable (getD (bytesOf g) 0 0)) 0 (cond (plainCluster P g) more 0)
+-- a printable byte before a byte below 80 or the end
+abbrev pub printablePair : List ℕ → Bool
+printablePair s = printable (getD s 0 0) && ltb (getD s 1 0) 0x80
 
--- r is where these end that begin at a place: where the plain ones end, or before a printable byte
+-- the bytes of the plain clusters in front of the bytes s, up to such a pair behind the first
+unfoldable pub clustersSize : Profile → Bool → List ℕ → List (List Scalar) → ℕ
+clustersSize P behind s [] = 0
+clustersSize P behind s (g ∷ gs) =
+    let n : ℕ = length (bytesOf g) in
+    let more : ℕ = n + clustersSize P true (drop n s) gs in
+    cond (behind && printablePair s) 0 (cond (plainCluster P g) more 0)
+
+-- r is where these end that begin at a place: where the plain ones end, or before such a pair
 pub record ClustersTo (P : Profile) (t : List ℕ) (at r : ℕ) : Type 0 where
-  pub is : r ≡ at + clustersSize P false (clustersAt P (drop at t))
+  pub is : r ≡ at + clustersSize P false (drop at t) (clustersAt P (drop at t))
   pub to : PlainTo P t at r
   pub ends : printable (getD t r 0) ≡ false → plainSize P (clustersAt P (drop r t)) ≡ 0
   pub further : printable (getD t r 0) ≡ true → at < r

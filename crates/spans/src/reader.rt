@@ -107,7 +107,7 @@ fn syllables_and_others_end(profile: Profile, t: &[u8], at: usize) -> usize
     next
 }
 
-// Past clusters that have a width: they are parts of a text. Up to a printable byte behind the first.
+// Past clusters that have a width: they are parts of a text. Up to a printable byte behind the first that no mark follows.
 fn clusters_end(profile: Profile, t: &[u8], at: usize) -> usize
     requires { ⌜ at < length (now t) ⌝ }
     ensures { λ r. ⌜ ClustersTo (profileOf profile) (now (t .entry)) at r ⌝ }
@@ -124,7 +124,8 @@ fn clusters_end(profile: Profile, t: &[u8], at: usize) -> usize
         let end = part.end;
         p = end.0;
         u = step.next;
-        if is_printable(byte_at(t, p) as u32) {
+        let printable = is_printable(byte_at(t, p) as u32);
+        if printable & (byte_at(t, p + 1) < 0x80) {
             return p;
         }
     }
@@ -310,19 +311,24 @@ pub(crate) fn next_span(profile: Profile, t: &[u8], c: Place, m: Matched) -> Nex
     if is_c0_not_cr(byte_at(t, at)) {
         return control_span(profile, t, c);
     }
-    if scalar_at(profile, t, at) == 0 {
+    let u = scalar_at(profile, t, at);
+    if u == 0 {
         return invalid_span(c);
     }
-    let end = text_end(profile, t, at);
-    if at < end {
-        let span = text_span(at, end, m);
-        return NextSpan {
-            span: span,
-            place: Place {
-                at: end,
-                run: c.run,
-            },
-        };
+    let step = next_cluster(profile, t, BytePlace(at), u);
+    let part = step.part;
+    let first = part.end;
+    let width = part.width;
+    if width.0 == 0 {
+        return mark_span(profile, t, c, first.0);
     }
-    mark_span(profile, t, c, cluster_end(profile, t, at))
+    let end = text_end(profile, t, first.0);
+    let span = text_span(at, end, m);
+    NextSpan {
+        span: span,
+        place: Place {
+            at: end,
+            run: c.run,
+        },
+    }
 }

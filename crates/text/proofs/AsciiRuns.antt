@@ -14,7 +14,7 @@ use Rattle.text.specs.Utf8.{decode, decodeFrom, value}
 use Rattle.text.specs.Utf8.Ascii.{low-sequence}
 use Rattle.text.specs.Code.{asciiLength, asciiFour, firstSequence, runOf, size}
 use Rattle.text.specs.declared.utf8.Sequence.{Sequence}
-use Rattle.text.proofs.Units.{run-more, run-room, size-end, size-on, size-stop}
+use Rattle.text.proofs.SequenceBytes.{run-more, run-room, size-end, size-on, size-stop}
 
 -- ---- `is_ascii4`
 

@@ -2,15 +2,15 @@
 use Prim.Native.Nat.{_%_, _-_, _/_, _<_, _≤_, ℕ}
 use native.Mathlib.Omega.{arith}
 use mathlib.Core.Bool.{Bool, _&&_, and-false, false, not, true}
-use mathlib.Core.List.{List, [], _∷_, reverse, reverse-reverse, reverseAux}
+use mathlib.Core.List.{List, [], _∷_, reverse, reverse-reverse, reverseAux, reverseAux-eq}
 use mathlib.Core.Logic.{_≢_, ⊎-elim}
 use mathlib.Core.Path.{_∙_, _≡_, ap, ap₂, refl, sym}
 use lib.Dec.{eqb, eqb→eq, ltb}
-use lib.ListN.{drop, getD, length}
+use lib.ListN.{drop, getD, length, take}
 use borrow.Author.Tests.{eqb-false, ltb-false, ltb-true, ne-eqb}
-use Rattle.text.specs.Backward.{JoinsAt, OddTo, back, withoutLast}
+use Rattle.text.specs.Backward.{ScalarStart, back, backward, joinsAt, oddTo, withoutLast}
 use Rattle.text.specs.Class.{Profile, among, number}
-use Rattle.text.specs.Cluster.{Context, after, context, joined, joins}
+use Rattle.text.specs.Cluster.{Context, after, context, joined, joins, joinsNext}
 use Rattle.text.specs.Cluster.Walk.{size-is}
 use Rattle.text.specs.Code.{firstSequence, isTail, profileOf, sequenceOf, size, whole}
 use Rattle.text.specs.Rules.{contextOf, stateContext}
@@ -21,12 +21,13 @@ use Rattle.text.specs.Tests.{and-T, cases, true-T}
 use Rattle.text.specs.TextParts.{textAt}
 use Rattle.text.specs.Utf8.{Scalar, decode, decodeFrom, runOf}
 use Rattle.text.specs.declared.utf8.Sequence.{Sequence}
-use Rattle.text.specs.Code.Boundaries.{alone, alone-numbers}
-use Rattle.text.proofs.Ascii.{ascii-sequence, lone, lone-low, low-tail}
+use Rattle.text.specs.Code.Boundaries.{alone, alone-numbers, lone, lone-low}
 use Rattle.text.proofs.ForwardWalk.{class-le}
 use Rattle.text.proofs.Runs.{back-scalar, no-head, run-drop, run-head, run-inside, size-pos, size-reverse}
 use Rattle.text.proofs.ContinuationBytes.{back-here}
+use Rattle.text.proofs.Texts.{run-prefix}
 use Rattle.text.specs.declared.class.Profile as code
+use Rattle.text.specs.Code.FirstSequence.{ascii-sequence, low-tail}
 
 unfoldable pub flip : Bool → Bool → Bool
 flip true b = not b
@@ -53,12 +54,15 @@ flip-false false = refl
 
 -- at the place q of t, where a scalar of its last cluster begins
 pub record At (P : Profile) (t : List ℕ) (q total : ℕ) : Type 0 where
-  pub c : Scalar
-  pub rest : List Scalar
-  pub es : List Scalar
-  pub parts : runOf (decode t) ≡ reverseAux rest (c ∷ es)
-  pub place : size rest ≡ q
-  pub work : total ≡ size (withoutLast P (c ∷ rest))
+  pub start : ScalarStart t q
+  pub work : total ≡ size (withoutLast P (start .c ∷ start .rest))
+
+-- what stands before a place of a text is one list of scalars
+pub front-is : (t : List ℕ) (q : ℕ) (rest es : List Scalar) → runOf (decode t) ≡ reverseAux rest es → size rest ≡ q → backward (take q t) ≡ rest
+unfolding backward
+front-is t q rest es p s =
+    let n : size (reverse rest) ≡ q = size-reverse rest ∙ s in
+    ap reverse (rw n at (run-prefix (reverse rest) es t (p ∙ reverseAux-eq rest es) .0)) ∙ reverse-reverse rest
 
 pub joined-indicators : (k : Context) → joined 10 k 10 ≡ k .odd
 unfolding joined among number
@@ -95,9 +99,9 @@ module _ (P : Profile) where
   pub code-of : (t : List ℕ) (j : ℕ) (d : Scalar) (rest es : List Scalar) → runOf (decode t) ≡ reverseAux rest (d ∷ es) → j ≡ size rest → firstSequence (decode (drop j t)) .code ≡ d .code
   code-of t j d rest es e p = ap (λ (i : ℕ). firstSequence (decode (drop i t)) .code) p ∙ run-head (drop (size rest) t) d es (run-drop rest (d ∷ es) t e) .coded
 
-  pub odd-begin : (t : List ℕ) (q : ℕ) (rest es : List Scalar) → runOf (decode t) ≡ reverseAux rest es → size rest ≡ q → Left P t q false (context P rest .odd)
+  pub odd-begin : (t : List ℕ) (q : ℕ) → ScalarStart t q → Left P t q false (oddTo P t q)
   unfolding flip
-  odd-begin t q rest es e p = record { rest = rest; es = es; parts = e; place = p; parity = refl }
+  odd-begin t q a = record { rest = a .rest; es = a .c ∷ a .es; parts = a .parts; place = a .place; parity = ap (λ (x : List Scalar). context P x .odd) (front-is t q (a .rest) (a .c ∷ a .es) (a .parts) (a .place)) }
 
   pub odd-ri : (d : Scalar) (rest : List Scalar) → number (P .class (d .code)) ≡ 10 → context P (d ∷ rest) .odd ≡ not (context P rest .odd)
   unfolding context after among
@@ -121,41 +125,56 @@ module _ (P : Profile) where
 
   -- ---- a boundary
 
-  pub joins-zero : (t : List ℕ) (q : ℕ) → q ≡ 0 → JoinsAt P t q false
-  unfolding joins
-  joins-zero t q z c [] es p e = refl
-  joins-zero t q z c (d ∷ rest) es p e = let h = size-pos d rest (c ∷ es) t p in absurd (omega arith)
+  module _ (t : List ℕ) (q : ℕ) (a : ScalarStart t q) where
+    joins-is : joinsAt P t q ≡ joins P (a .rest) (a .c)
+    unfolding joinsNext
+    joins-is =
+        let r : textAt t q ≡ a .c ∷ a .es = ap (textAt t) (sym (a .place)) ∙ run-drop (a .rest) (a .c ∷ a .es) t (a .parts) in
+        rw (front-is t q (a .rest) (a .c ∷ a .es) (a .parts) (a .place), r) refl
 
-  module _ (t : List ℕ) (q j p k : ℕ) (r : Bool) (z : q ≢ 0) (b : j ≡ back t q) (f : p ≡ packedAt P t j / 8 % 16)
-      (g : k ≡ packedAt P t q / 8 % 16) where
-    joins-by : ((d : Scalar) (rest es : List Scalar) → runOf (decode t) ≡ reverseAux (d ∷ rest) es → size (d ∷ rest) ≡ q → p ≡ number (P .class (d .code)) → r ≡ joined p (context P (d ∷ rest)) k) → JoinsAt P t q r
-    unfolding joins size
-    joins-by o c [] es h s = absurd (z (sym s))
-    joins-by o c (d ∷ rest) es h s =
-        let w : j ≡ size rest = b ∙ ap (back t) (sym s) ∙ back-scalar d rest (c ∷ es) t h in
-        let x : p ≡ number (P .class (d .code)) = class-of t j p d rest (c ∷ es) h w f in
-        let y : k ≡ number (P .class (c .code)) = class-of t q k c (d ∷ rest) es h (sym s) g in
-        o d rest (c ∷ es) h s x ∙ ap₂ (λ (m n : ℕ). joined m (context P (d ∷ rest)) n) x y
+    pub joins-zero : q ≡ 0 → false ≡ joinsAt P t q
+    unfolding joins
+    joins-zero z = go (a .c) (a .rest) (a .es) (a .parts) (a .place) ∙ sym joins-is
+      where
+        go : (c : Scalar) (rest es : List Scalar) → runOf (decode t) ≡ reverseAux rest (c ∷ es) → size rest ≡ q → false ≡ joins P rest c
+        go c [] es p e = refl
+        go c (d ∷ rest) es p e = let h = size-pos d rest (c ∷ es) t p in absurd (omega arith)
 
-    -- two regional indicators
-    pub joins-pair : (eqb p 10 && eqb k 10) ≡ true → OddTo P t q r → JoinsAt P t q r
-    joins-pair m o =
-        let w = and-T (eqb p 10) (eqb k 10) (true-T m) in
-        joins-by (λ d rest es h s x. rw (eqb→eq p 10 (w .0), eqb→eq k 10 (w .1)) (o (d ∷ rest) es h s ∙ sym (joined-indicators (context P (d ∷ rest)))))
+    -- a class that joins nothing before it
+    joins-alone : alone (number (P .class (firstSequence (decode (drop q t)) .code))) ≡ true → false ≡ joinsAt P t q
+    unfolding joins
+    joins-alone f = go (a .c) (a .rest) (a .es) (a .parts) (a .place) ∙ sym joins-is
+      where
+        go : (c : Scalar) (rest es : List Scalar) → runOf (decode t) ≡ reverseAux rest (c ∷ es) → size rest ≡ q → false ≡ joins P rest c
+        go c [] es p s = refl
+        go c (d ∷ rest) es p s =
+            sym (alone-numbers (number (P .class (d .code))) (context P (d ∷ rest)) (number (P .class (c .code))) (rw (code-of t q c (d ∷ rest) es p (sym s)) at f))
 
-    -- of the two only one is a regional indicator, or none
-    pub joins-single : (eqb p 10 && eqb k 10) ≡ false → r ≡ joined p (stateContext p) k → JoinsAt P t q r
-    joins-single m e =
-        cases (eqb p 10)
-        (λ i. joins-by (λ d rest es h s x. e ∙ joined-context p k (stateContext p) (context P (d ∷ rest)) (eqb-false k 10 (rw i at m))))
-        (λ i. joins-by (λ d rest es h s x. e ∙ ap (λ (w : Bool). joined p (contextOf w) k) (i ∙ sym (odd-other d rest (λ w. eqb-false p 10 i (x ∙ w))))))
+    module _ (j p k : ℕ) (r : Bool) (z : q ≢ 0) (b : j ≡ back t q) (f : p ≡ packedAt P t j / 8 % 16) (g : k ≡ packedAt P t q / 8 % 16) where
+      joins-by : ((d : Scalar) (rest : List Scalar) → backward (take q t) ≡ d ∷ rest → p ≡ number (P .class (d .code)) → r ≡ joined p (context P (d ∷ rest)) k) → r ≡ joinsAt P t q
+      unfolding joins size
+      joins-by o = go (a .c) (a .rest) (a .es) (a .parts) (a .place) ∙ sym joins-is
+        where
+          go : (c : Scalar) (rest es : List Scalar) → runOf (decode t) ≡ reverseAux rest (c ∷ es) → size rest ≡ q → r ≡ joins P rest c
+          go c [] es h s = absurd (z (sym s))
+          go c (d ∷ rest) es h s =
+              let w : j ≡ size rest = b ∙ ap (back t) (sym s) ∙ back-scalar d rest (c ∷ es) t h in
+              let x : p ≡ number (P .class (d .code)) = class-of t j p d rest (c ∷ es) h w f in
+              let y : k ≡ number (P .class (c .code)) = class-of t q k c (d ∷ rest) es h (sym s) g in
+              o d rest (front-is t q (d ∷ rest) (c ∷ es) h s) x ∙ ap₂ (λ (m n : ℕ). joined m (context P (d ∷ rest)) n) x y
 
-  -- a class that joins nothing before it
-  joins-alone : (t : List ℕ) (q : ℕ) → alone (number (P .class (firstSequence (decode (drop q t)) .code))) ≡ true → JoinsAt P t q false
-  unfolding joins
-  joins-alone t q f c [] es p s = refl
-  joins-alone t q f c (d ∷ rest) es p s =
-      sym (alone-numbers (number (P .class (d .code))) (context P (d ∷ rest)) (number (P .class (c .code))) (rw (code-of t q c (d ∷ rest) es p (sym s)) at f))
+      -- two regional indicators
+      pub joins-pair : (eqb p 10 && eqb k 10) ≡ true → r ≡ oddTo P t q → r ≡ joinsAt P t q
+      joins-pair m o =
+          let w = and-T (eqb p 10) (eqb k 10) (true-T m) in
+          joins-by (λ d rest e x. rw (eqb→eq p 10 (w .0), eqb→eq k 10 (w .1), ← e) (o ∙ sym (joined-indicators (context P (backward (take q t))))))
+
+      -- of the two only one is a regional indicator, or none
+      pub joins-single : (eqb p 10 && eqb k 10) ≡ false → r ≡ joined p (stateContext p) k → r ≡ joinsAt P t q
+      joins-single m e =
+          cases (eqb p 10)
+          (λ i. joins-by (λ d rest h x. e ∙ joined-context p k (stateContext p) (context P (d ∷ rest)) (eqb-false k 10 (rw i at m))))
+          (λ i. joins-by (λ d rest h x. e ∙ ap (λ (w : Bool). joined p (contextOf w) k) (i ∙ sym (odd-other d rest (λ w. eqb-false p 10 i (x ∙ w))))))
 
   -- ---- the last cluster
 
@@ -163,7 +182,7 @@ module _ (P : Profile) where
   unfolding size
   begin-by t q [] e s h b = absurd (h (sym s))
   begin-by t q (d ∷ rest) e s h b =
-      record { c = d; rest = rest; es = []; parts = e; place = sym (b ∙ ap (back t) (sym s) ∙ back-scalar d rest [] t e); work = refl }
+      record { start = record { c = d; rest = rest; es = []; parts = e; place = sym (b ∙ ap (back t) (sym s) ∙ back-scalar d rest [] t e) }; work = refl }
 
   pub last-begin : (t : List ℕ) (q : ℕ) → whole t → (length t ≢ 0) → q ≡ back t (length t) → At P t q (size (withoutLast P (reverse (runOf (decode t)))))
   unfolding size
@@ -177,25 +196,24 @@ module _ (P : Profile) where
   last-empty (b ∷ t) h = absurd (omega arith)
 
   pub last-inside : (t : List ℕ) (q total : ℕ) → At P t q total → q < length t
-  last-inside t q total a = rw (a .place) at (run-inside (a .c) (a .rest) (a .es) t (a .parts))
+  last-inside t q total a = rw (a .start .place) at (run-inside (a .start .c) (a .start .rest) (a .start .es) t (a .start .parts))
 
-  module _ (t : List ℕ) (q total : ℕ) (r : Bool) (j : JoinsAt P t q r) where
+  module _ (t : List ℕ) (q total : ℕ) (r : Bool) (j : r ≡ joinsAt P t q) where
     pub last-stop : r ≡ false → At P t q total → q ≡ total
     unfolding withoutLast
     last-stop f a =
-        let e : joins P (a .rest) (a .c) ≡ false = sym (j (a .c) (a .rest) (a .es) (a .parts) (a .place)) ∙ f in
-        sym (rw e at (a .work) ∙ a .place)
+        let e : joins P (a .start .rest) (a .start .c) ≡ false = sym (joins-is t q (a .start)) ∙ sym j ∙ f in
+        sym (rw e at (a .work) ∙ a .start .place)
 
     go-by : (c : Scalar) (rest es : List Scalar) (p : ℕ) → runOf (decode t) ≡ reverseAux rest (c ∷ es) → size rest ≡ q → total ≡ size (withoutLast P (c ∷ rest))
-        → 0 < q → r ≡ true → p ≡ back t q → At P t p total
+        → joins P rest c ≡ true → 0 < q → p ≡ back t q → At P t p total
     unfolding withoutLast size
-    go-by c [] es p e s w h f b = absurd (omega arith)
-    go-by c (d ∷ rest) es p e s w h f b =
-        let x : joins P (d ∷ rest) c ≡ true = sym (j c (d ∷ rest) es e s) ∙ f in
-        record { c = d; rest = rest; es = c ∷ es; parts = e; place = sym (b ∙ ap (back t) (sym s) ∙ back-scalar d rest (c ∷ es) t e); work = rw x at w }
+    go-by c [] es p e s w x h b = absurd (omega arith)
+    go-by c (d ∷ rest) es p e s w x h b =
+        record { start = record { c = d; rest = rest; es = c ∷ es; parts = e; place = sym (b ∙ ap (back t) (sym s) ∙ back-scalar d rest (c ∷ es) t e) }; work = rw x at w }
 
     pub last-on : (p : ℕ) → 0 < q → r ≡ true → p ≡ back t q → At P t q total → At P t p total
-    last-on p h f b a = go-by (a .c) (a .rest) (a .es) p (a .parts) (a .place) (a .work) h f b
+    last-on p h f b a = let z = a .start in go-by (z .c) (z .rest) (z .es) p (z .parts) (z .place) (a .work) (sym (joins-is t q z) ∙ sym j ∙ f) h b
 
   last-by : (t : List ℕ) (total : ℕ) (c : Scalar) (rest es : List Scalar) → runOf (decode t) ≡ reverseAux rest (c ∷ es) → size rest ≤ 0 → total ≡ size (withoutLast P (c ∷ rest)) → 0 ≡ total
   unfolding withoutLast size joins
@@ -203,7 +221,7 @@ module _ (P : Profile) where
   last-by t total c (d ∷ rest) es p q w = let h = size-pos d rest (c ∷ es) t p in absurd (omega arith)
 
   pub last-end : (t : List ℕ) (q total : ℕ) → q ≤ 0 → At P t q total → q ≡ total
-  last-end t q total h a = let z : 0 ≡ total = last-by t total (a .c) (a .rest) (a .es) (a .parts) (rw (a .place) h) (a .work) in omega arith
+  last-end t q total h a = let s = a .start in let z : 0 ≡ total = last-by t total (s .c) (s .rest) (s .es) (s .parts) (rw (s .place) h) (a .work) in omega arith
 
 -- a byte below 80 at the end, LF apart
 pub last-lone : (v : code.Profile) (t : List ℕ) (b : ℕ) (r : Bool) → whole t → (length t ≢ 0) → b ≡ getD t (length t - 1) 0 → r ≡ neverJoinsBefore b → r ≡ true
@@ -213,5 +231,6 @@ last-lone v t b r w h e f z =
     let l : neverJoinsBefore b ≡ true = sym f ∙ z in
     let low : isTail b ≡ false = low-tail b (lone-low b l) in
     let one : sequenceOf b 1 ≡ firstSequence (decode (drop (length t - 1) t)) = ascii-sequence t (length t - 1) b (omega arith) e (lone-low b l) in
-    let j : JoinsAt P t (length t - 1) false = joins-alone P t (length t - 1) (ap (λ (u : Sequence). alone (number (P .class (u .code)))) (sym one) ∙ lone v b l) in
-    last-stop P t (length t - 1) _ false j refl (last-begin P t (length t - 1) w h (back-here t (length t) (length t - 1) b (omega arith) refl e low))
+    let a = last-begin P t (length t - 1) w h (back-here t (length t) (length t - 1) b (omega arith) refl e low) in
+    let j : false ≡ joinsAt P t (length t - 1) = joins-alone P t (length t - 1) (a .start) (ap (λ (u : Sequence). alone (number (P .class (u .code)))) (sym one) ∙ lone v b l) in
+    last-stop P t (length t - 1) _ false j refl a

@@ -10,7 +10,7 @@ use lib.Dec.{T, eqb, eqb→eq, leb, leb→le, ltb, ltb→lt}
 use lib.ListN.{List·getD-eq-default, drop, getD, length, length-drop, take}
 use borrow.Author.Tests.{eq-eqb, eqb-false, eqb-true, le-ltb, ltb-false, ltb-true, ne-eqb, not-true}
 use Rattle.text.specs.Class.{Profile, among, number, other}
-use Rattle.text.specs.Cluster.{Context, after, classOf, clusters, context, joined, joins, start}
+use Rattle.text.specs.Cluster.{Context, after, classOf, clusters, clustersAfter, context, joined, joins, start}
 use Rattle.text.specs.Cluster.Laws.{clusters-first, further}
 use Rattle.text.specs.Code.{firstOf, firstSequence, firstSize, printable, profileOf, size, sequenceOf}
 use Rattle.text.specs.Rules.{contextOf}
@@ -26,13 +26,13 @@ use Rattle.text.specs.TextParts.Laws.{first-all}
 use Rattle.text.specs.Utf8.{Scalar, ascii, decode}
 use Rattle.text.specs.Utf8.Valid.{Valid}
 use Rattle.text.specs.Width.{profile01, widthOf}
-use Rattle.text.specs.Code.Boundaries.{alone-numbers}
-use Rattle.text.proofs.Ascii.{apart, ascii-sequence, breaks, lone, lone-low, other-alone}
+use Rattle.text.specs.Code.Boundaries.{alone-numbers, apart, breaks, lone, lone-low, other-alone}
 use Rattle.lending.specs.Conditions.{met, on-false, on-true}
 use Rattle.text.proofs.PackedScalars.{first-packed, printable-one}
-use Rattle.text.proofs.Units.{run-good, run-size, scalarAt}
+use Rattle.text.proofs.SequenceBytes.{run-good, run-size, scalarAt}
 use Rattle.text.specs.declared.segmentation.ClusterStep.{ClusterStep}
 use Rattle.text.specs.declared.class.Profile as code
+use Rattle.text.specs.Code.FirstSequence.{ascii-sequence}
 
 -- ---- a packed scalar
 
@@ -290,14 +290,17 @@ module _ (v : code.Profile) (s : List ℕ) (p : ℕ) (here : p < length s) where
       let P : Profile = profileOf v in
       let a : ℕ = getD s p 0 in
       let c : ℕ = number (P .class a) in
-      let q = and-T (ltb a 0x20 || (ltb a 0x80 && ltb (getD s (p + 1) 0) 0x80)) (not (eqb a 0x0D)) (true-T (sym e ∙ t)) in
-      let n : a ≢ 13 = eqb-false _ _ (not-true _ (is-true _ (q .1))) in
-      or-T (ltb a 0x20) _ (q .0)
-      (λ f. let l : a < 0x20 = ltb→lt _ _ f in first-byte P s p a here refl (omega (arith, l)) (more-none P (textAt s (p + 1)) c (after start c) (λ d. breaks v a (after start c) d l n)))
+      cases (ltb a 0x20)
       (λ f.
-      let w = and-T (ltb a 0x80) (ltb (getD s (p + 1) 0) 0x80) f in
+      let l : a < 0x20 = ltb-true _ _ f in
+      let n : a ≢ 13 = eqb-false _ _ (not-true _ (rw f at (sym e ∙ t))) in
+      first-byte P s p a here refl (omega (arith, l)) (more-none P (textAt s (p + 1)) c (after start c) (λ d. breaks v a (after start c) d l n)))
+      (λ f.
+      let w = and-T (ltb a 0x80) (ltb (getD s (p + 1) 0) 0x80) (true-T (rw f at (sym e ∙ t))) in
       let l : a < 128 = ltb→lt _ _ (w .0) in
       let m : getD s (p + 1) 0 < 128 = ltb→lt _ _ (w .1) in
+      let h : 0x20 ≤ a = ltb-false _ _ f in
+      let n : a ≢ 13 = λ x. absurd (omega (arith, x, h)) in
       first-byte P s p a here refl l (more-ascii P s (p + 1) c (after start c) (apart v a (getD s (p + 1) 0) (after start c) l m n) m))
 
   -- a byte below 80, LF apart, behind the first scalar
@@ -312,5 +315,10 @@ module _ (v : code.Profile) (s : List ℕ) (p : ℕ) (here : p < length s) where
   pub walked : (r : ClusterStep) → NextCluster (profileOf v) s p r → r .part .end .0 ≡ p + firstSize (profileOf v) (textAt s p)
   unfolding firstSize
   walked r n = n .part .end
+
+-- past the end there is none
+pub no-cluster : (P : Profile) (s : List ℕ) (p : ℕ) → length s ≤ p → p ≡ p + firstSize P (textAt s p)
+unfolding firstSize size clusters clustersAfter firstOf
+no-cluster P s p h = sym (ap (λ (cs : List Scalar). p + size (firstOf (clustersAfter P [] cs))) (none-past s p h) ∙ add-zero p)
 
 pub ruleset rules = (rule-is, on-false, on-true, met, eq-eqb, ne-eqb)

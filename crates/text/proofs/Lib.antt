@@ -1,9 +1,8 @@
 pub mod ClassNumbers
-pub mod Units
+pub mod SequenceBytes
 pub mod ContinuationBytes
 pub mod Runs
 pub mod AsciiRuns
-pub mod Ascii
 pub mod LeadBytes
 pub mod PackedScalars
 pub mod ForwardWalk
@@ -12,6 +11,6 @@ pub mod Texts
 pub mod RegionalIndicators
 pub mod Erasing
 pub mod Pushing
-pub mod Steps
+pub mod OverstrikeSteps
 pub mod Converting
-pub mod Calling
+pub mod ConvertCall

@@ -10,7 +10,7 @@ use lib.Dec.{T, eqb, leb}
 use lib.ListN.{drop, length, take, take-append-drop}
 use lib.Seq.{getD-drop, take-take}
 use borrow.Author.Tests.{eqb-true, leb-false, leb-true}
-use Rattle.text.specs.Backward.{EvenAt, back, indicatorAt, withoutLast}
+use Rattle.text.specs.Backward.{ParityPlace, back, indicatorAt, withoutLast}
 use Rattle.text.specs.Class.{Class, Profile, among, class01, classL, classLV, classLVT, classT, classV, control, controls, cr, extend, extends, inAny, isControl, lf, number, other, regionalIndicator, zwj}
 use Rattle.text.specs.Cluster.{Context, classOf, context, joined, joins}
 use Rattle.text.specs.Code.{firstSequence, profileOf, size}
@@ -20,14 +20,14 @@ use Rattle.text.specs.Scalar.Laws.{NoScalar, PackedScalar, packed-inside
 use Rattle.text.specs.Tests.{cases, in-range, every, every-one}
 use Rattle.text.specs.TextParts.{textAt}
 use Rattle.text.specs.Utf8.{Scalar, bytesOf, decode, runOf, sequence, to, within}
-use Rattle.text.proofs.Ascii.{clear, clear-any}
-use Rattle.text.proofs.BackwardWalk.{Left, class-of, flip, flip-false, headOf, joined-indicators, odd-on, odd-other, odd-ri}
+use Rattle.text.proofs.BackwardWalk.{Left, class-of, flip, flip-false, front-is, headOf, joined-indicators, odd-on, odd-other, odd-ri}
 use Rattle.text.proofs.LeadBytes.{high-len}
 use Rattle.text.proofs.PackedScalars.{indicator}
 use Rattle.text.proofs.Runs.{Head, back-scalar, run-drop, run-head, run-inside, size-reverse}
 use Rattle.text.proofs.ContinuationBytes.{back-to, seq-lead, seq-tails}
 use Rattle.text.proofs.Texts.{run-append, run-prefix}
 use Rattle.text.specs.declared.class.Profile as code
+use Rattle.text.specs.Class.Ranges.{clear, clear-any}
 
 context-none : (P : Profile) → context P [] .odd ≡ false
 unfolding context
@@ -152,29 +152,29 @@ module _ (v : code.Profile) (t : List ℕ) (i : ℕ) (odd total : Bool) (l : Lef
         let e : indicatorAt (profileOf v) t (i - 4) ≡ true = sym f ∙ z in
         odd-on (profileOf v) t i odd total (i - 4) 10 (omega (arith, h)) (sym (indicator-back (profileOf v) t (i - 4) e i h refl)) (ap (λ (n : ℕ). n / 8 % 16) (reads (profileOf v) t (i - 4) e)) refl l
 
--- ---- even places
+-- ---- parity places
 
-pub even-zero : (t : List ℕ) → EvenAt t 0
+pub parity-zero : (t : List ℕ) → ParityPlace t 0
 unfolding size
-even-zero t = record { rest = []; es = runOf (decode t); parts = refl; place = refl; even = λ v. context-none (profileOf v) }
+parity-zero t = record { rest = []; es = runOf (decode t); parts = refl; place = refl; parity = λ v. context-none (profileOf v) }
 
 -- push_str on the reversed result
 pub push-reversed : (g out : List Scalar) → reverse (push g out) ≡ reverse out ++ g
 push-reversed g out = ap reverse (reverseAux-eq g out) ∙ reverse-append (reverse g) out ∙ ap (λ (l : List Scalar). reverse out ++ l) (reverse-reverse g)
 
 -- with more behind it
-pub even-more : (t u : List ℕ) (ys : List Scalar) (i : ℕ) → runOf (decode u) ≡ runOf (decode t) ++ ys → EvenAt t i → EvenAt u i
-even-more t u ys i e w = record {
+pub parity-more : (t u : List ℕ) (ys : List Scalar) (i : ℕ) → runOf (decode u) ≡ runOf (decode t) ++ ys → ParityPlace t i → ParityPlace u i
+parity-more t u ys i e w = record {
   rest = w .rest;
   es = w .es ++ ys;
   parts = e ∙ ap (λ (x : List Scalar). x ++ ys) (w .parts ∙ reverseAux-eq (w .rest) (w .es)) ∙ append-assoc (reverse (w .rest)) (w .es) ys ∙ sym (reverseAux-eq (w .rest) (w .es ++ ys));
   place = w .place;
-  even = w .even;
+  parity = w .parity;
 }
 
 -- within a beginning that holds it
-pub even-front : (t : List ℕ) (q i : ℕ) → i ≤ q → EvenAt t i → EvenAt (take q t) i
-even-front t q i h w =
+pub parity-front : (t : List ℕ) (q i : ℕ) → i ≤ q → ParityPlace t i → ParityPlace (take q t) i
+parity-front t q i h w =
     let p : runOf (decode t) ≡ reverse (w .rest) ++ w .es = w .parts ∙ reverseAux-eq (w .rest) (w .es) in
     let s : size (reverse (w .rest)) ≡ i = size-reverse (w .rest) ∙ w .place in
     let x = run-prefix (reverse (w .rest)) (w .es) t p in
@@ -186,23 +186,15 @@ even-front t q i h w =
       es = runOf (decode (drop i (take q t)));
       parts = ap (λ (y : List ℕ). runOf (decode y)) c ∙ run-append (reverse (w .rest)) (take i t) (drop i (take q t)) r b ∙ sym (reverseAux-eq (w .rest) (runOf (decode (drop i (take q t)))));
       place = w .place;
-      even = w .even;
+      parity = w .parity;
     }
 
--- ---- counting up to an even place
+-- ---- counting up to an parity place
 
--- what stands before a place of a text is one list of scalars
-front-same : (t : List ℕ) (rest es rest′ es′ : List Scalar) → runOf (decode t) ≡ reverseAux rest es → runOf (decode t) ≡ reverseAux rest′ es′ → size rest ≡ size rest′ → rest ≡ rest′
-front-same t rest es rest′ es′ p p′ s =
-    let a = run-prefix (reverse rest) es t (p ∙ reverseAux-eq rest es) .0 in
-    let b = run-prefix (reverse rest′) es′ t (p′ ∙ reverseAux-eq rest′ es′) .0 in
-    let n : size (reverse rest) ≡ size (reverse rest′) = size-reverse rest ∙ s ∙ sym (size-reverse rest′) in
-    sym (reverse-reverse rest) ∙ ap reverse (sym a ∙ ap (λ (k : ℕ). runOf (decode (take k t))) n ∙ b) ∙ reverse-reverse rest′
-
-pub odd-even : (v : code.Profile) (t : List ℕ) (i : ℕ) (odd total : Bool) (even : ℕ) → EvenAt t even → i ≡ even → Left (profileOf v) t i odd total → odd ≡ total
-odd-even v t i odd total even e z l =
-    let same : l .rest ≡ e .rest = front-same t (l .rest) (l .es) (e .rest) (e .es) (l .parts) (e .parts) (l .place ∙ z ∙ sym (e .place)) in
-    let o : context (profileOf v) (l .rest) .odd ≡ false = ap (λ (x : List Scalar). context (profileOf v) x .odd) same ∙ e .even v in
+pub odd-even : (v : code.Profile) (t : List ℕ) (i : ℕ) (odd total : Bool) (parity : ℕ) → ParityPlace t parity → i ≡ parity → Left (profileOf v) t i odd total → odd ≡ total
+odd-even v t i odd total parity e z l =
+    let same : l .rest ≡ e .rest = sym (front-is t parity (l .rest) (l .es) (l .parts) (l .place ∙ z)) ∙ front-is t parity (e .rest) (e .es) (e .parts) (e .place) in
+    let o : context (profileOf v) (l .rest) .odd ≡ false = ap (λ (x : List Scalar). context (profileOf v) x .odd) same ∙ e .parity v in
     sym (l .parity ∙ ap (flip odd) o ∙ flip-false odd)
 
 -- ---- two regional indicators
@@ -235,7 +227,7 @@ not-odd : (b : Bool) → not b ≡ true → b ≡ false
 not-odd true e = let z : _≡_ {A = ℕ} 0 1 = cc in absurd (omega arith)
 not-odd false e = refl
 
--- a pair that ends in an even place is a cluster, and the place before it is even too
+-- a pair that ends in an parity place is a cluster, and the place before it is even too
 pub record Pair (v : code.Profile) (rev : List Scalar) (q : ℕ) : Type 0 where
   pub left : List Scalar
   pub without : withoutLast (profileOf v) rev ≡ left

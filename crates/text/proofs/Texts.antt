@@ -10,7 +10,7 @@ use Rattle.text.specs.Utf8.{Scalar, bytesOf, decode, runOf, sequence, va
 use Rattle.text.specs.Utf8.Laws.{bytesOf-append, sequence-le}
 use Rattle.text.specs.Utf8.Valid.{sequence-take}
 use Rattle.text.proofs.Runs.{Head, part-slice, run-head, run-nil}
-use Rattle.text.proofs.Units.{run-more}
+use Rattle.text.proofs.SequenceBytes.{run-more}
 
 -- a sequence stays one, whatever follows
 pub sequence-append : (b n : ℕ) (s t : List ℕ) → sequence (b ∷ s) ≡ suc n → sequence (b ∷ (s ++ t)) ≡ suc n

@@ -6,6 +6,7 @@ use Rattle.text.specs.Utf8.{Scalar}
 use Rattle.text.specs.Class.{cr, lf, control, extend, zwj, classL, classV, classT, classLV, classLVT, regionalIndicator, number, among, Profile}
 pub mod Laws
 pub mod Walk
+pub mod Spaces
 pub mod Ascii
 
 -- what the rules ask of the scalars before, besides the last one's class: an odd number of regional indicators ends there

@@ -13,9 +13,9 @@ use Rattle.text.specs.TextParts.{Measured, textAt}
 use Rattle.text.specs.Utf8.{Scalar}
 use Rattle.text.specs.declared.segmentation.ClusterStep.{ClusterStep}
 
--- a control, or a byte below 80 and behind it another or nothing, CR apart
+-- a control below 20, CR apart, or else a byte below 80 and behind it another or nothing
 abbrev pub oneByteCluster : List ℕ → ℕ → Bool
-oneByteCluster s i = (ltb (getD s i 0) 0x20 || (ltb (getD s i 0) 0x80 && ltb (getD s (i + 1) 0) 0x80)) && not (eqb (getD s i 0) 0x0D)
+oneByteCluster s i = cond (ltb (getD s i 0) 0x20) (not (eqb (getD s i 0) 0x0D)) (ltb (getD s i 0) 0x80 && ltb (getD s (i + 1) 0) 0x80)
 
 -- a byte below 80, LF apart
 abbrev pub neverJoinsBefore : ℕ → Bool

@@ -16,12 +16,12 @@ ghost use lib.ListN.{length};
 ghost use Rattle.text.specs.Utf8.{decode};
 ghost use Rattle.text.specs.Code.{profileOf, runOf, size, whole};
 ghost use Rattle.text.specs.Scalar.{packedAt};
-ghost use Rattle.text.specs.Backward.{back, OddTo, JoinsAt, withoutLast, EvenAt, indicatorAt, endsInPair, betweenIndicators, evenBefore, Erased};
+ghost use Rattle.text.specs.Backward.{back, ScalarStart, oddTo, joinsAt, withoutLast, ParityPlace, indicatorAt, endsInPair, betweenIndicators, parityBefore, Erased};
 
-// Where a text ends behind an erasure, and a place up to there at which an even number of regional indicators ends.
+// Where a text ends behind an erasure, and its parity place: one up to there at which an even number of regional indicators ends.
 pub struct Erasure {
     pub at: usize,
-    pub even: usize,
+    pub parity: usize,
 }
 
 // The start of the scalar that ends at q.
@@ -58,15 +58,15 @@ fn is_indicator(profile: Profile, t: &[u8], at: usize) -> bool
     scalar_at(profile, t, at) == 4 + INDICATOR
 }
 
-// Does an odd number of regional indicators end at q, the end of a scalar of the text? An even number is known to end at `even`.
-fn odd_to(profile: Profile, t: &[u8], q: usize, even: usize) -> bool
-    requires { ⌜ (q ≤ length (now t)) × EvenAt (now t) even ⌝ }
-    ensures { λ r. ⌜ OddTo (profileOf profile) (now (t .entry)) q r ⌝ }
+// Does an odd number of regional indicators end at q, the start of a scalar of the text? An even number is known to end at `parity`.
+fn odd_to(profile: Profile, t: &[u8], q: usize, parity: usize) -> bool
+    requires { ⌜ (q ≤ length (now t)) × ScalarStart (now t) q × ParityPlace (now t) parity ⌝ }
+    ensures { λ r. ⌜ r ≡ oddTo (profileOf profile) (now (t .entry)) q ⌝ }
 {
     let mut odd = false;
     let mut i = q;
     while 4 <= i {
-        if i == even {
+        if i == parity {
             return odd;
         }
         if is_indicator(profile, t, i - 4) {
@@ -80,9 +80,9 @@ fn odd_to(profile: Profile, t: &[u8], q: usize, even: usize) -> bool
 }
 
 // Is there no boundary at q, the start of a scalar of the text?
-fn joins_at(profile: Profile, t: &[u8], q: usize, even: usize) -> bool
-    requires { ⌜ (q < length (now t)) × EvenAt (now t) even ⌝ }
-    ensures { λ r. ⌜ JoinsAt (profileOf profile) (now (t .entry)) q r ⌝ }
+fn joins_at(profile: Profile, t: &[u8], q: usize, parity: usize) -> bool
+    requires { ⌜ (q < length (now t)) × ScalarStart (now t) q × ParityPlace (now t) parity ⌝ }
+    ensures { λ r. ⌜ r ≡ joinsAt (profileOf profile) (now (t .entry)) q ⌝ }
 {
     if q == 0 {
         return false;
@@ -91,14 +91,14 @@ fn joins_at(profile: Profile, t: &[u8], q: usize, even: usize) -> bool
     let c = class_at(profile, t, q);
     // GB12, GB13: the state behind regional indicators is told by their number
     if (p == REGIONAL_INDICATOR) & (c == REGIONAL_INDICATOR) {
-        return odd_to(profile, t, q, even);
+        return odd_to(profile, t, q, parity);
     }
     continues_cluster(p, c)
 }
 
-// Where the last cluster of a valid text begins, in which an even number of regional indicators is known to end at `even`.
-fn last_start(profile: Profile, t: &[u8], even: usize) -> usize
-    requires { ⌜ whole (now t) × EvenAt (now t) even ⌝ }
+// Where the last cluster of a valid text begins, in which an even number of regional indicators is known to end at `parity`.
+fn last_start(profile: Profile, t: &[u8], parity: usize) -> usize
+    requires { ⌜ whole (now t) × ParityPlace (now t) parity ⌝ }
     ensures { λ r. ⌜ r ≡ size (withoutLast (profileOf profile) (reverse (runOf (decode (now (t .entry)))))) ⌝ }
 {
     if t.len() == 0 {
@@ -106,7 +106,7 @@ fn last_start(profile: Profile, t: &[u8], even: usize) -> usize
     }
     let mut q = scalar_start(t, t.len());
     while 0 < q {
-        if joins_at(profile, t, q, even) {
+        if joins_at(profile, t, q, parity) {
             q = scalar_start(t, q);
         } else {
             return q;
@@ -116,14 +116,14 @@ fn last_start(profile: Profile, t: &[u8], even: usize) -> usize
 }
 
 // Are the last two scalars of the text regional indicators, an even number of which is known to end there?
-fn ends_in_pair(profile: Profile, t: &[u8], even: usize) -> bool
-    ensures { λ r. ⌜ r ≡ endsInPair (profileOf profile) (now (t .entry)) even ⌝ }
+fn ends_in_pair(profile: Profile, t: &[u8], parity: usize) -> bool
+    ensures { λ r. ⌜ r ≡ endsInPair (profileOf profile) (now (t .entry)) parity ⌝ }
 {
     let n = t.len();
     if n < 8 {
         return false;
     }
-    if even == n {
+    if parity == n {
         if is_indicator(profile, t, n - 4) {
             return is_indicator(profile, t, n - 8);
         }
@@ -146,59 +146,68 @@ fn is_between_indicators(profile: Profile, t: &[u8], q: usize) -> bool
     false
 }
 
-// The even place of the text without its last cluster, which begins at q: the one known while it is near, so that what is written and
+// The parity place of the text without its last cluster, which begins at q: the one known while it is near, so that what is written and
 // erased behind it does not move it.
-fn even_before(profile: Profile, t: &[u8], q: usize, even: usize) -> usize
+fn parity_before(profile: Profile, t: &[u8], q: usize, parity: usize) -> usize
     requires { ⌜ q < length (now t) ⌝ }
-    ensures { λ r. ⌜ r ≡ evenBefore (profileOf profile) (now (t .entry)) q even ⌝ }
+    ensures { λ r. ⌜ r ≡ parityBefore (profileOf profile) (now (t .entry)) q parity ⌝ }
 {
-    if q < even {
+    if q < parity {
         if is_between_indicators(profile, t, q) {
             return q;
         }
         return 0;
     }
-    if q - even <= 128 {
-        return even;
+    if q - parity <= 128 {
+        return parity;
     }
     if is_between_indicators(profile, t, q) {
         return q;
     }
-    even
+    parity
 }
 
 // The erasure of a valid text's last cluster; nothing is erased where a backspace is added instead.
-pub(crate) fn erase_last(profile: Profile, t: &[u8], even: usize) -> Erasure
-    requires { ⌜ whole (now t) × EvenAt (now t) even ⌝ }
-    ensures { λ r. ⌜ Erased (profileOf profile) (now (t .entry)) even r ⌝ }
+pub(crate) fn erase_last(profile: Profile, t: &[u8], parity: usize) -> Erasure
+    requires { ⌜ whole (now t) × ParityPlace (now t) parity ⌝ }
+    ensures { λ r. ⌜ Erased (profileOf profile) (now (t .entry)) parity r ⌝ }
 {
     let n = t.len();
     if n == 0 {
-        return Erasure { at: 0, even: even };
+        return Erasure {
+            at: 0,
+            parity: parity,
+        };
     }
     let b = byte_at(t, n - 1);
     if never_joins_before(b) {
         if is_control(b) {
-            return Erasure { at: n, even: even };
+            return Erasure {
+                at: n,
+                parity: parity,
+            };
         }
         return Erasure {
             at: n - 1,
-            even: even_before(profile, t, n - 1, even),
+            parity: parity_before(profile, t, n - 1, parity),
         };
     }
-    if ends_in_pair(profile, t, even) {
+    if ends_in_pair(profile, t, parity) {
         return Erasure {
             at: n - 8,
-            even: n - 8,
+            parity: n - 8,
         };
     }
-    let q = last_start(profile, t, even);
+    let q = last_start(profile, t, parity);
     let u = decode(t, q);
     if is_control(u.code) {
-        return Erasure { at: n, even: even };
+        return Erasure {
+            at: n,
+            parity: parity,
+        };
     }
     Erasure {
         at: q,
-        even: even_before(profile, t, q, even),
+        parity: parity_before(profile, t, q, parity),
     }
 }

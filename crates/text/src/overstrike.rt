@@ -11,9 +11,9 @@ ghost use mathlib.Core.List.{[], _++_, _∷_};
 ghost use lib.ListN.{length, take};
 ghost use Rattle.text.specs.Utf8.{sameBytes, decode, runs};
 ghost use Rattle.text.specs.Overstrike.{bolded, underlined, ambiguous, backspace, step, convertPieces, convert};
-ghost use Rattle.text.specs.Backward.{EvenAt, backward};
+ghost use Rattle.text.specs.Backward.{ParityPlace, backward};
 ghost use Rattle.text.specs.Code.{profileOf, whole};
-ghost use Rattle.text.specs.Overstrike.Code.{BackReady, BackspaceStep, FinishReady, Finished, FrontEven, LineCopied, PieceDone, PieceReady, Pushed, SpanDone, StepReady, Stepped, Strike, StruckStep, Wrote, changedStyle, conversion, orderOf, partOf, plain, stateOf, styleOf};
+ghost use Rattle.text.specs.Overstrike.Code.{BackReady, BackspaceStep, FinishReady, Finished, FrontParity, LineCopied, PieceDone, PieceReady, Pushed, SpanDone, StepReady, Stepped, Strike, StruckStep, Wrote, changedStyle, conversion, orderOf, partOf, plain, stateOf, styleOf};
 
 // An overstrike style.
 pub struct Overstrike {
@@ -29,22 +29,22 @@ pub struct Conversion {
     pub end: usize,
     pub before: Overstrike,
     pub style: Overstrike,
-    pub even: usize,
+    pub parity: usize,
 }
 
 // Erases the last cluster of the result, or adds a backspace.
-fn backspace(profile: Profile, out: &mut [u8], len: usize, even: usize) -> Erasure
-    requires { ⌜ BackReady (now out) len even ⌝ }
-    ensures { λ r. ⌜ FrontEven (now (out .exit)) r (backspace (profileOf profile) (backward (take len (now (out .entry))))) ⌝ }
+fn backspace(profile: Profile, out: &mut [u8], len: usize, parity: usize) -> Erasure
+    requires { ⌜ BackReady (now out) len parity ⌝ }
+    ensures { λ r. ⌜ FrontParity (now (out .exit)) r (backspace (profileOf profile) (backward (take len (now (out .entry))))) ⌝ }
 {
-    let k = erase_last(profile, &out[..len], even);
+    let k = erase_last(profile, &out[..len], parity);
     if k.at < len {
         return k;
     }
     out[len] = 0x08;
     Erasure {
         at: len + 1,
-        even: k.even,
+        parity: k.parity,
     }
 }
 
@@ -140,7 +140,7 @@ fn push_styled(
 
 // A cluster that is a backspace.
 fn on_backspace(profile: Profile, out: &mut [u8], st: Conversion) -> Conversion
-    requires { ⌜ BackReady (now out) (st .len) (st .even) ⌝ }
+    requires { ⌜ BackReady (now out) (st .len) (st .parity) ⌝ }
     ensures { λ r. ⌜ BackspaceStep (profileOf profile) (now (out .entry)) (now (out .exit)) st r ⌝ }
 {
     let before = st.before;
@@ -153,10 +153,10 @@ fn on_backspace(profile: Profile, out: &mut [u8], st: Conversion) -> Conversion
             end: st.end,
             before: before,
             style: style,
-            even: st.even,
+            parity: st.parity,
         };
     }
-    let k = backspace(profile, out, st.len, st.even);
+    let k = backspace(profile, out, st.len, st.parity);
     Conversion {
         len: k.at,
         pending: 0,
@@ -167,7 +167,7 @@ fn on_backspace(profile: Profile, out: &mut [u8], st: Conversion) -> Conversion
             bold: false,
             underline: false,
         },
-        even: k.even,
+        parity: k.parity,
     }
 }
 
@@ -238,7 +238,7 @@ fn is_byte(x: &[u8], b: u8) -> bool
 
 // The cluster from `at` to `end` held in the pending one's place.
 fn replace(st: Conversion, at: usize, end: usize, style: Overstrike) -> Conversion
-    ensures { λ r. ⌜ r ≡ conversion (st .len) 1 at end (st .before) style (st .even) ⌝ }
+    ensures { λ r. ⌜ r ≡ conversion (st .len) 1 at end (st .before) style (st .parity) ⌝ }
 {
     let before = st.before;
     Conversion {
@@ -248,7 +248,7 @@ fn replace(st: Conversion, at: usize, end: usize, style: Overstrike) -> Conversi
         end: end,
         before: before,
         style: style,
-        even: st.even,
+        parity: st.parity,
     }
 }
 
@@ -289,7 +289,7 @@ fn strike(line: &[u8], st: Conversion, at: usize, end: usize) -> Conversion
 
 // The cluster from `at` to `end` held behind a result of `len` bytes.
 fn hold(st: Conversion, len: usize, at: usize, end: usize) -> Conversion
-    ensures { λ r. ⌜ r ≡ conversion len 1 at end (st .style) plain (st .even) ⌝ }
+    ensures { λ r. ⌜ r ≡ conversion len 1 at end (st .style) plain (st .parity) ⌝ }
 {
     let style = st.style;
     Conversion {
@@ -302,7 +302,7 @@ fn hold(st: Conversion, len: usize, at: usize, end: usize) -> Conversion
             bold: false,
             underline: false,
         },
-        even: st.even,
+        parity: st.parity,
     }
 }
 
@@ -380,7 +380,7 @@ fn convert_unicode_span(profile: Profile, line: &[u8], out: &mut [u8]) -> Progre
             bold: false,
             underline: false,
         },
-        even: 0,
+        parity: 0,
     };
     let mut p = 0;
     while p < line.len() {

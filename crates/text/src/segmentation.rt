@@ -91,7 +91,7 @@ pub fn cluster(profile: Profile, text: &[u8], at: BytePlace) -> TextPart
     step.part
 }
 
-// Is the byte at a place a cluster by itself: a control, or a byte below 80 before another or the end? CR apart.
+// Is the byte at a place a cluster by itself: a control below 20, CR apart, or a byte below 80 before another or the end?
 fn is_one_byte_cluster(s: &[u8], at: usize) -> bool
     requires { ⌜ at < length (now s) ⌝ }
     ensures { λ r. ⌜ r ≡ oneByteCluster (now (s .entry)) at ⌝ }
@@ -100,8 +100,10 @@ fn is_one_byte_cluster(s: &[u8], at: usize) -> bool
     if 0x80 <= a {
         return false;
     }
-    let b = byte_at(s, at + 1);
-    ((a < 0x20) | (b < 0x80)) & (a != 0x0D)
+    if a < 0x20 {
+        return a != 0x0D;
+    }
+    byte_at(s, at + 1) < 0x80
 }
 
 // Is it a byte below 80, LF apart? No rule joins it to what stands before.
@@ -128,4 +130,14 @@ pub fn cluster_end(profile: Profile, s: &[u8], at: usize) -> usize
     let part = step.part;
     let end = part.end;
     end.0
+}
+
+// The same for any place: the next boundary, which is the place where a damaged byte or nothing stands there.
+pub fn next_boundary(profile: Profile, s: &[u8], at: usize) -> usize
+    ensures { λ r. ⌜ r ≡ at + firstSize (profileOf profile) (textAt (now (s .entry)) at) ⌝ }
+{
+    if at < s.len() {
+        return cluster_end(profile, s, at);
+    }
+    at
 }

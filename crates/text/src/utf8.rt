@@ -102,6 +102,16 @@ pub fn decode(s: &[u8], at: usize) -> Sequence
     decode_long(s, at)
 }
 
+// The sequence that the bytes begin with.
+pub fn first_sequence(s: &[u8]) -> Sequence
+    ensures { λ r. ⌜ r ≡ firstSequence (decode (now (s .entry))) ⌝ }
+{
+    if s.len() == 0 {
+        return Sequence { code: 0, len: 0 };
+    }
+    decode(s, 0)
+}
+
 // Do four bytes below 80 stand at a place?
 fn is_ascii4(s: &[u8], at: usize) -> bool
     requires { ⌜ at ≤ length (now s) ⌝ }

@@ -35,7 +35,7 @@ pub(crate) fn decodes(line: &[u8], s: &[u8], at: usize) -> bool
     let mut i = 0;
     let mut list = at;
     while i < line.len() {
-        let unit = text::utf8::decode(line, i);
+        let unit = text::utf8::first_sequence(&line[i..]);
         if !is_listed(unit, s, list, fields::past(s, list, b',')) {
             return false;
         }
@@ -56,7 +56,7 @@ pub(crate) fn segments(line: &[u8], s: &[u8], at: usize) -> bool
     let mut i = 0;
     let mut list = at;
     while i < line.len() {
-        let end = text::segmentation::cluster_end(Profile { version: 0 }, line, i);
+        let end = text::segmentation::next_boundary(Profile { version: 0 }, line, i);
         if end <= i {
             return false;
         }

@@ -1,5 +1,5 @@
 use borrow.Author.Needs.{needs}
-use Rattle.text.proofs.Calling.{refused}
+use Rattle.text.proofs.ConvertCall.{refused}
 use Rattle.text.proofs.refuse.Statement.{statement}
 use Rattle.text.proofs.refuse.Tie as tie
 

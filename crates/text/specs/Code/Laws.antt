@@ -170,6 +170,14 @@ pub width-two : (f : code.Profile) (v x : ℕ) → x ≡ profileOf f .width v �
 unfolding profileOf profile01
 width-two f v x e = rw e (width-le v)
 
+pub width-nil : (P : Profile) → widthOf P [] ≡ 0
+unfolding widthOf
+width-nil P = refl
+
+pub width-cons : (P : Profile) (c : Scalar) (s : List Scalar) → widthOf P (c ∷ s) ≡ P .width (c .code) + widthOf P s
+unfolding widthOf
+width-cons P c s = refl
+
 pub width-append : (P : Profile) (a b : List Scalar) → widthOf P (a ++ b) ≡ widthOf P a + widthOf P b
 unfolding widthOf
 width-append P [] b = omega arith

@@ -7,7 +7,7 @@ use mathlib.Core.Path.{_≡_}
 use lib.Dec.{eqb}
 use lib.ListN.{drop, length, take}
 use lib.Seq.{slice}
-use Rattle.text.specs.Backward.{EvenAt, backward}
+use Rattle.text.specs.Backward.{ParityPlace, backward}
 use Rattle.text.specs.Class.{Profile}
 use Rattle.text.specs.Code.{runOf, size, whole}
 use Rattle.text.specs.Overstrike.{Pending, State, Style, bold, boldUnderline, convertPieces, convertRun, finish, hasBackspace, held, none, normal, onBackspace, onCluster, order, push, state, struck, underline}
@@ -24,10 +24,10 @@ pub record Front (l : List ℕ) (r : ℕ) (out : List Scalar) : Type 0 where
   pub scalars : backward (take r l) ≡ out
   pub valid : whole (take r l)
 
--- the same, with an even place
-pub record FrontEven (l : List ℕ) (r : Erasure) (out : List Scalar) : Type 0 where
+-- the same, with an parity place
+pub record FrontParity (l : List ℕ) (r : Erasure) (out : List Scalar) : Type 0 where
   pub front : Front l (r .at) out
-  pub even : EvenAt (take (r .at) l) (r .even)
+  pub parity : ParityPlace (take (r .at) l) (r .parity)
 
 -- xs written behind the first `len` bytes of a buffer
 pub record Pushed (before after : List ℕ) (len : ℕ) (xs : List ℕ) (r : ℕ) : Type 0 where
@@ -65,7 +65,7 @@ unfoldable pub stateOf : List ℕ → List ℕ → Conversion → State
 stateOf line l st = state (backward (take (st .len) l)) (pendingOf line (st .pending) (st .at) (st .end)) (styleOf (st .before)) (styleOf (st .style))
 
 abbrev pub conversion : ℕ → ℕ → ℕ → ℕ → Overstrike → Overstrike → ℕ → Conversion
-conversion n p a e b s v = record { len = n; pending = p; at = a; end = e; before = b; style = s; even = v }
+conversion n p a e b s v = record { len = n; pending = p; at = a; end = e; before = b; style = s; parity = v }
 
 abbrev pub plain : Overstrike
 plain = record { bold = false; underline = false }
@@ -74,7 +74,7 @@ pub record Sound (line l : List ℕ) (st : Conversion) : Type 0 where
   pub inside : st .len ≤ length l
   pub valid : whole (take (st .len) l)
   pub part : Part line (st .at) (st .end)
-  pub even : EvenAt (take (st .len) l) (st .even)
+  pub parity : ParityPlace (take (st .len) l) (st .parity)
 
 -- the code's state stands for the state t
 pub record Stepped (line l : List ℕ) (st : Conversion) (t : State) : Type 0 where
@@ -99,7 +99,7 @@ pushedOn line l st = push (partOf line (st .at) (st .end)) (push (asciis (orderO
 pub record BackReady (l : List ℕ) (len i : ℕ) : Type 0 where
   pub room : len < length l
   pub valid : whole (take len l)
-  pub even : EvenAt (take len l) i
+  pub parity : ParityPlace (take len l) i
 
 -- for any line: a backspace takes the state st with the buffer l to the state r with the buffer l′
 abbrev pub BackspaceStep : Profile → List ℕ → List ℕ → Conversion → Conversion → Type 0

@@ -33,6 +33,12 @@ cast-is-printable c = search needs
 is-printable-requires : tie.Need-is-printable-requires Inv-loop μ-loop
 is-printable-requires c κs = search needs
 
+add-byte-at : tie.Need-add-byte-at Inv-loop μ-loop
+add-byte-at c = search needs
+
+byte-at-requires-2 : tie.Need-byte-at-requires-2 Inv-loop μ-loop
+byte-at-requires-2 c κs = search needs
+
 returns-2 : tie.Need-returns-2 Inv-loop μ-loop
 returns-2 c = search clusters-printable
 
@@ -58,6 +64,8 @@ clusters-end-spec =
     byte-at-requires
     cast-is-printable
     is-printable-requires
+    add-byte-at
+    byte-at-requires-2
     returns-2
     loop-less
     loop-again

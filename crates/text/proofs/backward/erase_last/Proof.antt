@@ -24,11 +24,11 @@ returns-2 c = search lone-added
 sub-t12 : tie.Need-sub-t12
 sub-t12 c = search needs
 
-sub-even-before : tie.Need-sub-even-before
-sub-even-before c = search needs
+sub-parity-before : tie.Need-sub-parity-before
+sub-parity-before c = search needs
 
-even-before-requires : tie.Need-even-before-requires
-even-before-requires c κs = search needs
+parity-before-requires : tie.Need-parity-before-requires
+parity-before-requires c κs = search needs
 
 returns-3 : tie.Need-returns-3
 returns-3 c = search lone-erased
@@ -57,11 +57,11 @@ is-control-requires-2 c κs = search needs
 returns-5 : tie.Need-returns-5
 returns-5 c = search last-added
 
-even-before-requires-2 : tie.Need-even-before-requires-2
-even-before-requires-2 c κs = search kept-inside
+parity-before-requires-2 : tie.Need-parity-before-requires-2
+parity-before-requires-2 c κs = search kept-inside
 
 returns-6 : tie.Need-returns-6
-returns-6 c = last-erased _ (c .before .before .before .before .before .before .before .before .before .before .before .before .args .t .now) (c .before .before .before .before .before .before .before .before .before .before .before .before .pre .0) (c .before .before .before .before .before .before .before .before .before .before .if1 .left) _ (c .before .before .before .before .last-start .ensures) (c .before .before .before .before .before .before .before .before .before .before .before .before .args .even) _ _ (c .before .before .before .before .before .before .before .before .before .before .before .before .pre .1) (c .before .before .before .decode .ensures) (c .before .before .is-control2 .ensures) _ _ _ _ (c .before .before .before .before .before .before .before .before .before .byte-at .ensures) (c .before .before .before .before .before .before .before .before .never-joins-before .ensures) (c .before .before .before .before .before .before .before .if2 .left) (c .before .before .before .before .before .before .ends-in-pair .ensures) (c .before .before .before .before .before .if4 .left) (c .even-before2 .ensures) (c .before .if5 .left)
+returns-6 c = last-erased _ (c .before .before .before .before .before .before .before .before .before .before .before .before .args .t .now) (c .before .before .before .before .before .before .before .before .before .before .before .before .pre .0) (c .before .before .before .before .before .before .before .before .before .before .if1 .left) _ (c .before .before .before .before .last-start .ensures) (c .before .before .before .before .before .before .before .before .before .before .before .before .args .parity) _ _ (c .before .before .before .before .before .before .before .before .before .before .before .before .pre .1) (c .before .before .before .decode .ensures) (c .before .before .is-control2 .ensures) _ _ _ _ (c .before .before .before .before .before .before .before .before .before .byte-at .ensures) (c .before .before .before .before .before .before .before .before .never-joins-before .ensures) (c .before .before .before .before .before .before .before .if2 .left) (c .before .before .before .before .before .before .ends-in-pair .ensures) (c .before .before .before .before .before .if4 .left) (c .parity-before2 .ensures) (c .before .if5 .left)
 
 pub erase-last-spec : {M : Type 1} → statement M
 erase-last-spec =
@@ -74,8 +74,8 @@ erase-last-spec =
     is-control-requires
     returns-2
     sub-t12
-    sub-even-before
-    even-before-requires
+    sub-parity-before
+    parity-before-requires
     returns-3
     ends-in-pair-requires
     sub-t16
@@ -85,5 +85,5 @@ erase-last-spec =
     decode-requires
     is-control-requires-2
     returns-5
-    even-before-requires-2
+    parity-before-requires-2
     returns-6)

@@ -10,10 +10,10 @@ use Rattle.text.proofs.backward.last_start.Statement.{statement}
 use Rattle.text.proofs.backward.last_start.Tie as tie
 
 abbrev Inv-loop : tie.InvT-loop
-Inv-loop profile t even q₀ q = At (profileOf profile) t q (size (withoutLast (profileOf profile) (reverse (runOf (decode t)))))
+Inv-loop profile t parity q₀ q = At (profileOf profile) t q (size (withoutLast (profileOf profile) (reverse (runOf (decode t)))))
 
 abbrev μ-loop : tie.MeasureT-loop
-μ-loop profile t even q₀ q = q
+μ-loop profile t parity q₀ q = q
 
 returns : tie.Need-returns Inv-loop μ-loop
 returns c = last-empty _ (c .before .before .args .t .now) (c .if1 .taken)
@@ -25,7 +25,7 @@ loop-holds : tie.Need-loop-holds Inv-loop μ-loop
 loop-holds c = search last-begin
 
 joins-at-requires : tie.Need-joins-at-requires Inv-loop μ-loop
-joins-at-requires c κs = search last-inside
+joins-at-requires c κs = (search last-inside, c .before .loop .inv .start, search needs)
 
 scalar-start-requires-2 : tie.Need-scalar-start-requires-2 Inv-loop μ-loop
 scalar-start-requires-2 c κs = omega (arith, last-inside _ (c .before .before .before .before .before .before .before .args .t .now) (c .before .before .before .loop .q) _ (c .before .before .before .loop .inv))

@@ -1,10 +1,7 @@
 use Prim.Native.Nat.{_≤_}
-use mathlib.Core.List.{List, reverseAux}
-use mathlib.Core.Path.{_≡_}
 use lib.ListN.{length}
-use Rattle.text.specs.Cluster.{context}
-use Rattle.text.specs.Code.{profileOf, size}
-use Rattle.text.specs.Utf8.{Scalar, decode, runOf}
+use Rattle.text.specs.Backward.{oddTo}
+use Rattle.text.specs.Code.{profileOf}
 use Rattle.text.proofs.BackwardWalk.{Left, odd-begin}
 use Rattle.text.proofs.RegionalIndicators.{odd-even, odd-few, odd-stops, odd-turns}
 use borrow.Author.Needs.{needs}
@@ -12,16 +9,16 @@ use Rattle.text.proofs.backward.odd_to.Statement.{statement}
 use Rattle.text.proofs.backward.odd_to.Tie as tie
 
 abbrev Inv-loop : tie.InvT-loop
-Inv-loop profile t q even odd₀ i₀ odd i = (i ≤ length t) × ((rest es : List Scalar) → runOf (decode t) ≡ reverseAux rest es → size rest ≡ q → Left (profileOf profile) t i odd (context (profileOf profile) rest .odd))
+Inv-loop profile t q parity odd₀ i₀ odd i = (i ≤ length t) × Left (profileOf profile) t i odd (oddTo (profileOf profile) t q)
 
 abbrev μ-loop : tie.MeasureT-loop
-μ-loop profile t q even odd₀ i₀ odd i = i
+μ-loop profile t q parity odd₀ i₀ odd i = i
 
 loop-holds : tie.Need-loop-holds Inv-loop μ-loop
-loop-holds c = (search needs, λ rest es p s. odd-begin _ _ _ rest es p s)
+loop-holds c = (search needs, search odd-begin)
 
 returns : tie.Need-returns Inv-loop μ-loop
-returns c = λ rest es p s. odd-even (c .before .before .before .before .args .profile) (c .before .before .before .before .args .t .now) (c .before .before .loop .i) (c .before .before .loop .odd) _ (c .before .before .before .before .args .even) (c .before .before .before .before .pre .1) (c .if1 .taken) (c .before .before .loop .inv .1 rest es p s)
+returns c = search odd-even
 
 is-indicator-requires : tie.Need-is-indicator-requires Inv-loop μ-loop
 is-indicator-requires c κs = search needs
@@ -30,13 +27,13 @@ loop-less : tie.Need-loop-less Inv-loop μ-loop
 loop-less c = search needs
 
 loop-again : tie.Need-loop-again Inv-loop μ-loop
-loop-again c = (search needs, λ rest es p s. odd-turns (c .before .before .before .before .before .before .args .profile) (c .before .before .before .before .before .before .args .t .now) (c .before .before .before .before .loop .i) (c .before .before .before .before .loop .odd) _ (c .before .before .before .before .loop .inv .1 rest es p s) _ (c .before .is-indicator .ensures) (c .before .before .before .loop-test .taken) (c .if2 .taken))
+loop-again c = (search needs, odd-turns _ (c .before .before .before .before .before .before .args .t .now) (c .before .before .before .before .loop .i) (c .before .before .before .before .loop .odd) _ (c .before .before .before .before .loop .inv .1) _ (c .before .is-indicator .ensures) (c .before .before .before .loop-test .taken) (c .if2 .taken))
 
 returns-2 : tie.Need-returns-2 Inv-loop μ-loop
-returns-2 c = λ rest es p s. odd-stops (c .before .before .before .before .before .before .args .profile) (c .before .before .before .before .before .before .args .t .now) (c .before .before .before .before .loop .i) (c .before .before .before .before .loop .odd) _ (c .before .before .before .before .loop .inv .1 rest es p s) _ (c .before .is-indicator .ensures) (c .before .before .before .loop-test .taken) (c .if2 .left)
+returns-2 c = search odd-stops
 
 returns-3 : tie.Need-returns-3 Inv-loop μ-loop
-returns-3 c = λ rest es p s. odd-few (c .before .before .before .args .profile) (c .before .before .before .args .t .now) (c .before .loop .i) (c .before .loop .odd) _ (c .before .loop .inv .1 rest es p s) (c .loop-test .left)
+returns-3 c = search odd-few
 
 pub odd-to-spec : {M : Type 1} → statement M
 odd-to-spec =

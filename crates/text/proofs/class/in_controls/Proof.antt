@@ -1,5 +1,5 @@
 use Rattle.text.specs.Class.{controls, inAny}
-use Rattle.text.proofs.Units.{zero-leb}
+use Rattle.text.proofs.SequenceBytes.{zero-leb}
 use Rattle.text.proofs.class.in_controls.Statement.{statement}
 use Rattle.text.proofs.class.in_controls.Tie as tie
 

@@ -1,5 +1,5 @@
 use Rattle.text.specs.Class.{inAny, isControl}
-use Rattle.text.proofs.Units.{zero-leb}
+use Rattle.text.proofs.SequenceBytes.{zero-leb}
 use Rattle.text.proofs.class.is_control.Statement.{statement}
 use Rattle.text.proofs.class.is_control.Tie as tie
 

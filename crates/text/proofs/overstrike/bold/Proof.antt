@@ -1,4 +1,4 @@
-use Rattle.text.proofs.Steps.{bold-style}
+use Rattle.text.proofs.OverstrikeSteps.{bold-style}
 use Rattle.text.proofs.overstrike.bold.Statement.{statement}
 use Rattle.text.proofs.overstrike.bold.Tie as tie
 

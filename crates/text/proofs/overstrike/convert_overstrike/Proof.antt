@@ -1,5 +1,5 @@
 use borrow.Author.Needs.{needs}
-use Rattle.text.proofs.Calling.{plain-line, struck-line}
+use Rattle.text.proofs.ConvertCall.{plain-line, struck-line}
 use Rattle.text.proofs.overstrike.convert_overstrike.Statement.{statement}
 use Rattle.text.proofs.overstrike.convert_overstrike.Tie as tie
 

@@ -4,7 +4,7 @@ use mathlib.Core.Path.{_≡_}
 use lib.ListN.{drop, length, take}
 use borrow.Author.Needs.{needs}
 use Rattle.text.specs.Overstrike.{hasBackspace}
-use Rattle.text.proofs.Calling.{copied-turn, found-turn, line-copied}
+use Rattle.text.proofs.ConvertCall.{copied-turn, found-turn, line-copied}
 use Rattle.text.proofs.overstrike.copy_line.Statement.{statement}
 use Rattle.text.proofs.overstrike.copy_line.Tie as tie
 

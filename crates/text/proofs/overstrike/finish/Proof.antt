@@ -1,5 +1,5 @@
 use borrow.Author.Needs.{needs}
-use Rattle.text.proofs.Steps.{finish-room, finished-held, finished-none, held-room, last-order-room}
+use Rattle.text.proofs.OverstrikeSteps.{finish-room, finished-held, finished-none, held-room, last-order-room}
 use Rattle.text.proofs.overstrike.finish.Statement.{statement}
 use Rattle.text.proofs.overstrike.finish.Tie as tie
 

@@ -1,5 +1,5 @@
 use borrow.Author.Needs.{needs}
-use Rattle.text.proofs.Steps.{one-byte, same-long}
+use Rattle.text.proofs.OverstrikeSteps.{one-byte, same-long}
 use Rattle.text.proofs.overstrike.is_byte.Statement.{statement}
 use Rattle.text.proofs.overstrike.is_byte.Tie as tie
 

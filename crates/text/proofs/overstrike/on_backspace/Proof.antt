@@ -1,5 +1,5 @@
 use borrow.Author.Needs.{needs}
-use Rattle.text.proofs.Steps.{back-none, back-struck}
+use Rattle.text.proofs.OverstrikeSteps.{back-none, back-struck}
 use Rattle.text.proofs.overstrike.on_backspace.Statement.{statement}
 use Rattle.text.proofs.overstrike.on_backspace.Tie as tie
 

@@ -4,7 +4,7 @@ use mathlib.Core.Path.{_≡_, refl}
 use lib.ListN.{drop, length}
 use borrow.Author.Needs.{needs}
 use Rattle.text.specs.Utf8.{sameBytes}
-use Rattle.text.proofs.Steps.{same-end, same-long, same-on, same-stop}
+use Rattle.text.proofs.OverstrikeSteps.{same-end, same-long, same-on, same-stop}
 use Rattle.text.proofs.overstrike.same_bytes.Statement.{statement}
 use Rattle.text.proofs.overstrike.same_bytes.Tie as tie
 

@@ -1,5 +1,5 @@
 use borrow.Author.Needs.{needs}
-use Rattle.text.proofs.Steps.{back-ready, step-back, step-hold, step-pushed, step-room, step-struck, strike-ready}
+use Rattle.text.proofs.OverstrikeSteps.{back-ready, step-back, step-hold, step-pushed, step-room, step-struck, strike-ready}
 use Rattle.text.proofs.overstrike.step.Statement.{statement}
 use Rattle.text.proofs.overstrike.step.Tie as tie
 

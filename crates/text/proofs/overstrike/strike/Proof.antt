@@ -1,6 +1,6 @@
 use native.Mathlib.Omega.{arith}
 use borrow.Author.Needs.{needs}
-use Rattle.text.proofs.Steps.{strike-other, strike-same, strike-same-under, strike-under, strike-upper}
+use Rattle.text.proofs.OverstrikeSteps.{strike-other, strike-same, strike-same-under, strike-under, strike-upper}
 use Rattle.text.proofs.overstrike.strike.Statement.{statement}
 use Rattle.text.proofs.overstrike.strike.Tie as tie
 

@@ -1,5 +1,5 @@
 use Rattle.text.specs.Overstrike.Code.{styleOf}
-use Rattle.text.proofs.Steps.{ambiguous-by}
+use Rattle.text.proofs.OverstrikeSteps.{ambiguous-by}
 use Rattle.text.proofs.overstrike.strike_underscore.Statement.{statement}
 use Rattle.text.proofs.overstrike.strike_underscore.Tie as tie
 

@@ -1,4 +1,4 @@
-use Rattle.text.proofs.Steps.{underline-style}
+use Rattle.text.proofs.OverstrikeSteps.{underline-style}
 use Rattle.text.proofs.overstrike.underline.Statement.{statement}
 use Rattle.text.proofs.overstrike.underline.Tie as tie
 

@@ -1,7 +1,7 @@
 use Prim.Native.Nat.{_-_}
 use lib.ListN.{length}
 use native.Mathlib.Omega.{arith}
-use Rattle.text.proofs.Units.{run-room}
+use Rattle.text.proofs.SequenceBytes.{run-room}
 use borrow.Author.Needs.{needs}
 use Rattle.text.proofs.AsciiRuns.{RunLoop, run-begins, run-long, run-stops, run-place, run-falls, run-again, run-ends}
 use Rattle.text.proofs.utf8.run_end.Statement.{statement}

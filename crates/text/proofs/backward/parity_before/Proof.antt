@@ -1,7 +1,7 @@
 use borrow.Author.Needs.{needs}
 use Rattle.lending.specs.Conditions.{branch}
-use Rattle.text.proofs.backward.even_before.Statement.{statement}
-use Rattle.text.proofs.backward.even_before.Tie as tie
+use Rattle.text.proofs.backward.parity_before.Statement.{statement}
+use Rattle.text.proofs.backward.parity_before.Tie as tie
 
 is-between-indicators-requires : tie.Need-is-between-indicators-requires
 is-between-indicators-requires c κs = search needs
@@ -24,8 +24,8 @@ returns-4 c = search branch depth 10 fits 20000
 returns-5 : tie.Need-returns-5
 returns-5 c = search branch depth 10 fits 20000
 
-pub even-before-spec : {M : Type 1} → statement M
-even-before-spec =
+pub parity-before-spec : {M : Type 1} → statement M
+parity-before-spec =
     tie.close
     (tie.spec
     is-between-indicators-requires
