@@ -1,5 +1,5 @@
 -- Questions put one after the other, and what a call that was accepted or refused leaves.
-use mathlib.Core.Path.{_≡_, refl}
+use mathlib.Core.Path.{_≡_, refl, ap, _∙_}
 use Prim.Native.Nat.{ℕ, zero, suc, _-_, _<_}
 use native.Mathlib.Omega.{arith}
 use mathlib.Core.Bool.{Bool, true, false, _&&_}
@@ -7,7 +7,9 @@ use mathlib.Core.List.{List, [], _∷_, _++_}
 use lib.ListN.{length, replicate}
 use lib.Dec.{T, ltb, ltb→lt}
 use Rattle.text.specs.Tests.{and-T, cases}
-use Rattle.text.specs.Calls.{Question, decide, lent, counted}
+use Rattle.text.specs.Class.{Profile}
+use Rattle.text.specs.Overstrike.{convert}
+use Rattle.text.specs.Calls.{Converted, Question, convertCall, counted, decide, lent, question1, question2}
 
 -- each refusal has a number
 abbrev pub numbered : List Question → Bool
@@ -65,3 +67,28 @@ counted-accepted n = refl
 pub counted-refused : (n r : ℕ) → counted n (suc r) ≡ 0
 unfolding counted
 counted-refused n r = refl
+
+-- ---- the call `convert`
+
+module _ (P : Profile) (conv : ℕ) (line : List ℕ) where
+  -- what it leaves if it decides r
+  abbrev convertBy : ℕ → Converted
+  convertBy r = record { number = r; count = counted (length (convert P line)) r; conv = lent 0 conv (convert P line) r }
+
+  abbrev pub convertQuestions : List Question
+  convertQuestions = question1 line ∷ question2 conv line ∷ []
+
+  convert-by : convertCall P conv line ≡ convertBy (decide convertQuestions)
+  unfolding convertCall
+  convert-by = refl
+
+  pub convert-number : convertCall P conv line .number ≡ decide convertQuestions
+  convert-number = ap (λ (c : Converted). c .number) convert-by
+
+  pub convert-accepted : decide convertQuestions ≡ 0 → convertCall P conv line ≡ record { number = 0; count = length (convert P line); conv = convert P line ++ replicate (conv - length (convert P line)) 0 }
+  unfolding counted lent
+  convert-accepted e = convert-by ∙ ap convertBy e
+
+  pub convert-refused : (r : ℕ) → decide convertQuestions ≡ suc r → convertCall P conv line ≡ record { number = suc r; count = 0; conv = replicate conv 0 }
+  unfolding counted lent
+  convert-refused r e = convert-by ∙ ap convertBy e
