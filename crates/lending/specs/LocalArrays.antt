@@ -2,9 +2,11 @@
 --     opens, shuts     the array goes out of the locals, as its first places and the others, and comes back
 --     lends, gets-back         its places are lent as a `&mut` slice for a lifetime of a call, and come back with what the call left there
 --     shares, shared-back      the same as a `&` slice, and come back as they were
+--     lends-none       an array of no places is lent
 -- Assumes `Given`.
 use mathlib.Core.Path.{_≡_, refl, sym, _∙_}
 use Prim.Native.Nat.{ℕ, zero}
+use native.Mathlib.Omega.{arith}
 use mathlib.Core.Option.{some as just}
 use mathlib.Core.List.{List, [], _∷_, _++_}
 use lib.ListN.{length, take, drop as dropped, take-append-drop}
@@ -17,6 +19,7 @@ use base.Fml.{Lft, GName, Fml, fsep, fat, froom, flft, flent}
 use prog.Wp.{Heap, Env, spotOf}
 use ghost.Atoms.{Atoms, sem}
 use types.Kit.{Given, Item, Goal, Soaks, Seq, Step, step, ‵, _⊛_, some, later, _$_, _∵_, !, qed, move, drop, use1, use2, use3, split, pick, rewrite, fsplit, fjoin, fpick, fpack, feqL, feqI, await, done}
+use lib.Dec.{lit<}
 use types.Tokens.{lft-new, lft-end, lent-back}
 use types.SemTy.{Arr, cells}
 use types.Share.{arr-parts}
@@ -24,6 +27,7 @@ use denote.RattleType.{RattleType}
 use denote.Memory.{mem, cellAt, partAt, partOf, shares as part-of, lone}
 use denote.Array.{Array, arrayVal}
 use denote.ArrayMemory.{Single, array-apart, array-whole}
+use denote.Steps.{nothing}
 use denote.Lend.{Held, lends-slice, slice-back, lends-shr-slice}
 use denote.Index.{row, whole-in, whole-out}
 use denote.Ref.{RefT}
@@ -104,3 +108,8 @@ module _ {M : Type 1} {𝓤 : URA M} {H : Heap 𝓤} {A : Atoms 𝓤} {K : Type 
 
     pub shared-back : {ν : ℕ} → Step K W (‵ (cells (mem R) ys l zero) ∷ Γ) G (‵ (flft (ν ∷ []) fullShare) ∷ ‵ (lent-shared R ys l (ν ∷ [])) ∷ Γ) G
     shared-back = step (λ s. lft-end t a $ lent-back t a $ fsplit t $ drop t $ use1 W (‵ (cells (mem R) ys l zero)) (whole-in 𝓤 H A W R ys l zero) $ s)
+
+-- a local array of no places, lent
+module _ {M : Type 1} {𝓤 : URA M} {H : Heap 𝓤} {A : Atoms 𝓤} {K : Type 0} {W : Given 𝓤 H A} {Γ : List (Item 𝓤)} {G : Goal 𝓤 H} (t : K) (R : RattleType) (a : Soaks G) (l : ℕ) (ℓ : Lifetime) where
+  pub lends-none : ((ν : ℕ) (δ : GName) → Seq K W (‵ (flft (ν ∷ []) fullShare) ∷ ‵ (MutSlice ℓ (ν ∷ []) R .own (slice-at R l δ []) (sliceVal (l, zero) zero ∷ [])) ∷ Γ) G) → Seq K W Γ G
+  lends-none f = nothing t $ lends t R a [] l ℓ (lit< tt, omega arith) (λ ν δ. move t (2 ∷ []) $ drop t $ f ν δ)

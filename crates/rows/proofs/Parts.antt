@@ -1,4 +1,4 @@
--- TextPartes of a text: the leading scalars of a word or of a separator, a word, a cluster.
+-- A word with its separator, as a part of a text: the loop that finds it, scalar by scalar or byte by byte.
 use mathlib.Core.Path.{_≡_, refl, sym, ap, _∙_}
 use Prim.Native.Nat.{ℕ, _+_, _-_, _*_, _≤_, _<_}
 use native.Mathlib.Nat.{add-zero, add-assoc}
@@ -8,15 +8,15 @@ use mathlib.Core.List.{List, [], _∷_, _++_, append-nil}
 use mathlib.Core.Logic.{_≢_}
 use lib.ListN.{length, drop, getD}
 use lib.Dec.{eqb, leb, leb→le, eqb→eq}
-use borrow.Author.Tests.{eq-eqb, ne-eqb, eqb-false}
+use borrow.Author.Tests.{eq-eqb, ne-eqb, eqb-false, le-leb}
 use Rattle.text.specs.Tests.{cases, and-T, true-T, is-true}
 use Rattle.text.specs.Each.{All, all-cons}
 use Rattle.text.specs.Utf8.Valid.{Valid}
 use Rattle.text.specs.Utf8.{Scalar, decode}
-use Rattle.text.specs.Class.{Profile, inAny, spaces, whitespace}
-use Rattle.text.specs.Width.{widthOf, width01, profile01}
+use Rattle.text.specs.Class.{Profile, whitespace}
+use Rattle.text.specs.Width.{widthOf}
 use Rattle.text.specs.Code.{size, firstSequence, profileOf, sequenceOf}
-use Rattle.text.specs.Code.Laws.{scalar-at, none-at, none-code, none-past, run-valid, size-append, width-append, width-two, plain-width}
+use Rattle.text.specs.Code.Laws.{scalar-at, none-at, none-code, none-past, run-valid, size-nil, size-cons, size-append, width-nil, width-cons, width-append, width-two}
 use Rattle.text.specs.declared.BytePlace.{BytePlace}
 use Rattle.text.specs.declared.Column.{Column}
 use Rattle.text.specs.declared.TextPart.{TextPart}
@@ -24,10 +24,12 @@ use Rattle.text.specs.TextParts.{place, column, textAt, Measured}
 use Rattle.text.specs.TextParts.Laws.{behind-part}
 use Rattle.text.specs.declared.utf8.Sequence.{Sequence}
 use Rattle.text.specs.declared.class.Profile as code
-use Rattle.text.proofs.Ascii.{ascii-first, clear, clear-any}
 use Rattle.rows.specs.Words.{Word, aWord}
 use Rattle.rows.specs.Words.Laws.{belongs, firstWord, stillOf, still-none, still-on, still-ends, still-hyphen, still-turns}
 use Rattle.rows.specs.Contracts.{byteBelongs, WordAt}
+use Rattle.text.specs.Code.FirstSequence.{ascii-first}
+use Rattle.text.specs.Class.Ranges.{printable-no-space, space-is}
+use Rattle.text.specs.Class.Document01.{printable-width}
 
 pub sep-is : (v : ℕ) (b sep : Bool) → b ≡ whitespace v → sep ≡ true → b ≡ belongs sep v
 unfolding belongs
@@ -44,14 +46,14 @@ record Narrow (sep : Bool) (b : ℕ) : Type 0 where
   fits : belongs sep b ≡ true
 
 narrow : (sep : Bool) (b : ℕ) → byteBelongs sep b ≡ true → Narrow sep b
-unfolding belongs whitespace spaces inAny clear
-narrow true b e = let i : b ≡ 0x20 = eqb→eq b 0x20 (true-T e) in record { low = omega arith; high = omega arith; fits = rw i refl }
+unfolding belongs
+narrow true b e = let i : b ≡ 0x20 = eqb→eq b 0x20 (true-T e) in record { low = omega arith; high = omega arith; fits = rw i space-is }
 narrow false b e =
     let p = and-T (leb 0x21 b && leb b 0x7E) (not (eqb b 0x2D)) (true-T e) in
     let q = and-T (leb 0x21 b) (leb b 0x7E) (p .0) in
     let lo : 0x21 ≤ b = leb→le _ _ (q .0) in
     let hi : b ≤ 0x7E = leb→le _ _ (q .1) in
-    record { low = omega arith; high = hi; fits = rw (clear-any spaces 0x21 0x7E b tt lo hi, is-true (not (eqb b 0x2D)) (p .1)) refl }
+    record { low = omega arith; high = hi; fits = rw (printable-no-space b lo hi, is-true (not (eqb b 0x2D)) (p .1)) refl }
 
 -- ---- the loop over a word and its separator
 
@@ -67,11 +69,11 @@ word-begins P s at h = record { inside = omega arith; from = omega arith; end = 
 
 module _ (P : Profile) (s : List ℕ) (at p : BytePlace) (w : Column) (sep : Bool) (k : WordLoop P s at p w sep) where
   word-stops : stillOf sep (textAt s (p .0)) ≡ [] → WordAt P s (at .0) (record { end = p; width = w })
-  unfolding size widthOf stillOf
+  unfolding stillOf
   word-stops e =
       record {
-        end = sym (add-zero (p .0)) ∙ (rw e at (k .end));
-        width = sym (add-zero (w .0)) ∙ (rw e at (k .width));
+        end = sym (add-zero (p .0)) ∙ (rw (e, size-nil) at (k .end));
+        width = sym (add-zero (w .0)) ∙ (rw (e, width-nil P) at (k .width));
         inside = k .inside;
         small = k .small;
       }
@@ -99,35 +101,33 @@ module _ (f : code.Profile) (s : List ℕ) (at p : BytePlace) (w : Column) (sep 
     (read : u ≡ firstSequence (decode (drop (p .0) s))) where
   pub word-on : (b : Bool) (x : ℕ) → (u .len ≢ 0) → b ≡ belongs sep (u .code) → b ≡ true → x ≡ profileOf f .width (u .code)
       → WordLoop (profileOf f) s at (place (p .0 + u .len)) (column (w .0 + x)) sep
-  unfolding size widthOf
   word-on b x z e t v =
       let a = scalar-at s (p .0) u here read z in
       let q = still-on (a .scalar) (textAt s (p .0 + u .len)) sep (rw (a .code) (sym e ∙ t)) in
       record {
         inside = a .fits;
         from = omega (arith, k .from);
-        end = add-assoc (p .0) (u .len) _ ∙ (rw (a .run, q, a .len) at (k .end));
-        width = rw v (add-assoc (w .0) (profileOf f .width (u .code)) _ ∙ (rw (a .run, q, a .code) at (k .width)));
+        end = add-assoc (p .0) (u .len) _ ∙ (rw (a .run, q, size-cons (a .scalar), a .len) at (k .end));
+        width = rw v (add-assoc (w .0) (profileOf f .width (u .code)) _ ∙ (rw (a .run, q, width-cons (profileOf f) (a .scalar), a .code) at (k .width)));
         small = omega (arith, k .small, k .from, a .some, width-two f (u .code) x v);
       }
 
   -- the word ends in a `-`
   pub word-hyphen : sep ≡ false → u .code ≡ 0x2D → (u .len ≢ 0) → WordAt (profileOf f) s (at .0) (record { end = place (p .0 + u .len); width = column (w .0 + 1) })
-  unfolding size widthOf profileOf profile01 stillOf
+  unfolding stillOf
   word-hyphen t h z =
       let a = scalar-at s (p .0) u here read z in
       let q = still-hyphen (a .scalar) (textAt s (p .0 + u .len)) (a .code ∙ h) in
-      let v : width01 (a .scalar .code) ≡ 1 = rw (a .code ∙ h) (plain-width 0x2D (omega arith) (omega arith)) in
+      let v : profileOf f .width (a .scalar .code) ≡ 1 = rw (a .code ∙ h) (sym (printable-width f 0x2D true refl refl)) in
       record {
-        end = omega (arith, rw (t, a .run, q) at (k .end), a .len);
-        width = omega (arith, rw (t, a .run, q, v) at (k .width));
+        end = omega (arith, rw (t, a .run, q) at (k .end), size-cons (a .scalar) [], size-nil, a .len);
+        width = omega (arith, rw (t, a .run, q) at (k .width), width-cons (profileOf f) (a .scalar) [], width-nil (profileOf f), v);
         inside = a .fits;
         small = omega (arith, k .small, k .from, a .some);
       }
 
 pub byte-on : (f : code.Profile) (s : List ℕ) (at p : BytePlace) (w : Column) (sep : Bool) (b : ℕ) (r : Bool) → WordLoop (profileOf f) s at p w sep → p .0 < length s
     → b ≡ getD s (p .0) 0 → r ≡ byteBelongs sep b → r ≡ true → WordLoop (profileOf f) s at (place (p .0 + 1)) (column (w .0 + 1)) sep
-unfolding profileOf profile01
 byte-on f s at p w sep b r k here e h t =
     let n = narrow sep b (sym h ∙ t) in
-    word-on f s at p w sep (sequenceOf b 1) k here (ascii-first s (p .0) b here e (omega (arith, n .high))) true 1 (λ z. absurd (omega arith)) (sym (n .fits)) refl (sym (plain-width b (n .low) (n .high)))
+    word-on f s at p w sep (sequenceOf b 1) k here (ascii-first s (p .0) b here e (omega (arith, n .high))) true 1 (λ z. absurd (omega arith)) (sym (n .fits)) refl (printable-width f b true (sym (rw (le-leb 0x20 b (n .low), le-leb b 0x7E (n .high)) refl)) refl)

@@ -14,8 +14,10 @@ use Rattle.text.specs.Utf8.Valid.{Valid}
 use Rattle.text.specs.Class.{Profile}
 use Rattle.text.specs.Width.{widthOf}
 use Rattle.text.specs.Cluster.{clusters}
+use Rattle.text.specs.Cluster.Laws.{clusters-nil}
+use Rattle.text.specs.Cluster.Spaces.{spaces-begin}
 use Rattle.text.specs.Code.{size, firstOf, profileOf}
-use Rattle.text.specs.Code.Laws.{none-past, run-valid, run-front, width-append}
+use Rattle.text.specs.Code.Laws.{none-past, run-valid, run-front, size-nil, size-cons, width-append}
 use Rattle.text.specs.declared.BytePlace.{BytePlace}
 use Rattle.text.specs.declared.TextPart.{TextPart}
 use Rattle.text.specs.declared.segmentation.ClusterStep.{ClusterStep}
@@ -90,8 +92,8 @@ pub record Stepping (F : List Scalar → Wrap → Wrap) (text l₀ : List ℕ) (
 
 module _ (P : Profile) (width : ℕ) where
   clusters-none : (s : List Scalar) → s ≡ [] → (t : Wrap) → clustersOf P width s t ≡ t
-  unfolding clustersOf byClusters clusters
-  clusters-none s e t = rw e
+  unfolding clustersOf byClusters
+  clusters-none s e t = ap (byClusters P width t) (ap (clusters P) e ∙ clusters-nil P)
 
   clusters-natural : (s : List Scalar) → Natural (clustersOf P width s)
   unfolding clustersOf
@@ -230,7 +232,7 @@ module _ (f : profile.Profile) (width : ℕ) (text : List ℕ) (at : BytePlace) 
       record {
         same = a .same ∙ on-at (clustersOf P width (textAt (take (v .end .0 - at .0) (drop (at .0) text)) 0)) (longWordOf P width broken) (held l t)
             (ap (λ (s : List Scalar). byClusters P width u (clusters P s)) (both-part P text (at .0) v (w .there))
-            ∙ ap (byClusters P width u) (word-clusters f (textAt text (at .0)))
+            ∙ ap (byClusters P width u) (word-clusters P (spaces-begin f) (textAt text (at .0)))
             ∙ clusters-append P width (clusters P (broken .word)) (clusters P (broken .sep)) u
             ∙ sym z);
         low = a .low;
@@ -275,16 +277,15 @@ module _ (P : Profile) (width : ℕ) (text l₀ : List ℕ) (t₀ : WrapState) (
 
   module _ (v : TextPart) (w : WordAt P text (p .0) v) where
     no-word : (s : List Scalar) → All Valid s → v .end .0 ≡ p .0 + size (bothOf (firstWord s)) → v .end .0 ≡ p .0 → s ≡ []
-    unfolding size
     no-word [] a e h = refl
-    no-word (c ∷ s) (all-cons x a) e h = let k = first-word-some c s in absurd (omega (arith, x .some, rw (k .1) at e))
+    no-word (c ∷ s) (all-cons x a) e h = let k = first-word-some c s in absurd (omega (arith, x .some, size-cons c (k .0), rw (k .1) at e))
 
     pub words-stop : v .end .0 ≡ p .0 → Stepped l₀ t₀ (wordsOf P width (textAt text 0)) (2 * length text) (2 * length text) l t
     words-stop h = word-done (no-word (textAt text (p .0)) (run-valid (drop (p .0) text)) (w .end) h)
 
     some-word : (s : List Scalar) → (v .end .0 ≢ p .0) → v .end .0 ≡ p .0 + size (bothOf (firstWord s)) → (c : Scalar) × (r : List Scalar) × (s ≡ c ∷ r)
-    unfolding size firstWord
-    some-word [] z e = absurd (z (omega arith))
+    unfolding firstWord
+    some-word [] z e = absurd (z (omega (arith, size-nil)))
     some-word (c ∷ s) z e = (c, s, refl)
 
     pub words-turn : (l′ : List ℕ) (t′ : WrapState) → (v .end .0 ≢ p .0)

@@ -14,13 +14,15 @@ use Rattle.text.specs.Class.{Profile}
 use Rattle.text.specs.Width.{profile01}
 use Rattle.text.specs.Overstrike.{convert}
 use Rattle.text.specs.Overstrike.Length.{convert-size}
-use Rattle.text.specs.Calls.{decide, lent, counted, question1, question2, Converted, convertCall}
+use Rattle.text.specs.Calls.{Question, decide, lent, counted, question1, question2, Converted, convertCall}
+use Rattle.text.specs.Calls.Laws.{convert-accepted, convert-number, convert-refused, convertQuestions, counted-accepted, counted-refused, decide-nil, decide-no, decide-yes, decided-before, decided-behind, first-yes, lent-accepted, lent-refused}
 use Rattle.text.specs.Code.{profileOf, converted}
+use Rattle.text.specs.Code.Profile01.{profile-is}
 use Rattle.text.specs.declared.Answer.{Answer}
 use Rattle.text.specs.declared.class.Profile as code
 use Rattle.spans.specs.Search.{searchedLength, inOrder, read}
 use Rattle.spans.specs.Spans.{Span, Record, recordOf, records}
-use Rattle.spans.specs.Calls.{noRecord, Read, readCall}
+use Rattle.spans.specs.Calls.{noRecord, question3, Read, readCall}
 use Rattle.spans.specs.Stretches.{remaining, Sound, NextRecordReady, firstRecord, RecordStep, BeginReady, Begun}
 use Rattle.spans.specs.Calls.Contracts.{refusedBy, thirdQuestion, Planned, Holds, recordsOf, NextReadingReady, ReadingStep, ParseSpansReady, SpansParsed, numberOf, Finished, readAs, firstQuestions, Prepared}
 use Rattle.spans.specs.declared.stretches.Cursor.{Cursor}
@@ -57,58 +59,44 @@ module _ (line matches : List ℕ) (places : ℕ) (w : Bool) (e : w ≡ inOrder 
 
 -- ---- `prepare`
 
--- a refused call leaves zeros
-cleared : {A : Type 0} (blank : A) (n : ℕ) (xs : List A) (r : ℕ) → (r ≡ 0 → ⊥) → lent blank n xs r ≡ replicate n blank
-unfolding lent
-cleared blank n xs zero h = absurd (h refl)
-cleared blank n xs (suc r) h = refl
-
-two-questions : List ℕ → ℕ → ℕ
-two-questions line size = decide (question1 line ∷ question2 size line ∷ [])
-
 record Both (line : List ℕ) (size : ℕ) : Type 0 where
   first : leb (length line) 4096 ≡ true
   second : leb (8 * length line) size ≡ true
 
-both-pass : (line : List ℕ) (size : ℕ) → two-questions line size ≡ 0 → Both line size
-unfolding two-questions decide
+both-pass : (line : List ℕ) (size : ℕ) → decide (convertQuestions profile01 size line) ≡ 0 → Both line size
 both-pass line size e =
-    cases (leb (length line) 4096)
-    (λ f. cases (leb (8 * length line) size) (λ g. record { first = f; second = g }) (λ g. absurd (let z : _≡_ {A = ℕ} 2 0 = rw (f, g) at e in omega arith)))
-    (λ f. absurd (let z : _≡_ {A = ℕ} 1 0 = rw f at e in omega arith))
+    let y = first-yes (question1 line) (question2 size line ∷ []) tt e in
+    record { first = y .0; second = first-yes (question2 size line) [] tt (y .1) .0 }
 
-first-passed : (size : ℕ) (matches line : List ℕ) → two-questions line size ≡ 0 → firstQuestions size matches line ≡ thirdQuestion (convert profile01 line) matches
-unfolding firstQuestions decide
-first-passed size matches line e = let b = both-pass line size e in rw (b .first, b .second)
+third-is : (matches line : List ℕ) → decide (question3 matches (convert profile01 line) ∷ []) ≡ thirdQuestion (convert profile01 line) matches
+third-is matches line =
+    let q : Question = question3 matches (convert profile01 line) in
+    cases (inOrder (searchedLength (convert profile01 line)) 0 matches) (λ f. rw (decide-yes q [] f, decide-nil, f) refl) (λ f. rw (decide-no q [] f, f) refl)
 
-first-refused : (size : ℕ) (matches line : List ℕ) (k : ℕ) → two-questions line size ≡ k → (k ≡ 0 → ⊥) → firstQuestions size matches line ≡ k
-unfolding firstQuestions two-questions decide
-first-refused size matches line k e h =
-    cases (leb (length line) 4096)
-    (λ f. cases (leb (8 * length line) size)
-    (λ g. absurd (h (sym (rw (f, g) at e))))
-    (λ g. let z : 2 ≡ k = rw (f, g) at e in rw (← z, f, g)))
-    (λ f. let z : 1 ≡ k = rw f at e in rw (← z, f))
+first-passed : (size : ℕ) (matches line : List ℕ) → decide (convertQuestions profile01 size line) ≡ 0 → firstQuestions size matches line ≡ thirdQuestion (convert profile01 line) matches
+unfolding firstQuestions
+first-passed size matches line e = decided-behind (convertQuestions profile01 size line) (question3 matches (convert profile01 line) ∷ []) tt e ∙ third-is matches line
+
+first-refused : (size : ℕ) (matches line : List ℕ) (r : ℕ) → decide (convertQuestions profile01 size line) ≡ suc r → firstQuestions size matches line ≡ suc r
+unfolding firstQuestions
+first-refused size matches line r e = decided-before (convertQuestions profile01 size line) (question3 matches (convert profile01 line) ∷ []) r e
 
 module _ (line matches : List ℕ) (size places : ℕ) (a : Answer) (zs : List ℕ) (e : converted a zs ≡ convertCall profile01 size line) where
-  questions-are : two-questions line size ≡ a .number
-  unfolding convertCall two-questions
-  questions-are = sym (ap (λ (x : Converted). x .number) e)
+  questions-are : decide (convertQuestions profile01 size line) ≡ a .number
+  questions-are = sym (ap (λ (x : Converted). x .number) e ∙ convert-number profile01 size line)
 
   abbrev s : List ℕ
   s = convert profile01 line
 
   module _ (h : a .number ≡ 0) where
-    passed : two-questions line size ≡ 0
+    passed : decide (convertQuestions profile01 size line) ≡ 0
     passed = questions-are ∙ h
 
     count-is : a .count ≡ length s
-    unfolding convertCall counted two-questions
-    count-is = ap (λ (x : Converted). x .count) e ∙ rw passed
+    count-is = ap (λ (x : Converted). x .count) (e ∙ convert-accepted profile01 size line passed)
 
     conv-is : zs ≡ s ++ replicate (size - length s) 0
-    unfolding convertCall lent two-questions
-    conv-is = ap (λ (x : Converted). x .conv) e ∙ rw passed
+    conv-is = ap (λ (x : Converted). x .conv) (e ∙ convert-accepted profile01 size line passed)
 
     fits : length s ≤ size
     fits = let b = both-pass line size passed in omega (arith, convert-size profile01 line, leb-true (8 * length line) size (b .second))
@@ -136,15 +124,18 @@ module _ (line matches : List ℕ) (size places : ℕ) (a : Answer) (zs : List �
         }
 
   pub prepare-refused : (r : Reading) → (a .number ≡ 0 → ⊥) → r ≡ refusedBy (a .number) → Prepared line matches size zs places r
-  unfolding convertCall two-questions
-  prepare-refused r h f =
-      let c : zs ≡ replicate size 0 = ap (λ (x : Converted). x .conv) e ∙ cleared 0 size s (two-questions line size) (λ j. h (sym questions-are ∙ j)) in
-      rw f (record {
-        number = sym (first-refused size matches line (a .number) questions-are h);
-        begins = λ k. absurd (h k);
-        refuses = λ _. refl;
-        lengths = ap length c ∙ length-replicate size 0;
-      })
+  prepare-refused r h f = go (a .number) refl
+    where
+      go : (k : ℕ) → a .number ≡ k → Prepared line matches size zs places r
+      go zero k = absurd (h k)
+      go (suc j) k =
+          let q : decide (convertQuestions profile01 size line) ≡ suc j = questions-are ∙ k in
+          rw f (record {
+            number = k ∙ sym (first-refused size matches line j q);
+            begins = λ i. absurd (h i);
+            refuses = λ _. refl;
+            lengths = ap (λ (x : Converted). length (x .conv)) (e ∙ convert-refused profile01 size line j q) ∙ length-replicate size 0;
+          })
 
 -- ---- `next_reading`
 
@@ -162,8 +153,9 @@ module _ (p : code.Profile) (conv matches : List ℕ) (r : Reading) (z : NextRea
 
   pub ongoing-next : (n : NextRecord) (k : ℕ) → RecordStep (profileOf p) (take (r .len) conv) matches (r .cursor) n → k ≡ cond (ltb (r .cursor .count) (n .cursor .count)) (r .places) 0
       → ReadingStep conv matches r (record { span = n .span; reading = record { number = 0; len = r .len; places = k; cursor = n .cursor } })
-  unfolding recordsOf profileOf
-  ongoing-next n k m e =
+  unfolding recordsOf
+  ongoing-next n k m′ e =
+      let m : RecordStep profile01 (take (r .len) conv) matches (r .cursor) n = rw (profile-is p) at m′ in
       let g : eqb (r .number) 0 ≡ true = eq-eqb (r .number) 0 (z .accepted) in
       let R : List Record = remaining profile01 (take (r .len) conv) matches (r .cursor) in
       let S : List Record = remaining profile01 (take (r .len) conv) matches (n .cursor) in
@@ -310,18 +302,16 @@ module _ (conv matches : List ℕ) (r : Reading) (z : Holds conv matches r) wher
 
 module _ (conv matches : List ℕ) (r : Reading) (k : ℕ) (e : k ≡ numberOf conv matches r) where
   pub finish-accepted : k ≡ 0 → Finished conv matches r conv (record { number = 0; count = r .cursor .count })
-  unfolding counted
-  finish-accepted h = record { number = sym h ∙ e; count = refl; kept = λ _. refl; cleared = λ j. absurd (j refl) }
+  finish-accepted h = record { number = sym h ∙ e; count = sym (counted-accepted (r .cursor .count)); kept = λ _. refl; cleared = λ j. absurd (j refl) }
 
   pub finish-refused : (out : List ℕ) → (k ≡ 0 → ⊥) → out ≡ take 0 conv ++ replicate (length conv - 0) 0 → Finished conv matches r out (record { number = k; count = 0 })
-  unfolding counted
   finish-refused out h f =
       let n : length conv - 0 ≡ length conv = omega arith in
       record { number = e; count = sym (none k h); kept = λ j. absurd (h j); cleared = λ _. f ∙ ap (λ (j : ℕ). replicate j 0) n }
     where
       none : (k : ℕ) → (k ≡ 0 → ⊥) → counted (r .cursor .count) k ≡ 0
       none zero h = absurd (h refl)
-      none (suc k) h = refl
+      none (suc k) h = counted-refused (r .cursor .count) k
 
 -- ---- `read`
 
@@ -338,7 +328,7 @@ leaves size places matches line k =
     record { number = k; count = counted (length ss) k; conv = lent 0 size s k; spans = lent noRecord places (records ss) k }
 
 call-is : (size places : ℕ) (matches line : List ℕ) → readCall profile01 size places matches line ≡ leaves size places matches line (number-at size places matches line)
-unfolding readCall firstQuestions decide
+unfolding readCall firstQuestions
 call-is size places matches line =
     let s : List ℕ = convert profile01 line in
     cases (leb (length line) 4096)
@@ -433,29 +423,26 @@ module _ (line matches : List ℕ) (size places : ℕ) (conv : List ℕ) (start 
         (λ h. omega (arith, ltb-false 0 (length (recordsOf conv matches r)) h)))
 
     counted-is : a .count ≡ r .cursor .count
-    unfolding counted
-    counted-is = g .count ∙ ap (counted (r .cursor .count)) k
+    counted-is = g .count ∙ ap (counted (r .cursor .count)) k ∙ counted-accepted (r .cursor .count)
 
     written : take (a .count) list ≡ rs
     written = ap (λ (n : ℕ). take n list) counted-is ∙ sym (append-nil (take (r .cursor .count) list)) ∙ ap (λ (l : List Record). take (r .cursor .count) list ++ l) (sym none-left) ∙ all-is accepted-first
 
     accepted : (list′ : List Record) → list′ ≡ take (a .count) list ++ replicate (length list - a .count) noRecord → readAs a out list′ ≡ leaves size places matches line 0
-    unfolding lent counted
     accepted list′ h =
         let n : a .count ≡ length (read profile01 matches cs) = omega (arith, counted-is, total accepted-first, ap length none-left) in
         let m : length list - a .count ≡ places - length rs = omega (arith, many, n, records-length (read profile01 matches cs)) in
         let u : list′ ≡ rs ++ replicate (places - length rs) noRecord = h ∙ ap₂ (λ (l : List Record) (j : ℕ). l ++ replicate j noRecord) written m in
         let v : out ≡ cs ++ replicate (size - length cs) 0 = g .kept k ∙ p .begins (p .number ∙ accepted-first) .conv in
-        rw (k, n, u, v)
+        rw (k, n, u, v, counted-accepted, lent-accepted {A = ℕ} 0, lent-accepted noRecord) refl
 
   refused : (list′ : List Record) → (j : ℕ) → a .number ≡ suc j → list′ ≡ take (a .count) list ++ replicate (length list - a .count) noRecord → readAs a out list′ ≡ leaves size places matches line (suc j)
-  unfolding lent counted
   refused list′ j k h =
-      let n : a .count ≡ 0 = g .count ∙ ap (counted (r .cursor .count)) k in
+      let n : a .count ≡ 0 = g .count ∙ ap (counted (r .cursor .count)) k ∙ counted-refused (r .cursor .count) j in
       let m : length list - 0 ≡ places = omega (arith, many) in
       let u : list′ ≡ replicate places noRecord = h ∙ ap (λ (x : ℕ). take x list ++ replicate (length list - x) noRecord) n ∙ ap (λ (x : ℕ). replicate x noRecord) m in
       let v : out ≡ replicate size 0 = g .cleared (λ q. absurd (omega arith)) ∙ ap (λ (x : ℕ). replicate x 0) (p .lengths) in
-      rw (k, n, u, v)
+      rw (k, n, u, v, counted-refused, lent-refused {A = ℕ} 0, lent-refused noRecord) refl
 
   pub read-done : (list′ : List Record) → list′ ≡ take (a .count) list ++ replicate (length list - a .count) noRecord → readAs a out list′ ≡ readCall profile01 size places matches line
   read-done list′ h = go (a .number) refl

@@ -15,13 +15,15 @@ use Rattle.text.specs.Tests.{cases, and-T, true-T}
 use Rattle.text.specs.Utf8.{Scalar, decode, runOf, bytesOf}
 use Rattle.text.specs.Class.{Profile}
 use Rattle.text.specs.Cluster.{joinAll}
-use Rattle.text.specs.Cluster.Walk.{size-is, first-size, first-none, cluster-some, cluster-behind}
+use Rattle.text.specs.Cluster.Walk.{first-is, size-is, first-size, first-none, cluster-some, cluster-behind}
 use Rattle.text.specs.Code.{profileOf, firstSize}
-use Rattle.text.specs.Segmentation.{NextCluster, neverJoinsBefore}
-use Rattle.text.specs.declared.segmentation.ClusterStep.{ClusterStep}
-use Rattle.text.specs.Code.Laws.{size-cons, size-nil}
+use Rattle.text.specs.Segmentation.{neverJoinsBefore}
+use Rattle.text.specs.Code.Laws.{size-nil}
 use Rattle.text.specs.Scalar.{packedAt}
-use Rattle.text.specs.Scalar.Laws.{packed-none, packed-some}
+use Rattle.text.specs.Scalar.Laws.{packed-none}
+use Rattle.text.specs.Segmentation.{NextCluster}
+use Rattle.text.specs.declared.segmentation.ClusterStep.{ClusterStep}
+use Rattle.text.specs.TextParts.{textAt}
 use Rattle.text.specs.declared.class.Profile as code
 use Rattle.spans.specs.Sequence as found
 use Rattle.spans.specs.Sequence.{sgr, eraseToEnd, ignored, hyperlink, lineDrawing, Found, found, missing, parse}
@@ -38,8 +40,8 @@ use Rattle.spans.specs.declared.reader.NextSpan.{NextSpan}
 use Rattle.spans.proofs.ClusterBytes.{head-bytes, kindHead}
 use Rattle.spans.proofs.PlainClusters.{control-end, control-size}
 use Rattle.spans.proofs.Sequences.{part-slice}
-use Rattle.spans.proofs.FirstClusters.{by-first, byte-here, byte-next, size-none, behind-size, behind-clusters, run-inside}
 use Rattle.spans.proofs.TextEnd.{ClustersLoop, clusters-begin, clusters-less, clusters-on, no-text}
+use Rattle.spans.proofs.FirstClusters.{by-first, byte-here, byte-next, behind-size, behind-clusters, run-inside}
 use Rattle.spans.proofs.SkippedClusters.{skip-none, behind-skipped}
 
 -- ---- a cluster that is no part of a text
@@ -343,11 +345,10 @@ module _ (v : code.Profile) (t : List ℕ) (c : Place) (z : NextSpanReady t c) (
   first-up = omega (arith, clusters-less v t (c .at) (c .at) u begin some r n, n .part .inside)
 
   pub mark-ready : (x : Bool) (a : ℕ) → a ≡ getD t (c .at) 0 → x ≡ c0NotCr a → x ≡ false → r .part .width .0 ≡ 0 → MarkSpanReady (profileOf v) t c (r .part .end .0)
-  unfolding firstSize
   mark-ready x a b q w e = record {
     ready = z;
     special = no-text v t (c .at) (c .at) u begin some r n e;
-    ends = n .part .end;
+    ends = n .part .end ∙ ap (λ (k : ℕ). c .at + k) (sym (first-is (profileOf v) (textAt t (c .at))));
     some = first-up;
     other = λ y. let j : a ≡ 0x1B = b ∙ y in let o : true ≡ false = rw j at (sym q ∙ w) in absurd (true≢false o);
   }

@@ -11,7 +11,7 @@ use lib.Seq.{drop-drop, getD-drop}
 use borrow.Author.Tests.{ne-eqb, ltb-true}
 use lib.Dec.{eqb, ltb, nltb→le}
 use Rattle.text.specs.Tests.{cases, and-T, is-true, true-T}
-use Rattle.text.specs.Utf8.{Scalar, ascii, bytesOf}
+use Rattle.text.specs.Utf8.{Scalar, ascii}
 use Rattle.text.specs.Class.{Profile}
 use Rattle.text.specs.Class.Ascii.{printable-range}
 use Rattle.text.specs.Width.{widthOf}
@@ -31,9 +31,9 @@ use Rattle.text.specs.declared.segmentation.ClusterStep.{ClusterStep}
 use Rattle.text.specs.declared.class.Profile as code
 use Rattle.spans.specs.Spans.FirstSpan.{extent, plainCluster, plainSize}
 use Rattle.spans.specs.Reader.{c0NotCr, clustersAt, PlainTo, clustersSize, printablePair, ClustersTo}
-use Rattle.spans.proofs.ClusterBytes.{plain-width, first-byte}
+use Rattle.spans.proofs.ClusterBytes.{plain-width}
 use Rattle.spans.proofs.PlainClusters.{control-size, plain-here, plain-on}
-use Rattle.spans.proofs.FirstClusters.{no-clusters, byte-here, behind-clusters}
+use Rattle.spans.proofs.FirstClusters.{no-clusters, behind-clusters}
 
 -- ---- `clusters_end`
 

@@ -21,13 +21,13 @@ use Rattle.text.specs.Tests.{and-T, cases, true-T}
 use Rattle.text.specs.TextParts.{textAt}
 use Rattle.text.specs.Utf8.{Scalar, decode, decodeFrom, runOf}
 use Rattle.text.specs.declared.utf8.Sequence.{Sequence}
-use Rattle.text.specs.Code.Boundaries.{alone, alone-numbers}
-use Rattle.text.proofs.Ascii.{ascii-sequence, lone, lone-low, low-tail}
+use Rattle.text.specs.Code.Boundaries.{alone, alone-numbers, lone, lone-low}
 use Rattle.text.proofs.ForwardWalk.{class-le}
 use Rattle.text.proofs.Runs.{back-scalar, no-head, run-drop, run-head, run-inside, size-pos, size-reverse}
 use Rattle.text.proofs.ContinuationBytes.{back-here}
 use Rattle.text.proofs.Texts.{run-prefix}
 use Rattle.text.specs.declared.class.Profile as code
+use Rattle.text.specs.Code.FirstSequence.{ascii-sequence, low-tail}
 
 unfoldable pub flip : Bool → Bool → Bool
 flip true b = not b

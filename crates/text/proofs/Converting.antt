@@ -28,16 +28,13 @@ use Rattle.text.specs.declared.overstrike.Conversion.{Conversion}
 use Rattle.text.specs.declared.overstrike.Progress.{Progress}
 use Rattle.text.specs.declared.class.Profile as code
 use Rattle.text.proofs.RegionalIndicators.{parity-zero}
-use Rattle.text.proofs.Runs.{Head, no-head, part-slice, run-drop, run-head, size-cons, size-reverse}
+use Rattle.text.proofs.Runs.{Head, no-head, part-slice, run-drop, run-head, size-reverse}
 use Rattle.text.proofs.OverstrikeSteps.{front-size, front-text, part-none}
 use Rattle.text.proofs.Texts.{run-prefix}
-use Rattle.text.proofs.SequenceBytes.{run-bad, run-end, run-good, run-more, run-size, scalarAt}
+use Rattle.text.proofs.SequenceBytes.{run-good, run-more, run-size, scalarAt}
+use Rattle.text.specs.Code.Laws.{none-at, none-past, size-cons, size-nil}
 
 -- ---- the run of a text and what stands behind it
-
-size-none : size [] ≡ 0
-unfolding size
-size-none = refl
 
 run-behind : (g rest : List Scalar) (t : List ℕ) → runOf (decode t) ≡ g ++ rest → runOf (decode (drop (size g) t)) ≡ rest
 run-behind g rest t e =
@@ -174,12 +171,12 @@ module _ (P : Profile) (line l : List ℕ) (p : ℕ) (st : Conversion) (w : Runn
             inside = t .inside;
             bytes = sym (t .valid) ∙ ap bytesOf (front-text l′ r _ t) ∙ ap (λ (x : State). bytesOf (reverse (finishOn P x))) last-state;
           };
-          run = omega (arith, w .run, ap size past, size-none);
+          run = omega (arith, w .run, ap size past, size-nil);
           small = omega (arith, front-size l′ r _ t, w .small);
         }
 
   pub running-end : (l′ : List ℕ) (r : ℕ) → length line ≤ p → Finished line l l′ st r → SpanDone P line l′ (record { read = p; written = r })
-  running-end l′ r h f = ended (run-end line p h) l′ r f
+  running-end l′ r h f = ended (none-past line p h) l′ r f
 
   pub running-damaged : (e : ℕ) (l′ : List ℕ) (r : ℕ) → e ≡ p + firstSize P (runOf (decode (drop p line))) → e ≡ p → Finished line l l′ st r → SpanDone P line l′ (record { read = p; written = r })
   running-damaged e l′ r i n f = ended (no-cluster P line p e i n) l′ r f
@@ -245,7 +242,7 @@ rest-head (b ∷ t) d es h = go (length (d .bytes)) refl
     go (suc n) q = rw (decode-good b t n (h .seq ∙ q), q) refl
 
 rest-decode : (cs : List Scalar) (t : List ℕ) → runOf (decode t) ≡ cs → restOf (decode t) ≡ decode (drop (size cs) t)
-rest-decode [] t e = rest-none t e ∙ ap (λ (m : ℕ). decode (drop m t)) (sym size-none)
+rest-decode [] t e = rest-none t e ∙ ap (λ (m : ℕ). decode (drop m t)) (sym size-nil)
 rest-decode (d ∷ es) t e =
     let h = run-head t d es e in
     rest-head t d es h ∙ rest-decode es (drop (length (d .bytes)) t) (h .next) ∙ ap decode (drop-drop (size es) (length (d .bytes)) t ∙ ap (λ (m : ℕ). drop m t) (sym (size-cons d es)))
@@ -269,7 +266,7 @@ module _ (line l : List ℕ) (d : Progress) (w : PieceReady line l d) where
   piece-damaged v u read z =
       let b : ℕ = getD line (d .read) 0 in
       let q : drop (d .read) line ≡ b ∷ drop (suc (d .read)) line = drop-cons line (d .read) 0 (w .here) in
-      let s : size (runOf (decode (drop (d .read) line))) ≡ 0 = ap size (run-bad line (d .read) u (w .here) read z) ∙ size-none in
+      let s : size (runOf (decode (drop (d .read) line))) ≡ 0 = ap size (none-at line (d .read) u (w .here) read z) ∙ size-nil in
       let c : decode (drop (d .read) line) ≡ illFormed b ∷ decode (drop (suc (d .read)) line) = ap decode q ∙ damaged-decode b (drop (suc (d .read)) line) (rw q at s) in
       let t : take (suc (d .written)) (set l (d .written) b) ≡ take (d .written) l ++ (b ∷ []) = take-suc-set l (d .written) b (omega (arith, w .room, w .here)) in
       record {

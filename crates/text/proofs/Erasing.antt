@@ -21,13 +21,14 @@ use Rattle.text.specs.Tests.{and-T, cases, is-true, true-T}
 use Rattle.text.specs.Utf8.{Scalar, ascii, bytesOf, decode, decodeFrom, runOf}
 use Rattle.text.specs.declared.backward.Erasure.{Erasure}
 use Rattle.text.specs.declared.utf8.Sequence.{Sequence}
-use Rattle.text.proofs.Ascii.{ascii-sequence, lone-low}
 use Rattle.text.proofs.BackwardWalk.{last-lone}
 use Rattle.text.proofs.RegionalIndicators.{parity-front, parity-more, parity-zero, indicator-back, indicator-class, indicator-control, pair-by, pair-front, pair-odd, push-reversed}
 use Rattle.text.proofs.Runs.{back-scalar, run-drop, run-head, run-inside, size-reverse}
 use Rattle.text.proofs.Texts.{run-append, run-prefix, whole-append, whole-prefix}
-use Rattle.text.proofs.SequenceBytes.{run-end}
 use Rattle.text.specs.declared.class.Profile as code
+use Rattle.text.specs.Code.FirstSequence.{ascii-sequence}
+use Rattle.text.specs.Code.Boundaries.{lone-low}
+use Rattle.text.specs.Code.Laws.{none-past}
 
 -- the last cluster's first scalar, and what erasing says of it
 record First (P : Profile) (cs rev out : List Scalar) : Type 0 where
@@ -209,7 +210,7 @@ pair-erased v t i a r n w some e ea en nn f z =
     let n : ParityPlace t (length t) = rw (p .here) at e in
     let es : runOf (decode (drop (size (n .rest)) t)) ≡ n .es = run-drop (n .rest) (n .es) t (n .parts) in
     let past : length t ≤ size (n .rest) = omega (arith, n .place) in
-    let none : n .es ≡ [] = sym es ∙ run-end t (size (n .rest)) past in
+    let none : n .es ≡ [] = sym es ∙ none-past t (size (n .rest)) past in
     let rev : runOf (decode t) ≡ reverseAux (n .rest) [] = n .parts ∙ ap (reverseAux (n .rest)) none in
     let k = pair-by v t (n .rest) rev (n .place) (p .long) (p .last) (p .other) (n .parity v) in
     let back-is : reverse (runOf (decode t)) ≡ n .rest = ap reverse rev ∙ reverse-reverse (n .rest) in

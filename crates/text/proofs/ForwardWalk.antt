@@ -26,13 +26,13 @@ use Rattle.text.specs.TextParts.Laws.{first-all}
 use Rattle.text.specs.Utf8.{Scalar, ascii, decode}
 use Rattle.text.specs.Utf8.Valid.{Valid}
 use Rattle.text.specs.Width.{profile01, widthOf}
-use Rattle.text.specs.Code.Boundaries.{alone-numbers}
-use Rattle.text.proofs.Ascii.{apart, ascii-sequence, breaks, lone, lone-low, other-alone}
+use Rattle.text.specs.Code.Boundaries.{alone-numbers, apart, breaks, lone, lone-low, other-alone}
 use Rattle.lending.specs.Conditions.{met, on-false, on-true}
 use Rattle.text.proofs.PackedScalars.{first-packed, printable-one}
 use Rattle.text.proofs.SequenceBytes.{run-good, run-size, scalarAt}
 use Rattle.text.specs.declared.segmentation.ClusterStep.{ClusterStep}
 use Rattle.text.specs.declared.class.Profile as code
+use Rattle.text.specs.Code.FirstSequence.{ascii-sequence}
 
 -- ---- a packed scalar
 

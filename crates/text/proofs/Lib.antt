@@ -3,7 +3,6 @@ pub mod SequenceBytes
 pub mod ContinuationBytes
 pub mod Runs
 pub mod AsciiRuns
-pub mod Ascii
 pub mod LeadBytes
 pub mod PackedScalars
 pub mod ForwardWalk

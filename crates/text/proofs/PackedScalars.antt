@@ -12,10 +12,12 @@ use Rattle.text.specs.Class.{Profile, class01, controls, extends, number
 use Rattle.text.specs.Code.{fourBytes, isTail, profileOf, sequenceFor, threeBytes, twoBytes}
 use Rattle.text.specs.Scalar.{packed, packedAs, packedAt}
 use Rattle.text.specs.Width.{width01}
-use Rattle.text.proofs.Ascii.{ascii-sequence, clear, other-class, quiet-test, syllable-class, syllable-width, wide-width}
 use Rattle.text.specs.Tests.{in-range, every, every-one}
 use Rattle.text.proofs.LeadBytes.{four-at, no-second, no-third, three-at, two-at}
 use Rattle.text.specs.declared.class.Profile as code
+use Rattle.text.specs.Code.FirstSequence.{ascii-sequence}
+use Rattle.text.specs.Class.Ranges.{clear}
+use Rattle.text.specs.Class.Document01.{other-class, quiet-test, syllable-class, syllable-width, wide-width}
 
 is : ℕ → ℕ → Bool
 is k x = eqb (number (class01 x) + 16 * width01 x) k

@@ -20,7 +20,6 @@ use Rattle.text.specs.Scalar.Laws.{NoScalar, PackedScalar, packed-inside
 use Rattle.text.specs.Tests.{cases, in-range, every, every-one}
 use Rattle.text.specs.TextParts.{textAt}
 use Rattle.text.specs.Utf8.{Scalar, bytesOf, decode, runOf, sequence, to, within}
-use Rattle.text.proofs.Ascii.{clear, clear-any}
 use Rattle.text.proofs.BackwardWalk.{Left, class-of, flip, flip-false, front-is, headOf, joined-indicators, odd-on, odd-other, odd-ri}
 use Rattle.text.proofs.LeadBytes.{high-len}
 use Rattle.text.proofs.PackedScalars.{indicator}
@@ -28,6 +27,7 @@ use Rattle.text.proofs.Runs.{Head, back-scalar, run-drop, run-head, run
 use Rattle.text.proofs.ContinuationBytes.{back-to, seq-lead, seq-tails}
 use Rattle.text.proofs.Texts.{run-append, run-prefix}
 use Rattle.text.specs.declared.class.Profile as code
+use Rattle.text.specs.Class.Ranges.{clear, clear-any}
 
 context-none : (P : Profile) → context P [] .odd ≡ false
 unfolding context

@@ -16,7 +16,9 @@ use Rattle.text.specs.Utf8.{Scalar, decode, decodeFrom, sequence, value}
 use Rattle.text.specs.Utf8.Laws.{sequence-le}
 use Rattle.text.specs.declared.utf8.Sequence.{Sequence}
 use Rattle.text.proofs.ContinuationBytes.{back-to, seq-lead, seq-tails}
-use Rattle.text.proofs.SequenceBytes.{first-by, run-end, run-more, run-none}
+use Rattle.text.proofs.SequenceBytes.{run-more, run-none}
+use Rattle.text.specs.Code.FirstSequence.{first-by}
+use Rattle.text.specs.Code.Laws.{none-past}
 
 pub record Head (s : List ℕ) (d : Scalar) (es : List Scalar) : Type 0 where
   pub some : 1 ≤ length (d .bytes)
@@ -75,7 +77,7 @@ run-drop (d ∷ rest) es t e =
 pub run-inside : (c : Scalar) (rest es : List Scalar) (t : List ℕ) → runOf (decode t) ≡ reverseAux rest (c ∷ es) → size rest < length t
 run-inside c rest es t e =
     cases (leb (length t) (size rest))
-    (λ l. absurd (no-head c es (sym (run-end t (size rest) (leb-true (length t) (size rest) l)) ∙ run-drop rest (c ∷ es) t e)))
+    (λ l. absurd (no-head c es (sym (none-past t (size rest) (leb-true (length t) (size rest) l)) ∙ run-drop rest (c ∷ es) t e)))
     (λ l. leb-false (length t) (size rest) l)
 
 pub back-scalar : (d : Scalar) (rest es : List Scalar) (t : List ℕ) → runOf (decode t) ≡ reverseAux rest (d ∷ es) → back t (size (d ∷ rest)) ≡ size rest
@@ -110,7 +112,3 @@ part-slice zero n l = ap (λ (m : ℕ). take m l) (sub-zero n)
 part-slice (suc f) n [] = take-nil (n - suc f) ∙ sym (ap (drop (suc f)) (take-nil n))
 part-slice (suc f) zero (x ∷ l) = ap (λ (m : ℕ). take m (drop f l)) (let z : 0 - suc f ≡ 0 = omega arith in z)
 part-slice (suc f) (suc n) (x ∷ l) = ap (λ (m : ℕ). take m (drop f l)) (let z : suc n - suc f ≡ n - f = omega arith in z) ∙ part-slice f n l
-
-pub size-cons : (c : Scalar) (s : List Scalar) → size (c ∷ s) ≡ length (c .bytes) + size s
-unfolding size
-size-cons c s = refl

@@ -11,6 +11,8 @@ use lib.ListN.{drop, drop-of-length-le, getD, length, length-drop, take}
 use lib.Seq.{drop-drop, getD-drop, length-take-le}
 use borrow.Author.Tests.{le-leb}
 use Rattle.text.specs.Code.{firstSequence, runOf, sequenceOf, size}
+use Rattle.text.specs.Code.FirstSequence.{first-by}
+use Rattle.text.specs.Code.Laws.{none-at, none-past}
 use Rattle.text.specs.Utf8.{Scalar, decode, decodeFrom, fits, lengthIn, scalar, sequence, table, value}
 use Rattle.text.specs.Utf8.Laws.{decode-bad, decode-good, sequence-le}
 use Rattle.text.specs.declared.utf8.Sequence.{Sequence}
@@ -49,13 +51,6 @@ sequence-pad a [] = refl
 sequence-pad a (b ∷ []) = refl
 sequence-pad a (b ∷ c ∷ []) = refl
 sequence-pad a (b ∷ c ∷ d ∷ s) = refl
-
-pub first-by : (b : ℕ) (s : List ℕ) (n : ℕ) → sequence (b ∷ s) ≡ n → firstSequence (decode (b ∷ s)) ≡ sequenceOf (value (take n (b ∷ s))) n
-unfolding firstSequence value scalar
-first-by b s zero e = rw (decode-bad b s e) refl
-first-by b s (suc n) e =
-    let room : suc n ≤ length (b ∷ s) = rw e at (sequence-le (b ∷ s)) in
-    rw (decode-good b s n e) (ap (sequenceOf (value (take (suc n) (b ∷ s)))) (length-take-le (suc n) (b ∷ s) room))
 
 -- of any bytes, by the first four
 take-pad : (s : List ℕ) (n : ℕ) → n ≤ length s → n ≤ 3 → take n s ≡ take n (getD s 0 0 ∷ getD s 1 0 ∷ getD s 2 0 ∷ [])
@@ -107,14 +102,6 @@ pub run-more : (b : ℕ) (s : List ℕ) (n : ℕ) → sequence (b ∷ s) ≡ suc
 unfolding runOf scalar
 run-more b s n q = rw (decode-good b s n q)
 
-decode-zero : (s : List ℕ) → 1 ≤ length s → (u : Sequence) → u ≡ firstSequence (decode s) → u .len ≡ 0 → runOf (decode s) ≡ []
-decode-zero [] h u e z = absurd (omega arith)
-decode-zero (b ∷ s) h u e z = go (sequence (b ∷ s)) refl
-  where
-    go : (n : ℕ) → sequence (b ∷ s) ≡ n → runOf (decode (b ∷ s)) ≡ []
-    go zero q = run-none b s q
-    go (suc n) q = let w : u .len ≡ suc n = ap (λ (x : Sequence). x .len) (e ∙ first-by b s (suc n) q) in absurd (omega arith)
-
 abbrev pub scalarAt : ℕ → ℕ → ℕ → List ℕ → Scalar
 scalarAt p v n s = record { code = v; bytes = take n (drop p s) }
 
@@ -131,9 +118,6 @@ decode-some (b ∷ s) h u e z = go (sequence (b ∷ s)) refl
         rw f (run-more b s n q, l)
 
 module _ (s : List ℕ) (p : ℕ) (u : Sequence) (here : p < length s) (read : u ≡ firstSequence (decode (drop p s))) where
-  pub run-bad : u .len ≡ 0 → runOf (decode (drop p s)) ≡ []
-  run-bad z = decode-zero (drop p s) (rw (length-drop p s) (omega arith)) u read z
-
   pub run-good : (u .len ≢ 0) → runOf (decode (drop p s)) ≡ scalarAt p (u .code) (u .len) s ∷ runOf (decode (drop (p + u .len) s))
   run-good z = rw (drop-drop (u .len) p s) at (decode-some (drop p s) (rw (length-drop p s) (omega arith)) u read (omega arith) .0)
 
@@ -143,17 +127,13 @@ module _ (s : List ℕ) (p : ℕ) (u : Sequence) (here : p < length s) (read : u
   pub run-size : (u .len ≢ 0) → length (take (u .len) (drop p s)) ≡ u .len
   run-size z = length-take-le (u .len) (drop p s) (decode-some (drop p s) (rw (length-drop p s) (omega arith)) u read (omega arith) .1)
 
-pub run-end : (s : List ℕ) (p : ℕ) → length s ≤ p → runOf (decode (drop p s)) ≡ []
-unfolding runOf decode decodeFrom
-run-end s p h = rw (drop-of-length-le s h)
-
 -- ---- a loop over the run: a turn, and the ends
 
 module _ (s : List ℕ) (p : ℕ) (u : Sequence) (here : p < length s) (read : u ≡ firstSequence (decode (drop p s)))
     (total : ℕ) (same : total ≡ p + size (runOf (decode (drop p s)))) where
   pub size-stop : u .len ≡ 0 → p ≡ total
   unfolding size
-  size-stop z = sym (rw (run-bad s p u here read z, add-zero) at same)
+  size-stop z = sym (rw (none-at s p u here read z, add-zero) at same)
 
   pub size-on : (u .len ≢ 0) → total ≡ p + u .len + size (runOf (decode (drop (p + u .len) s)))
   unfolding size
@@ -161,4 +141,4 @@ module _ (s : List ℕ) (p : ℕ) (u : Sequence) (here : p < length s) (read : u
 
 pub size-end : (s : List ℕ) (p total : ℕ) → length s ≤ p → total ≡ p + size (runOf (decode (drop p s))) → p ≡ total
 unfolding size
-size-end s p total h same = sym (rw (run-end s p h, add-zero) at same)
+size-end s p total h same = sym (rw (none-past s p h, add-zero) at same)

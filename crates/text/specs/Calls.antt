@@ -6,6 +6,7 @@ use lib.ListN.{length, replicate}
 use lib.Dec.{leb}
 use Rattle.text.specs.Class.{Profile}
 use Rattle.text.specs.Overstrike.{convert}
+pub mod Laws
 
 -- a question put to a call, and the number of its refusal
 pub record Question : Type 0 where

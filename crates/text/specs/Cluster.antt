@@ -6,6 +6,7 @@ use Rattle.text.specs.Utf8.{Scalar}
 use Rattle.text.specs.Class.{cr, lf, control, extend, zwj, classL, classV, classT, classLV, classLVT, regionalIndicator, number, among, Profile}
 pub mod Laws
 pub mod Walk
+pub mod Spaces
 pub mod Ascii
 pub mod Same
 pub mod Printable

@@ -15,6 +15,7 @@ use Rattle.text.specs.declared.Answer.{Answer}
 use Rattle.text.specs.declared.utf8.Sequence.{Sequence}
 use Rattle.text.specs.declared.class.Profile as code
 pub mod Laws
+pub mod FirstSequence
 pub mod Boundaries
 pub mod Profile01
 

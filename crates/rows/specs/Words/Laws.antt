@@ -7,12 +7,12 @@ use mathlib.Core.List.{List, [], _∷_, _++_, append-assoc, append-nil}
 use lib.Dec.{eqb, eqb→eq}
 use Rattle.text.specs.Tests.{cases, true-T}
 use Rattle.text.specs.Utf8.{Scalar}
-use Rattle.text.specs.Class.{whitespace, inAny}
+use Rattle.text.specs.Class.{whitespace}
+use Rattle.text.specs.Class.Ranges.{printable-no-space}
 use Rattle.rows.specs.Words.{Word, aWord, joinSpace, addSpace, addLetter, words}
 
 -- a scalar of a separator, or of a word before a `-`
 unfoldable pub belongs : Bool → ℕ → Bool
-unfolding whitespace
 belongs true v = whitespace v
 belongs false v = not (whitespace v) && not (eqb v 0x2D)
 
@@ -70,10 +70,9 @@ first-word-all s = leading-beyond false s ∙ wordFrom-all (leading false s) (be
 -- ---- whitespace, a `-`, a letter
 
 space-not-hyphen : (v : ℕ) → whitespace v ≡ true → eqb v 0x2D ≡ false
-unfolding whitespace inAny
 space-not-hyphen v e =
     cases (eqb v 0x2D)
-    (λ h. let z : false ≡ true = rw (eqb→eq v 0x2D (true-T h)) at e in cc)
+    (λ h. let k : v ≡ 0x2D = eqb→eq v 0x2D (true-T h) in absurd (true≢false (sym e ∙ printable-no-space v (omega arith) (omega arith))))
     (λ h. h)
 
 wordFrom-letter : (c : Scalar) (w s : List Scalar) → wordFrom (c ∷ w) s ≡ aWord (c ∷ wordFrom w s .word) (wordFrom w s .sep)

@@ -3,15 +3,14 @@ use mathlib.Core.Path.{_≡_, refl, sym, ap, _∙_}
 use Prim.Native.Nat.{ℕ, zero, suc, _+_}
 use native.Mathlib.Nat.{add-zero}
 use native.Mathlib.Omega.{arith}
-use mathlib.Core.Bool.{Bool, true, false, cond, _&&_, _||_}
 use mathlib.Core.List.{List, [], _∷_}
 use mathlib.Core.Option.{none, some}
 use lib.ListN.{take, drop, getD}
 use lib.Seq.{slice, drop-drop, getD-drop, drop-nil, take-nil}
-use lib.Dec.{eqb}
 use Rattle.text.specs.Utf8.{Scalar, decode, runOf}
-use Rattle.spans.specs.Sgr.{parameters, allowed, orders}
-use Rattle.spans.specs.Sequence.{sgr, eraseToEnd, ignored, hyperlink, lineDrawing, Found, found, missing, leading, parameterByte, ifKnown, erase, final, charset, csi, past, uriByte, idByte, closed, osc, parse}
+use Rattle.spans.specs.Sgr.{parameters, orders}
+use Rattle.spans.specs.Sequence.{sgr, eraseToEnd, ignored, hyperlink, lineDrawing, Found, found, missing, parse}
+use Rattle.spans.specs.Sequence.Laws.{parse-orders}
 use Rattle.spans.specs.Spans.{text, control, invalid, unprintable, escape, tab, crlf, lf, Record}
 use Rattle.spans.specs.Spans.ContentLaw.{sequenceIn, textIn, contentIn, contentOf}
 use Rattle.spans.specs.declared.sgr.Sgr.{Sgr}
@@ -92,63 +91,18 @@ module _ (line : List ℕ) (r : Record) where
 
 -- ---- a style order's orders are those of the parameters behind `ESC [`
 
-unfoldable Said : List ℕ → Found → Type 0
-Said s missing = Unit {0}
-Said s (found (sgr os) n) = os ≡ orders (parameters 0 s)
-Said s (found eraseToEnd n) = Unit {0}
-Said s (found ignored n) = Unit {0}
-Said s (found (hyperlink a k) n) = Unit {0}
-Said s (found (lineDrawing b) n) = Unit {0}
-
-cond-said : (s : List ℕ) (b : Bool) (x y : Found) → Said s x → Said s y → Said s (cond b x y)
-cond-said s true x y f g = f
-cond-said s false x y f g = g
-
-known-said : (s : List ℕ) (os : List Sgr) (n : ℕ) → os ≡ orders (parameters 0 s) → Said s (ifKnown os n)
-unfolding Said ifKnown
-known-said s [] n e = tt
-known-said s (o ∷ os) n e = e
-
-csi-said : (s : List ℕ) → Said s (csi s)
-unfolding csi erase Said
-csi-said s =
-    let n : ℕ = leading parameterByte s in
-    cond-said s (eqb (getD s n 0) 0x6D) _ _
-    (cond-said s (allowed (parameters 0 s)) _ _ (known-said s (orders (parameters 0 s)) n refl) tt)
-    (cond-said s (eqb (getD s n 0) 0x4B) _ _
-    (cond-said s (eqb n 0 || (eqb n 1 && eqb (getD s 0 0) 0x30)) _ _ tt (cond-said s (eqb n 1 && (eqb (getD s 0 0) 0x31 || eqb (getD s 0 0) 0x32)) _ _ tt tt))
-    (cond-said s (final (getD s n 0)) _ _ tt tt))
-
-charset-said : (s : List ℕ) → Said s (charset s)
-unfolding charset Said
-charset-said s = cond-said s (eqb (getD s 0 0) 0x30) _ _ tt (cond-said s (eqb (getD s 0 0) 0x42) _ _ tt tt)
-
-osc-said : (s : List ℕ) → Said s (osc s)
-unfolding osc closed Said
-osc-said s =
-    let i : ℕ = past idByte s 2 in
-    let e : ℕ = past uriByte s (i + 1) in
-    cond-said s (eqb (getD s 0 0) 0x38 && (eqb (getD s 1 0) 0x3B && eqb (getD s i 0) 0x3B)) _ _
-    (cond-said s (eqb (getD s e 0) 0x07) _ _ tt (cond-said s (eqb (getD s e 0) 0x1B && eqb (getD s (e + 1) 0) 0x5C) _ _ tt tt)) tt
-
-parse-said : (s : List ℕ) → Said (drop 1 s) (parse s)
-unfolding parse Said
-parse-said s =
-    cond-said (drop 1 s) (eqb (getD s 0 0) 0x5B) _ _ (csi-said (drop 1 s))
-    (cond-said (drop 1 s) (eqb (getD s 0 0) 0x28) _ _ (charset-said (drop 1 s)) (cond-said (drop 1 s) (eqb (getD s 0 0) 0x5D) _ _ (osc-said (drop 1 s)) tt))
-
-said-orders : (s : List ℕ) (x : Found) (os : List Sgr) → Said s x → sequenceIn x ≡ escape (sgr os) → os ≡ orders (parameters 0 s)
-unfolding Said sequenceIn
-said-orders s missing os h e = absurd (let z : _≡_ {A = ℕ} 0 1 = cc in omega arith)
-said-orders s (found (sgr ps) n) os h e = let f : ps ≡ os = cc in sym f ∙ h
-said-orders s (found eraseToEnd n) os h e = absurd (let z : _≡_ {A = ℕ} 0 1 = cc in omega arith)
-said-orders s (found ignored n) os h e = absurd (let z : _≡_ {A = ℕ} 0 1 = cc in omega arith)
-said-orders s (found (hyperlink a k) n) os h e = absurd (let z : _≡_ {A = ℕ} 0 1 = cc in omega arith)
-said-orders s (found (lineDrawing b) n) os h e = absurd (let z : _≡_ {A = ℕ} 0 1 = cc in omega arith)
+found-orders : (s : List ℕ) (x : Found) (os : List Sgr) → parse s ≡ x → sequenceIn x ≡ escape (sgr os) → os ≡ orders (parameters 0 (drop 1 s))
+unfolding sequenceIn
+found-orders s missing os h e = absurd (let z : _≡_ {A = ℕ} 0 1 = cc in omega arith)
+found-orders s (found (sgr ps) n) os h e = let f : ps ≡ os = cc in sym f ∙ parse-orders s ps n h
+found-orders s (found eraseToEnd n) os h e = absurd (let z : _≡_ {A = ℕ} 0 1 = cc in omega arith)
+found-orders s (found ignored n) os h e = absurd (let z : _≡_ {A = ℕ} 0 1 = cc in omega arith)
+found-orders s (found (hyperlink a k) n) os h e = absurd (let z : _≡_ {A = ℕ} 0 1 = cc in omega arith)
+found-orders s (found (lineDrawing b) n) os h e = absurd (let z : _≡_ {A = ℕ} 0 1 = cc in omega arith)
 
 -- what `next_order` reads from the place behind `ESC [`
 pub style-orders : (line : List ℕ) (p : ℕ) (os : List Sgr) → sequenceIn (parse (drop (p + 1) line)) ≡ escape (sgr os) → os ≡ orders (parameters 0 (drop (p + 2) line))
 style-orders line p os e =
     let k : p + 1 + 1 ≡ p + 2 = omega arith in
-    said-orders (drop 1 (drop (p + 1) line)) (parse (drop (p + 1) line)) os (parse-said (drop (p + 1) line)) e
+    found-orders (drop (p + 1) line) (parse (drop (p + 1) line)) os refl e
     ∙ ap (λ (l : List ℕ). orders (parameters 0 l)) (drop-drop 1 (p + 1) line ∙ ap (λ (i : ℕ). drop i line) k)

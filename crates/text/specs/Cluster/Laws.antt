@@ -2,7 +2,7 @@
 use mathlib.Core.Path.{_≡_, refl, sym, ap, ap₂, _∙_}
 use Prim.Native.Nat.{ℕ, suc, _+_}
 use mathlib.Core.Bool.{Bool, true, false, not, cond, _&&_, true≢false}
-use mathlib.Core.List.{List, [], _∷_, _++_}
+use mathlib.Core.List.{List, [], _∷_, _++_, reverse, reverseAux}
 use lib.ListN.{length, take, drop, length-append}
 use lib.Dec.{T, eqb, eqb→eq}
 use Rattle.text.specs.Tests.{and-T, is-true, true-T, cases}
@@ -127,7 +127,7 @@ module _ (P : Profile) where
   unfolding further
   clusters-apart c d s e = clusters-first c (d ∷ s) ∙ rw e refl
 
-  -- ---- a scalar that joins nothing before it begins a cluster
+  -- ---- a boundary cuts the clusters in two
 
   add-behind : (w v : Bool) (d e : Scalar) (gs hs : List (List Scalar)) → addToCluster P w d (addToCluster P v e gs ++ hs) ≡ addToCluster P w d (addToCluster P v e gs) ++ hs
   unfolding addToCluster
@@ -136,27 +136,20 @@ module _ (P : Profile) where
   add-behind true true d e [] hs = refl
   add-behind true true d e (g ∷ gs) hs = refl
 
-  clusters-is : (s : List Scalar) → clusters P s ≡ clustersAfter P [] s
-  unfolding clusters
-  clusters-is s = refl
-
-  module _ (c : Scalar) (y : List Scalar) (alone : (before : List Scalar) → joins P before c ≡ false) where
-    split-more : (before : List Scalar) (d : Scalar) (x : List Scalar) → clustersAfter P (d ∷ before) (x ++ (c ∷ y)) ≡ clustersAfter P (d ∷ before) x ++ clusters P (c ∷ y)
-        → clustersAfter P before (d ∷ (x ++ (c ∷ y))) ≡ clustersAfter P before (d ∷ x) ++ clusters P (c ∷ y)
+  module _ (c : Scalar) (y : List Scalar) where
+    cut-after : (before x : List Scalar) → joins P (reverseAux x before) c ≡ false → clustersAfter P before (x ++ (c ∷ y)) ≡ clustersAfter P before x ++ clusters P (c ∷ y)
     unfolding clustersAfter joinsNext addToCluster
-    split-more before d [] r = rw (alone (d ∷ before)) (ap (λ (gs : List (List Scalar)). (d ∷ []) ∷ gs) r)
-    split-more before d (e ∷ x) r =
-        ap (addToCluster P (joins P (d ∷ before) e) d) r
-        ∙ add-behind (joins P (d ∷ before) e) (joinsNext P (e ∷ d ∷ before) x) d e (clustersAfter P (e ∷ d ∷ before) x) (clusters P (c ∷ y))
+    cut-after before [] e = restart before c y e
+    cut-after before (d ∷ []) e = rw (e, restart (d ∷ before) c y e) refl
+    cut-after before (d ∷ f ∷ x) e =
+        ap (addToCluster P (joins P (d ∷ before) f) d) (cut-after (d ∷ before) (f ∷ x) e)
+        ∙ add-behind (joins P (d ∷ before) f) (joinsNext P (f ∷ d ∷ before) x) d f (clustersAfter P (f ∷ d ∷ before) x) (clusters P (c ∷ y))
 
-    split-none : (before : List Scalar) → clusters P (c ∷ y) ≡ clustersAfter P before [] ++ clusters P (c ∷ y)
-    unfolding clustersAfter
-    split-none before = refl
+    -- the clusters before a boundary, and those behind it
+    pub clusters-cut : (x : List Scalar) → joins P (reverse x) c ≡ false → clusters P (x ++ (c ∷ y)) ≡ clusters P x ++ clusters P (c ∷ y)
+    unfolding clusters
+    clusters-cut x e = cut-after [] x e
 
-    split-after : (before x : List Scalar) → clustersAfter P before (x ++ (c ∷ y)) ≡ clustersAfter P before x ++ clusters P (c ∷ y)
-    split-after before [] = restart before c y (alone before) ∙ split-none before
-    split-after before (d ∷ x) = split-more before d x (split-after (d ∷ before) x)
-
-    -- the clusters before it, and those from it on
-    pub clusters-split : (x : List Scalar) → clusters P (x ++ (c ∷ y)) ≡ clusters P x ++ clusters P (c ∷ y)
-    clusters-split x = clusters-is (x ++ (c ∷ y)) ∙ split-after [] x ∙ ap (λ (gs : List (List Scalar)). gs ++ clusters P (c ∷ y)) (sym (clusters-is x))
+    -- of a scalar that joins nothing before it
+    pub clusters-split : ((before : List Scalar) → joins P before c ≡ false) → (x : List Scalar) → clusters P (x ++ (c ∷ y)) ≡ clusters P x ++ clusters P (c ∷ y)
+    clusters-split alone x = clusters-cut x (alone (reverse x))

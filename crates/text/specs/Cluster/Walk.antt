@@ -66,6 +66,10 @@ module _ (P : Profile) where
   unfolding firstSize firstOf
   first-size s g gs e = rw e (size-is g)
 
+  pub first-is : (s : List Scalar) → firstSize P s ≡ size (firstOf (clusters P s))
+  unfolding firstSize
+  first-is s = refl
+
   pub first-none : (s : List Scalar) → clusters P s ≡ [] → firstSize P s ≡ 0
   unfolding firstSize firstOf size
   first-none s e = rw e

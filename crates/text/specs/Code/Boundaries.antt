@@ -1,18 +1,20 @@
--- A byte below 80, LF apart, begins a cluster wherever it stands in a run.
+-- Scalars below 80 and the rules: which join nothing before them or behind them; a byte below 80, LF apart, begins a cluster wherever it stands in a run.
 use mathlib.Core.Path.{_≡_, refl, sym, ap, _∙_}
 use Prim.Native.Nat.{ℕ, zero, suc, _+_, _≤_, _<_}
 use native.Mathlib.Omega.{arith}
 use mathlib.Core.Bool.{Bool, true, false, not, _&&_, _||_, and-false}
+use mathlib.Core.Logic.{_≢_}
 use mathlib.Core.List.{List, [], _∷_, _++_}
 use lib.Dec.{T, eqb, ltb, ltb→lt}
 use lib.ListN.{length, getD, drop}
-use borrow.Author.Tests.{eqb-true, not-true}
+use borrow.Author.Tests.{eqb-true, eqb-false, ne-eqb, not-true}
 use Rattle.text.specs.Tests.{cases, and-T, is-true, true-T, every, every-one}
 use Rattle.text.specs.Utf8.{Scalar, decode, runOf, bytesOf}
 use Rattle.text.specs.Utf8.Ascii.{Split, ascii-splits}
 use Rattle.text.specs.Utf8.Runs.{run-rest, run-length}
-use Rattle.text.specs.Class.{cr, control, other, number, among, class01}
+use Rattle.text.specs.Class.{cr, lf, control, other, number, among, class01}
 use Rattle.text.specs.Cluster.{Context, joined, joins, context, clusters, joinAll}
+use Rattle.text.specs.Cluster.Ascii.{after-control}
 use Rattle.text.specs.Cluster.Laws.{clusters-all, clusters-split}
 use Rattle.text.specs.declared.class.Profile as code
 use Rattle.text.specs.Width.{profile01}
@@ -55,6 +57,70 @@ lone-joins : (f : code.Profile) (c : Scalar) → neverJoinsBefore (c .code) ≡ 
 unfolding joins profileOf profile01
 lone-joins f c e [] = refl
 lone-joins f c e (p ∷ ps) = alone-numbers (number (class01 (p .code))) (context (profileOf f) (p ∷ ps)) (number (class01 (c .code))) (lone-alone (c .code) e)
+
+-- CR alone has CR's class
+before-class : ℕ → Bool
+before-class x = eqb x 0x0D || not (eqb (number (class01 x)) 0)
+
+-- none of them joins what stands before it, but for LF behind CR
+after-class : ℕ → Bool
+after-class x = among (number (class01 x)) (cr ∷ lf ∷ control ∷ other ∷ [])
+
+before-each : T (every before-class 0 128)
+unfolding every before-class number class01
+before-each = tt
+
+after-each : T (every after-class 0 128)
+unfolding every after-class among number class01
+after-each = tt
+
+pub other-alone : alone 11 ≡ true
+unfolding among number
+other-alone = refl
+
+-- LF joins CR alone
+pub apart-numbers : (p : ℕ) (k : Context) (c : ℕ) → (p ≢ 0) → among c (cr ∷ lf ∷ control ∷ other ∷ []) ≡ true → joined p k c ≡ false
+unfolding joined among number
+apart-numbers p k c f g =
+    cases (eqb c 1)
+    (λ e. rw (eqb-true c 1 e, ne-eqb p 0 f) (cases (eqb p 2 || eqb p 1) (λ d. rw d refl) (λ d. rw d refl)))
+    (λ e. alone-numbers p k c (rw e at g))
+
+pub lone-low : (b : ℕ) → neverJoinsBefore b ≡ true → b < 128
+lone-low b e = ltb→lt _ _ (and-T (ltb b 0x80) (not (eqb b 0x0A)) (true-T e) .0)
+
+pub lone : (p : code.Profile) (b : ℕ) → neverJoinsBefore b ≡ true → alone (number (profileOf p .class b)) ≡ true
+unfolding profileOf
+lone p b e = lone-alone b e
+
+ascii-apart : (b a : ℕ) (k : Context) → b < 128 → a < 128 → (b ≢ 13) → joined (number (class01 b)) k (number (class01 a)) ≡ false
+unfolding before-class after-class
+ascii-apart b a k h g n =
+    let f : (eqb b 13 || not (eqb (number (class01 b)) 0)) ≡ true = every-one before-class 128 0 b before-each (omega arith) (omega arith) in
+    let m : not (eqb (number (class01 b)) 0) ≡ true = rw (ne-eqb b 13 n) at f in
+    apart-numbers (number (class01 b)) k (number (class01 a)) (eqb-false _ _ (not-true _ m)) (every-one after-class 128 0 a after-each (omega arith) (omega arith))
+
+-- behind a control below 20, CR apart, nothing joins
+break-class : ℕ → Bool
+break-class x = eqb x 0x0D || among (number (class01 x)) (lf ∷ control ∷ [])
+
+break-each : T (every break-class 0 0x20)
+unfolding every break-class among number class01
+break-each = tt
+
+control-breaks : (a : ℕ) (k : Context) (c : ℕ) → a < 0x20 → (a ≢ 13) → joined (number (class01 a)) k c ≡ false
+unfolding break-class
+control-breaks a k c h n = after-control (number (class01 a)) k c (rw (ne-eqb a 13 n) at (every-one break-class 0x20 0 a break-each (omega arith) (omega arith)))
+
+-- of two bytes below 80, the first not CR, no rule of the profile joins the second to the first
+pub apart : (p : code.Profile) (b a : ℕ) (k : Context) → b < 128 → a < 128 → (b ≢ 13) → joined (number (profileOf p .class b)) k (number (profileOf p .class a)) ≡ false
+unfolding profileOf
+apart p b a k h g n = ascii-apart b a k h g n
+
+-- nor anything to a control below 20 that is not CR
+pub breaks : (p : code.Profile) (a : ℕ) (k : Context) (c : ℕ) → a < 0x20 → (a ≢ 13) → joined (number (profileOf p .class a)) k c ≡ false
+unfolding profileOf
+breaks p a k c h n = control-breaks a k c h n
 
 -- the clusters of a run before byte n, the others being those of the run at byte n
 pub record Boundary (f : code.Profile) (s : List ℕ) (n : ℕ) : Type 0 where

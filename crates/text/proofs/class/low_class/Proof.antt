@@ -1,10 +1,11 @@
 use native.Mathlib.Omega.{arith}
 use mathlib.Core.Path.{_∙_}
 use Rattle.text.specs.Class.{controls, extends}
-use Rattle.text.proofs.Ascii.{clear, jamo-class, mark-class, other-class, quiet-test}
 use borrow.Author.Needs.{needs}
 use Rattle.text.proofs.class.low_class.Statement.{statement}
 use Rattle.text.proofs.class.low_class.Tie as tie
+use Rattle.text.specs.Class.Ranges.{clear}
+use Rattle.text.specs.Class.Document01.{jamo-class, mark-class, other-class, quiet-test}
 
 returns : tie.Need-returns
 returns c = search mark-class

@@ -2,11 +2,11 @@ use borrow.Author.Needs.{needs}
 use Rattle.text.specs.Code.{profileOf}
 use Rattle.text.specs.Utf8.{fits}
 use Rattle.text.specs.Width.{width01}
-use Rattle.text.proofs.Ascii.{letter-width, printable-width, syllable-width, wide-width}
 use Rattle.lending.specs.Conditions.{branch}
 use Rattle.text.specs.Tests.{in-range}
 use Rattle.text.proofs.width.width.Statement.{statement}
 use Rattle.text.proofs.width.width.Tie as tie
+use Rattle.text.specs.Class.Document01.{letter-width, printable-width, syllable-width, wide-width}
 
 is-printable-requires : tie.Need-is-printable-requires
 is-printable-requires c κs = search needs

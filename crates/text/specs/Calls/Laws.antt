@@ -1,0 +1,94 @@
+-- Questions put one after the other, and what a call that was accepted or refused leaves.
+use mathlib.Core.Path.{_≡_, refl, ap, _∙_}
+use Prim.Native.Nat.{ℕ, zero, suc, _-_, _<_}
+use native.Mathlib.Omega.{arith}
+use mathlib.Core.Bool.{Bool, true, false, _&&_}
+use mathlib.Core.List.{List, [], _∷_, _++_}
+use lib.ListN.{length, replicate}
+use lib.Dec.{T, ltb, ltb→lt}
+use Rattle.text.specs.Tests.{and-T, cases}
+use Rattle.text.specs.Class.{Profile}
+use Rattle.text.specs.Overstrike.{convert}
+use Rattle.text.specs.Calls.{Converted, Question, convertCall, counted, decide, lent, question1, question2}
+
+-- each refusal has a number
+abbrev pub numbered : List Question → Bool
+numbered [] = true
+numbered (q ∷ qs) = ltb 0 (q .refusal) && numbered qs
+
+pub decide-nil : decide [] ≡ 0
+unfolding decide
+decide-nil = refl
+
+pub decide-yes : (q : Question) (qs : List Question) → q .answer ≡ true → decide (q ∷ qs) ≡ decide qs
+unfolding decide
+decide-yes q qs e = rw e
+
+pub decide-no : (q : Question) (qs : List Question) → q .answer ≡ false → decide (q ∷ qs) ≡ q .refusal
+unfolding decide
+decide-no q qs e = rw e
+
+-- a question of those that all say yes, and the others
+pub first-yes : (q : Question) (qs : List Question) → T (ltb 0 (q .refusal)) → decide (q ∷ qs) ≡ 0 → (q .answer ≡ true) × (decide qs ≡ 0)
+first-yes q qs t e =
+    cases (q .answer)
+    (λ y. (y, rw (decide-yes q qs y) at e))
+    (λ y. absurd (let h : 0 < q .refusal = ltb→lt _ _ t in let z : q .refusal ≡ 0 = rw (decide-no q qs y) at e in omega arith))
+
+-- questions put before others: the first no of theirs decides, or else the others
+pub decided-before : (a b : List Question) (r : ℕ) → decide a ≡ suc r → decide (a ++ b) ≡ suc r
+decided-before [] b r e = absurd (omega (arith, decide-nil, e))
+decided-before (q ∷ a) b r e =
+    cases (q .answer)
+    (λ y. rw (decide-yes q (a ++ b) y) (decided-before a b r (rw (decide-yes q a y) at e)))
+    (λ y. rw (decide-no q (a ++ b) y) (rw (decide-no q a y) at e))
+
+pub decided-behind : (a b : List Question) → T (numbered a) → decide a ≡ 0 → decide (a ++ b) ≡ decide b
+decided-behind [] b t e = refl
+decided-behind (q ∷ a) b t e =
+    let w = and-T (ltb 0 (q .refusal)) (numbered a) t in
+    let y = first-yes q a (w .0) e in
+    rw (decide-yes q (a ++ b) (y .0)) (decided-behind a b (w .1) (y .1))
+
+-- ---- what is left in lent places, and the count
+
+pub lent-accepted : {A : Type 0} (blank : A) (n : ℕ) (xs : List A) → lent blank n xs 0 ≡ xs ++ replicate (n - length xs) blank
+unfolding lent
+lent-accepted blank n xs = refl
+
+pub lent-refused : {A : Type 0} (blank : A) (n : ℕ) (xs : List A) (r : ℕ) → lent blank n xs (suc r) ≡ replicate n blank
+unfolding lent
+lent-refused blank n xs r = refl
+
+pub counted-accepted : (n : ℕ) → counted n 0 ≡ n
+unfolding counted
+counted-accepted n = refl
+
+pub counted-refused : (n r : ℕ) → counted n (suc r) ≡ 0
+unfolding counted
+counted-refused n r = refl
+
+-- ---- the call `convert`
+
+module _ (P : Profile) (conv : ℕ) (line : List ℕ) where
+  -- what it leaves if it decides r
+  abbrev convertBy : ℕ → Converted
+  convertBy r = record { number = r; count = counted (length (convert P line)) r; conv = lent 0 conv (convert P line) r }
+
+  abbrev pub convertQuestions : List Question
+  convertQuestions = question1 line ∷ question2 conv line ∷ []
+
+  convert-by : convertCall P conv line ≡ convertBy (decide convertQuestions)
+  unfolding convertCall
+  convert-by = refl
+
+  pub convert-number : convertCall P conv line .number ≡ decide convertQuestions
+  convert-number = ap (λ (c : Converted). c .number) convert-by
+
+  pub convert-accepted : decide convertQuestions ≡ 0 → convertCall P conv line ≡ record { number = 0; count = length (convert P line); conv = convert P line ++ replicate (conv - length (convert P line)) 0 }
+  unfolding counted lent
+  convert-accepted e = convert-by ∙ ap convertBy e
+
+  pub convert-refused : (r : ℕ) → decide convertQuestions ≡ suc r → convertCall P conv line ≡ record { number = suc r; count = 0; conv = replicate conv 0 }
+  unfolding counted lent
+  convert-refused r e = convert-by ∙ ap convertBy e
