@@ -45,6 +45,7 @@ use Rattle.spans.specs.declared.sequence.Sequence.the-variants.{Missing,
 use Rattle.spans.specs.declared.sequence.Sequence.the-variants as sequence
 use Rattle.spans.specs.declared.sgr.NextOrder.{NextOrder}
 use Rattle.spans.specs.declared.sgr.NextOrder.the-variants.{Order, End}
+pub mod Laws
 
 -- ---- parameters
 

@@ -14,6 +14,7 @@ use Rattle.spans.specs.declared.Span as declared
 pub mod Laws
 pub mod Noise
 pub mod ContentLaw
+pub mod RecordSpans
 pub mod Steps
 pub mod Inside
 pub mod Few

@@ -32,7 +32,7 @@ module _ (size places : ℕ) (matches line : List ℕ) (a : Answer) (cs : List �
   pub number-is : readCall profile01 size places matches line .number ≡ a .number
   number-is = sym (ap (λ (x : Read). x .number) read)
 
-  count-none : (r : ℕ) → a .number ≡ suc r → a .count ≡ 0
+  pub count-none : (r : ℕ) → a .number ≡ suc r → a .count ≡ 0
   count-none r e = ap (λ (x : Read). x .count) (read ∙ read-refused profile01 size places matches line r (number-is ∙ e))
 
   module _ (fine : a .number ≡ 0) where
