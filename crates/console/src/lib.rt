@@ -5,7 +5,7 @@ ghost use Rattle.text.specs.Width.{profile01};
 ghost use Rattle.text.specs.Calls.{convertCall};
 ghost use Rattle.text.specs.Code.{converted};
 ghost use Rattle.spans.specs.Calls.{readCall};
-ghost use Rattle.spans.specs.Contracts.{readAs};
+ghost use Rattle.spans.specs.Calls.Contracts.{readAs};
 ghost use Rattle.rows.specs.Calls.{rowsCall, heightCall};
 ghost use Rattle.rows.specs.Calls.Contracts.{wrappedAs};
 ghost use Rattle.drawing.specs.Calls.{windowCall, rowCall};

@@ -10,6 +10,7 @@ use lib.ListN.{length, take, drop, getD, length-drop, drop-of-length-le, take-ap
 use lib.Seq.{take-nil, take-all, drop-cons}
 use lib.Dec.{leb, ltb}
 use borrow.Author.Tests.{le-leb, leb-true, leb-false, ltb-true, ltb-false, le-ltb}
+use Rattle.buffer.specs.Numbers.Laws.{smaller-left, smaller-right}
 use Rattle.text.specs.Tests.{cases, or-false}
 use Rattle.text.specs.Each.{all-nil, all-cons, all-split}
 use Rattle.text.specs.Utf8.{Scalar, ascii, asciis, decode, bytesOf}
@@ -146,8 +147,11 @@ module _ (f : code.Profile) where
       let h = all-printable s (ready .printable) in
       let b : bytesIn s start end ≡ take width (drop offset s) = part-is offset width start end s p q in
       let r : textIn s start end ≡ asciis (take width (drop offset s)) = ap (λ (l : List ℕ). runOf (decode l)) b ∙ run-printable (part-printable width offset s h) in
-      let l : (start ≤ length s) × (start ≤ offset) = cases (leb offset (length s)) (λ t. (omega (arith, rw t at p, leb-true offset (length s) t), omega (arith, rw t at p))) (λ t. (omega (arith, rw t at p), omega (arith, rw t at p, leb-false offset (length s) t))) in
-      let e : (start ≤ end) × (end ≤ length s) = cases (leb (offset + width) (length s)) (λ t. (omega (arith, rw t at q, l .1), omega (arith, rw t at q, leb-true (offset + width) (length s) t))) (λ t. (omega (arith, rw t at q, l .0), omega (arith, rw t at q))) in
+      let o : start ≤ offset = smaller-left offset (length s) start p in
+      let e : (start ≤ end) × (end ≤ length s) = (
+        cases (leb (offset + width) (length s)) (λ t. omega (arith, rw t at q)) (λ t. omega (arith, rw t at q, smaller-right offset (length s) start p)),
+        smaller-right (offset + width) (length s) end q,
+      ) in
       record {
         fits = record { ordered = e .0; inside = e .1; valid = ap bytesOf r ∙ asciis-bytes (take width (drop offset s)) ∙ sym b; before = omega arith; behind = omega arith };
         same = rw (run-printable h) (clip-printable offset width s h ∙ ap some (sym (append-nil (textIn s start end) ∙ r)));

@@ -20,8 +20,7 @@ use Rattle.spans.specs.Sequence.Laws.{parse-orders, parse-drawing, parse-some}
 use Rattle.spans.specs.Spans.{Content, text, control, invalid, unprintable, escape, tab, crlf, lf, Span, Record, aRecord, kindOf, matchOf, recordOf, records}
 use Rattle.spans.specs.Spans.ContentLaw.{sequenceIn, textIn, contentIn, contentOf}
 use Rattle.spans.specs.Spans.RecordSpans.{sequenceIn-found}
-use Rattle.spans.specs.Contracts.{ordersAt}
-use Rattle.spans.specs.Contracts.Laws.{orders-from}
+use Rattle.spans.specs.Sgr.Contracts.{ordersAt, orders-from}
 use Rattle.spans.specs.declared.sgr.Sgr.{Sgr}
 use Rattle.drawing.specs.Attributes as attributes
 use Rattle.drawing.specs.Attributes.{Style, file, match, currentMatch}

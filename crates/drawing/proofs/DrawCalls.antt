@@ -19,7 +19,7 @@ use Rattle.text.specs.declared.Column.{Column}
 use Rattle.spans.specs.Spans.{Span, Record, records}
 use Rattle.spans.specs.Spans.RecordSpans.{Held, spansIn-none, spansIn-records}
 use Rattle.spans.specs.Calls.{Read, noRecord, readCall}
-use Rattle.spans.specs.Contracts.{readAs}
+use Rattle.spans.specs.Calls.Contracts.{readAs}
 use Rattle.rows.specs.Calls.Contracts.{lineRoom}
 use Rattle.rows.specs.declared.wrap.Tally.{Tally}
 use Rattle.rows.specs.Calls.{modeAndWidth}

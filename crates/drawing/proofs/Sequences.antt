@@ -13,8 +13,8 @@ use Rattle.text.specs.Tests.{cases}
 use Rattle.text.specs.Class.{Profile}
 use Rattle.spans.specs.Sequence.{Sequence, sgr, eraseToEnd, ignored, hyperlink, lineDrawing, Found, found, missing, parse}
 use Rattle.spans.specs.Sequence.Laws.{parse-length, parse-link}
-use Rattle.spans.specs.Contracts.{told, ordersAt}
-use Rattle.spans.specs.Contracts.Laws.{told-link}
+use Rattle.spans.specs.Sgr.Contracts.{ordersAt}
+use Rattle.spans.specs.Sequence.Contracts.{sequenceOf, sequence-link}
 use Rattle.spans.specs.declared.sequence.Sequence as sequence
 use Rattle.spans.specs.declared.sequence.Sequence.the-variants as sequences
 use Rattle.drawing.specs.Attributes.{linked}
@@ -29,13 +29,13 @@ use Rattle.drawing.specs.declared.state.AttributeState.{AttributeState}
 slice-is : (line : List ℕ) (place : ℕ) → slice (place + 1) (length line) line ≡ drop (place + 1) line
 slice-is line place = ap (drop (place + 1)) (take-all (length line) line (omega arith))
 
-pub linkable : (line : List ℕ) (place : ℕ) (q : sequence.Sequence) → length line ≤ 32768 → place < length line → q ≡ told (parse (slice (place + 1) (length line) line)) → Linkable place q
+pub linkable : (line : List ℕ) (place : ℕ) (q : sequence.Sequence) → length line ≤ 32768 → place < length line → q ≡ sequenceOf (parse (slice (place + 1) (length line) line)) → Linkable place q
 linkable line place q h k e =
     let s : List ℕ = slice (place + 1) (length line) line in
     record {
       near = omega arith;
       from = λ p n m f.
-          let g : parse s ≡ found (hyperlink p n) m = told-link (parse s) p n m (sym e ∙ f) in
+          let g : parse s ≡ found (hyperlink p n) m = sequence-link (parse s) p n m (sym e ∙ f) in
           omega (arith, parse-link s p n m g, parse-length s (hyperlink p n) m g, ap length (slice-is line place), length-drop (place + 1) line);
     }
 
@@ -78,8 +78,8 @@ module _ (line : List ℕ) (kind place : ℕ) (t : AttributeState) where
         let q : recordSequence line kind place ≡ sgr (ordersAt line (record { at = place + 2; further = true })) = record-here line kind place here ∙ rw k refl in
         rw e record { state = λ P a b. rw q refl; torn = refl }
 
-    link-state : (f : Found) (P : Profile) (a b : ℕ) → stateOf (linkedBy t place (told f)) ≡ renderSequence P a b (stateOf t) place (linkIn f)
-    unfolding linkedBy told linkIn renderSequence stateOf
+    link-state : (f : Found) (P : Profile) (a b : ℕ) → stateOf (linkedBy t place (sequenceOf f)) ≡ renderSequence P a b (stateOf t) place (linkIn f)
+    unfolding linkedBy sequenceOf linkIn renderSequence stateOf
     link-state missing P a b = refl
     link-state (found (hyperlink p m) j) P a b = refl
     link-state (found (sgr os) j) P a b = refl
@@ -87,8 +87,8 @@ module _ (line : List ℕ) (kind place : ℕ) (t : AttributeState) where
     link-state (found ignored j) P a b = refl
     link-state (found (lineDrawing d) j) P a b = refl
 
-    link-torn : (f : Found) → linkedBy t place (told f) .torn ≡ t .torn
-    unfolding linkedBy told
+    link-torn : (f : Found) → linkedBy t place (sequenceOf f) .torn ≡ t .torn
+    unfolding linkedBy sequenceOf
     link-torn missing = refl
     link-torn (found (hyperlink p m) j) = refl
     link-torn (found (sgr os) j) = refl
@@ -96,9 +96,9 @@ module _ (line : List ℕ) (kind place : ℕ) (t : AttributeState) where
     link-torn (found ignored j) = refl
     link-torn (found (lineDrawing d) j) = refl
 
-    pub sequence-link : (r : AttributeState) (q : sequence.Sequence) → kind ≡ 7 → q ≡ told (parse (slice (place + 1) (length line) line)) → r ≡ linkedBy t place q → SequenceDone line kind place t r
+    pub sequence-link : (r : AttributeState) (q : sequence.Sequence) → kind ≡ 7 → q ≡ sequenceOf (parse (slice (place + 1) (length line) line)) → r ≡ linkedBy t place q → SequenceDone line kind place t r
     sequence-link r q k e f =
-        let g : r ≡ linkedBy t place (told (parse (drop (place + 1) line))) = f ∙ ap (linkedBy t place) (e ∙ ap (λ (l : List ℕ). told (parse l)) (slice-is line place)) in
+        let g : r ≡ linkedBy t place (sequenceOf (parse (drop (place + 1) line))) = f ∙ ap (linkedBy t place) (e ∙ ap (λ (l : List ℕ). sequenceOf (parse l)) (slice-is line place)) in
         let h : recordSequence line kind place ≡ linkIn (parse (drop (place + 1) line)) = record-here line kind place here ∙ rw k refl in
         record { state = λ P a b. ap stateOf g ∙ link-state (parse (drop (place + 1) line)) P a b ∙ ap (renderSequence P a b (stateOf t) place) (sym h); torn = ap (λ (x : AttributeState). x .torn) g ∙ link-torn (parse (drop (place + 1) line)) }
 

@@ -3,7 +3,7 @@ use mathlib.Core.Path.{_≡_, refl, sym, ap, ap₂, _∙_}
 use Prim.Native.Nat.{ℕ, zero, suc, _+_, _-_, _*_, _≤_, _<_}
 use native.Mathlib.Nat.{add-zero}
 use native.Mathlib.Omega.{arith}
-use mathlib.Core.Bool.{Bool, true, false, cond, not, _&&_, _||_}
+use mathlib.Core.Bool.{Bool, true, false, cond, not, _&&_, _||_, and-true}
 use mathlib.Core.List.{List, [], _∷_, _++_, append-assoc}
 use mathlib.Core.Option.{Option}
 use lib.ListN.{length, take}
@@ -43,10 +43,6 @@ use Rattle.drawing.proofs.WindowTexts.{encode-append, whole-append}
 column-cond : (b : Bool) (x y : Column) → cond b x y .0 ≡ cond b (x .0) (y .0)
 column-cond true x y = refl
 column-cond false x y = refl
-
-torn-last : (b : Bool) → (false || not b) ≡ not (b && true)
-torn-last true = refl
-torn-last false = refl
 
 -- ---- what is drawn before and behind the spans is whole
 
@@ -168,5 +164,5 @@ module _ (rs : List Record) (line : List ℕ) (q : Request) (count : ℕ) (enoug
         let u : r .torn ≡ (begun .state .torn || not (change.whole (x .changes))) = rw (c, i, ← enough .held) at (drew .torn) in
         rw m record {
           bytes = rw (encode-append (opening d) (x .changes ++ closing d (x .after))) (then-emit (sink l 0) (sink l′ (begun .at)) (sink l″ (r .at)) (encode (opening d)) (encode (x .changes ++ closing d (x .after))) (o .bytes) b);
-          torn = u ∙ rw (o .state, whole-append (opening d) (x .changes ++ closing d (x .after)), opening-whole d, whole-append (x .changes) (closing d (x .after)), closing-whole d (x .after)) (torn-last (change.whole (x .changes)));
+          torn = u ∙ rw (o .state, whole-append (opening d) (x .changes ++ closing d (x .after)), opening-whole d, whole-append (x .changes) (closing d (x .after)), closing-whole d (x .after)) (ap not (sym (and-true (change.whole (x .changes)))));
         }

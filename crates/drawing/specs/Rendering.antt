@@ -13,7 +13,7 @@ use Rattle.text.specs.Code.{profileOf}
 use Rattle.spans.specs.Sequence.{Sequence, sgr, eraseToEnd, ignored, hyperlink, lineDrawing, Found, found, missing, parse}
 use Rattle.spans.specs.Spans.{Record}
 use Rattle.spans.specs.Spans.ContentLaw.{textIn}
-use Rattle.spans.specs.Contracts.{ordersAt}
+use Rattle.spans.specs.Sgr.Contracts.{ordersAt}
 use Rattle.spans.specs.declared.sequence.Sequence as sequence
 use Rattle.spans.specs.declared.sequence.Sequence.the-variants as sequences
 use Rattle.drawing.specs.Marks.{byteMark, lineDrawn}

@@ -19,7 +19,7 @@ use Rattle.text.specs.declared.Answer.{Answer}
 use Rattle.spans.specs.Spans.{Span, spans, Record, records}
 use Rattle.spans.specs.Search as search
 use Rattle.spans.specs.Calls.{Read, readCall, noRecord}
-use Rattle.spans.specs.Contracts.{readAs}
+use Rattle.spans.specs.Calls.Contracts.{readAs}
 use Rattle.rows.specs.Rows.{Row, rows}
 use Rattle.rows.specs.Calls.{modeOf, modeAndWidth, numbersOf, rowsCall, heightCall}
 use Rattle.rows.specs.Calls.Laws.{height-refused, height-five, height-accepted, rows-refused, rows-five, rows-six, rows-accepted}

@@ -16,7 +16,7 @@ ghost use mathlib.Core.List.{[]};
 ghost use lib.ListN.{length};
 ghost use Rattle.text.specs.Width.{profile01};
 ghost use Rattle.spans.specs.Calls.{noRecord};
-ghost use Rattle.spans.specs.Contracts.{readAs};
+ghost use Rattle.spans.specs.Calls.Contracts.{readAs};
 ghost use Rattle.rows.specs.Calls.{modeAndWidth, rowsCall, heightCall};
 ghost use Rattle.buffer.specs.Sink.{cleared};
 ghost use Rattle.rows.specs.Calls.Contracts.{wrappingOf, decided, outcomeOf, answerOf, wrappedAs, Called};

@@ -22,10 +22,12 @@ use Rattle.text.specs.Utf8.Ascii.{ascii-run}
 use Rattle.text.specs.Utf8.Runs.{run-fits}
 use Rattle.text.specs.declared.class.Profile as code
 use Rattle.spans.specs.Sequence.{sgr, eraseToEnd, ignored, hyperlink, lineDrawing, Found, found, missing, parse}
-use Rattle.spans.specs.Spans.{control, unprintable, tab, crlf, lf, Seen, plain, special, escapeSeen, controlSeen, seen, kindOf}
-use Rattle.spans.specs.Spans.Steps.{isPlain, escape-special, plainCluster, plain-same}
-use Rattle.spans.specs.Contracts.{aLook, told, escapeLook, lookBytes}
-use Rattle.spans.specs.declared.reader.Look.{Look}
+use Rattle.spans.specs.Spans.{control, unprintable, tab, crlf, lf, ClusterKind, plain, special, escapeKind, controlKind, clusterKind, kindOf}
+use Rattle.spans.specs.Spans.FirstSpan.{isPlain, escape-special, plainCluster, plain-same}
+use Rattle.spans.specs.Sequence.Contracts.{sequenceOf}
+use Rattle.spans.specs.Reader.{aHead, escapeHead, headBytes}
+use Rattle.spans.specs.declared.reader.SpanHead.{SpanHead}
+use Rattle.spans.specs.declared.sequence.Sequence as sequence
 
 no-one : (n : ℕ) → eqb (suc (suc n)) 1 ≡ false
 no-one n = ne-eqb (suc (suc n)) 1 (λ e. omega arith)
@@ -34,23 +36,23 @@ no-two : (n : ℕ) → eqb (suc (suc (suc n))) 2 ≡ false
 no-two n = ne-eqb (suc (suc (suc n))) 2 (λ e. omega arith)
 
 -- a cluster that no earlier rule took
-lastSeen : List Scalar → ℕ → ℕ → Seen
-lastSeen g n w = cond (eqb w 0) (special (unprintable g) n) plain
+lastKind : List Scalar → ℕ → ℕ → ClusterKind
+lastKind g n w = cond (eqb w 0) (special (unprintable g) n) plain
 
 -- what a cluster of n bytes is, the first of them a and y, that is w columns wide, with f at an ESC
-seenOf : List Scalar → ℕ → ℕ → ℕ → ℕ → Found → Seen
-seenOf g n a y w f =
+kindBy : List Scalar → ℕ → ℕ → ℕ → ℕ → Found → ClusterKind
+kindBy g n a y w f =
     cond (eqb n 1)
-    (cond (eqb a 0x1B) (escapeSeen f) (cond (eqb a 0x0A) (special lf 1) (cond (eqb a 0x09) (special tab 1) (cond (leb a 0x1F || eqb a 0x7F) (special (control a) 1) (lastSeen g n w)))))
-    (cond (eqb n 2 && (eqb a 0x0D && eqb y 0x0A)) (special crlf 2) (lastSeen g n w))
+    (cond (eqb a 0x1B) (escapeKind f) (cond (eqb a 0x0A) (special lf 1) (cond (eqb a 0x09) (special tab 1) (cond (leb a 0x1F || eqb a 0x7F) (special (control a) 1) (lastKind g n w)))))
+    (cond (eqb n 2 && (eqb a 0x0D && eqb y 0x0A)) (special crlf 2) (lastKind g n w))
 
 module _ (P : Profile) (g : List Scalar) (y : ℕ) (s : List ℕ) where
-  seen-by : (b : List ℕ) → bytesOf g ≡ b → (1 < length b → y ≡ getD b 1 0) → seen P g s ≡ seenOf g (length b) (getD b 0 0) y (widthOf P g) (parse s)
-  unfolding seen controlSeen seenOf lastSeen
-  seen-by [] e f = rw e
-  seen-by (x ∷ []) e f = rw e (simp (and-true, and-false))
-  seen-by (x ∷ z ∷ []) e f = let q : y ≡ z = f (omega arith) in rw (e, q) (simp (and-true, and-false))
-  seen-by (x ∷ z ∷ w ∷ b) e f = rw e (simp (and-false, no-one, no-two))
+  kind-by : (b : List ℕ) → bytesOf g ≡ b → (1 < length b → y ≡ getD b 1 0) → clusterKind P g s ≡ kindBy g (length b) (getD b 0 0) y (widthOf P g) (parse s)
+  unfolding clusterKind controlKind kindBy lastKind
+  kind-by [] e f = rw e
+  kind-by (x ∷ []) e f = rw e (simp (and-true, and-false))
+  kind-by (x ∷ z ∷ []) e f = let q : y ≡ z = f (omega arith) in rw (e, q) (simp (and-true, and-false))
+  kind-by (x ∷ z ∷ w ∷ b) e f = rw e (simp (and-false, no-one, no-two))
 
 -- ---- plain
 
@@ -58,13 +60,13 @@ module _ (P : Profile) (g : List Scalar) (y : ℕ) (s : List ℕ) where
 plainBytes : ℕ → ℕ → ℕ → ℕ → Bool
 plainBytes n a b w = cond (eqb n 1 && (leb a 0x1F || eqb a 0x7F)) false (cond (eqb n 2 && (eqb a 0x0D && eqb b 0x0A)) false (not (eqb w 0)))
 
-last-plain : (g : List Scalar) (n w : ℕ) → isPlain (lastSeen g n w) ≡ not (eqb w 0)
-unfolding isPlain lastSeen
+last-plain : (g : List Scalar) (n w : ℕ) → isPlain (lastKind g n w) ≡ not (eqb w 0)
+unfolding isPlain lastKind
 last-plain g n w = cases (eqb w 0) (λ e. rw e) (λ e. rw e)
 
-seen-plain : (g : List Scalar) (n a y w : ℕ) (f : Found) → isPlain (seenOf g n a y w f) ≡ plainBytes n a y w
-unfolding seenOf plainBytes isPlain
-seen-plain g n a y w f =
+kind-plain : (g : List Scalar) (n a y w : ℕ) (f : Found) → isPlain (kindBy g n a y w f) ≡ plainBytes n a y w
+unfolding kindBy plainBytes isPlain
+kind-plain g n a y w f =
     cases (eqb n 1)
     (λ p. let q : eqb n 2 ≡ false = ne-eqb n 2 (λ e. omega (arith, eqb-true n 1 p)) in
     cases (eqb a 0x1B)
@@ -82,40 +84,40 @@ seen-plain g n a y w f =
 
 -- ---- the span
 
-unfoldable pub lookOf : Seen → Look
-lookOf plain = aLook 0 0
-lookOf (special c k) = aLook (kindOf c) k
+unfoldable pub kindHead : ClusterKind → SpanHead
+kindHead plain = aHead 0 0
+kindHead (special c k) = aHead (kindOf c) k
 
-last-look : (g : List Scalar) (n w : ℕ) → isPlain (lastSeen g n w) ≡ false → lookOf (lastSeen g n w) ≡ aLook 5 n
-unfolding isPlain lastSeen lookOf kindOf
-last-look g n w = cases (eqb w 0) (λ e. rw e (λ f. refl)) (λ e. rw e (λ f. absurd (let z : _≡_ {A = ℕ} 0 1 = cc in omega arith)))
+last-head : (g : List Scalar) (n w : ℕ) → isPlain (lastKind g n w) ≡ false → kindHead (lastKind g n w) ≡ aHead 5 n
+unfolding isPlain lastKind kindHead kindOf
+last-head g n w = cases (eqb w 0) (λ e. rw e (λ f. refl)) (λ e. rw e (λ f. absurd (let z : _≡_ {A = ℕ} 0 1 = cc in omega arith)))
 
-escape-look : (f : Found) → lookOf (escapeSeen f) ≡ escapeLook (told f)
-unfolding lookOf escapeSeen escapeLook told kindOf
-escape-look (found (sgr os) n) = refl
-escape-look (found eraseToEnd n) = refl
-escape-look (found ignored n) = refl
-escape-look (found (hyperlink a k) n) = refl
-escape-look (found (lineDrawing b) n) = refl
-escape-look missing = refl
+escape-head : (f : Found) → kindHead (escapeKind f) ≡ escapeHead (sequenceOf f)
+unfolding kindHead escapeKind escapeHead sequenceOf kindOf
+escape-head (found (sgr os) n) = refl
+escape-head (found eraseToEnd n) = refl
+escape-head (found ignored n) = refl
+escape-head (found (hyperlink a k) n) = refl
+escape-head (found (lineDrawing b) n) = refl
+escape-head missing = refl
 
-seen-look : (g : List Scalar) (n a y w : ℕ) (f : Found) → isPlain (seenOf g n a y w f) ≡ false → lookOf (seenOf g n a y w f) ≡ lookBytes n a y f
-unfolding seenOf lookBytes lookOf kindOf
-seen-look g n a y w f =
+kind-head : (g : List Scalar) (n a y w : ℕ) (f : Found) → isPlain (kindBy g n a y w f) ≡ false → kindHead (kindBy g n a y w f) ≡ headBytes n a y f
+unfolding kindBy headBytes kindHead kindOf
+kind-head g n a y w f =
     cases (eqb n 1)
     (λ p.
     cases (eqb a 0x1B)
-    (λ x. rw (p, x) (λ h. escape-look f))
+    (λ x. rw (p, x) (λ h. escape-head f))
     (λ x. cases (eqb a 0x0A)
     (λ z. rw (p, x, z) (λ h. refl))
     (λ z. cases (eqb a 0x09)
     (λ u. rw (p, x, z, u) (λ h. refl))
     (λ u. cases (leb a 0x1F || eqb a 0x7F)
     (λ v. rw (p, x, z, u, v) (λ h. refl))
-    (λ v. rw (p, x, z, u, v) (λ h. last-look g n w h ∙ ap (aLook 5) (eqb-true n 1 p)))))))
+    (λ v. rw (p, x, z, u, v) (λ h. last-head g n w h ∙ ap (aHead 5) (eqb-true n 1 p)))))))
     (λ p. cases (eqb n 2 && (eqb a 0x0D && eqb y 0x0A))
     (λ x. rw (p, x) (λ h. refl))
-    (λ x. rw (p, x) (λ h. last-look g n w h)))
+    (λ x. rw (p, x) (λ h. last-head g n w h)))
 
 -- ---- the first cluster of a line
 
@@ -126,17 +128,17 @@ module _ (P : Profile) (s : List ℕ) (g : List Scalar) (gs : List (List Scalar)
   pub first-byte : getD (bytesOf g) 0 0 ≡ getD s 0 0
   first-byte = ap (λ (l : List ℕ). getD l 0 0) (sym (cluster-bytes P s g gs e)) ∙ getD-take (length (bytesOf g)) s 0 0 (cluster-some P s g gs e)
 
-  by-seen : (t : List ℕ) → seen P g t ≡ seenOf g (length (bytesOf g)) (getD s 0 0) (getD s 1 0) (widthOf P g) (parse t)
-  by-seen t = rw (← first-byte) (seen-by P g (getD s 1 0) t (bytesOf g) refl second)
+  by-kind : (t : List ℕ) → clusterKind P g t ≡ kindBy g (length (bytesOf g)) (getD s 0 0) (getD s 1 0) (widthOf P g) (parse t)
+  by-kind t = rw (← first-byte) (kind-by P g (getD s 1 0) t (bytesOf g) refl second)
 
   plain-bytes : plainCluster P g ≡ plainBytes (length (bytesOf g)) (getD s 0 0) (getD s 1 0) (widthOf P g)
   unfolding plainCluster
-  plain-bytes = ap isPlain (by-seen []) ∙ seen-plain g (length (bytesOf g)) (getD s 0 0) (getD s 1 0) (widthOf P g) (parse [])
+  plain-bytes = ap isPlain (by-kind []) ∙ kind-plain g (length (bytesOf g)) (getD s 0 0) (getD s 1 0) (widthOf P g) (parse [])
 
-  pub look-bytes : (t : List ℕ) → plainCluster P g ≡ false → lookOf (seen P g t) ≡ lookBytes (length (bytesOf g)) (getD s 0 0) (getD s 1 0) (parse t)
-  look-bytes t h =
-      ap lookOf (by-seen t)
-      ∙ seen-look g (length (bytesOf g)) (getD s 0 0) (getD s 1 0) (widthOf P g) (parse t) (ap isPlain (sym (by-seen t)) ∙ plain-same P g t ∙ h)
+  pub head-bytes : (t : List ℕ) → plainCluster P g ≡ false → kindHead (clusterKind P g t) ≡ headBytes (length (bytesOf g)) (getD s 0 0) (getD s 1 0) (parse t)
+  head-bytes t h =
+      ap kindHead (by-kind t)
+      ∙ kind-head g (length (bytesOf g)) (getD s 0 0) (getD s 1 0) (widthOf P g) (parse t) (ap isPlain (sym (by-kind t)) ∙ plain-same P g t ∙ h)
 
 -- a control and CR LF have no width, so that the width alone says whether a cluster is plain
 module _ (p : code.Profile) (s : List ℕ) (g : List Scalar) (gs : List (List Scalar)) (e : clusters (profileOf p) (runOf (decode s)) ≡ g ∷ gs) where
@@ -184,3 +186,26 @@ module _ (p : code.Profile) (s : List ℕ) (g : List Scalar) (gs : List (List Sc
       (λ h. cases (eqb (length (bytesOf g)) 2 && (eqb (getD s 0 0) 0x0D && eqb (getD s 1 0) 0x0A))
       (λ k. rw (h, k, newline-none k))
       (λ k. rw (h, k)))
+
+-- ---- the head of a span, by branches
+
+pub on-sequence : (q x : sequence.Sequence) (z : SpanHead) → q ≡ x → z ≡ escapeHead x → z ≡ escapeHead q
+on-sequence q x z e f = rw e f
+
+-- the same chain as `headBytes`, where no sequence begins at an ESC
+unfoldable pub headOf : ℕ → ℕ → ℕ → SpanHead
+headOf n a b =
+    cond (eqb n 1)
+    (cond (eqb a 0x0A) (aHead 12 1) (cond (eqb a 0x09) (aHead 10 1) (cond (leb a 0x1F || eqb a 0x7F) (aHead 3 1) (aHead 5 1))))
+    (cond (eqb n 2 && (eqb a 0x0D && eqb b 0x0A)) (aHead 11 2) (aHead 5 n))
+
+heads-same : (n a b : ℕ) → headOf n a b ≡ headBytes n a b missing
+unfolding headOf headBytes escapeHead sequenceOf
+heads-same n a b = cases (eqb a 0x1B) (λ e. rw (eqb-true a 0x1B e)) (λ e. rw e)
+
+pub head-is : (n a b x y : ℕ) (z : SpanHead) → a ≡ x → b ≡ y → z ≡ headOf n a b → z ≡ headBytes n x y missing
+head-is n a b x y z e q p = p ∙ heads-same n a b ∙ rw (e, q)
+
+-- one byte says enough
+pub head-one : (n a x y : ℕ) (z : SpanHead) → a ≡ x → z ≡ headOf n a y → z ≡ headBytes n x y missing
+head-one n a x y z e p = head-is n a y x y z e refl p

@@ -5,8 +5,11 @@ pub mod ClusterBytes
 pub mod PlainClusters
 pub mod PrintableBytes
 pub mod SyllablesAndOthers
-pub mod ReaderLaws
+pub mod FirstClusters
+pub mod TextEnd
+pub mod SkippedClusters
+pub mod SpanSteps
 pub mod Searching
-pub mod StretchLaws
-pub mod CallLaws
+pub mod StretchCursor
+pub mod ReadCall
 pub mod Listed

@@ -11,18 +11,18 @@ use lib.Seq.{drop-cons}
 use lib.Dec.{eqb, leb, ltb, leb→le}
 use borrow.Author.Tests.{eq-eqb, ne-eqb, le-leb, lt-leb, leb-true, leb-false}
 use Rattle.text.specs.Tests.{cases, and-T, true-T}
-use Rattle.spans.specs.Sgr.{digit, parameters, allAtMost, allowed, stepOf, follow, ordersFrom, orders}
+use Rattle.spans.specs.Sgr.{digit, parameters, allAtMost, allowed, meaningAfter, follow, ordersFrom, orders}
 use Rattle.spans.specs.Sequence.{leading, parameterByte}
-use Rattle.spans.specs.Contracts.{more, numbers, Scanned, numbersAt, room, ParameterAt, parametersAt, ordersAt, ordersOf}
+use Rattle.spans.specs.Sgr.Contracts.{more, numbers, Scanned, numbersAt, room, ParameterAt, parametersAt, ordersAt, ordersOf}
 use Rattle.spans.specs.declared.sgr.Parameter.{Parameter}
 use Rattle.spans.specs.declared.sgr.Orders.{Orders}
 use Rattle.spans.specs.declared.sgr.NextOrder.{NextOrder}
 use Rattle.spans.specs.declared.sgr.NextOrder.the-variants.{Order, End}
 use Rattle.spans.specs.declared.sgr.Sgr.{Sgr}
-use Rattle.spans.specs.declared.sgr.Step.{Step}
-use Rattle.spans.specs.declared.sgr.Step.the-variants as step
-use Rattle.spans.specs.declared.sgr.Wait.{Wait}
-use Rattle.spans.specs.declared.sgr.Wait.the-variants.{Ready, WantKind, WantIndex, WantRed, WantGreen, WantBlue}
+use Rattle.spans.specs.declared.sgr.Meaning.{Meaning}
+use Rattle.spans.specs.declared.sgr.Meaning.the-variants as step
+use Rattle.spans.specs.declared.sgr.ColorState.{ColorState}
+use Rattle.spans.specs.declared.sgr.ColorState.the-variants.{Ready, WantKind, WantIndex, WantRed, WantGreen, WantBlue}
 use Rattle.spans.proofs.KnownParameters.{said-out}
 
 -- ---- numbers above 65,535 are alike
@@ -90,8 +90,8 @@ allowed-same : (s : List ℕ) → allowed (numbers 0 s) ≡ allowed (parameters 
 allowed-same s = sym (allowed-like (parameters 0 s) (numbers 0 s) (numbers-like s 0 0 refl))
 
 -- a number above 65,535 is unknown everywhere
-stop-out : (w : Wait) (p : ℕ) → 65535 < p → stepOf w p ≡ step.Stop
-unfolding stepOf
+stop-out : (w : ColorState) (p : ℕ) → 65535 < p → meaningAfter w p ≡ step.Unknown
+unfolding meaningAfter
 stop-out Ready p h = sym (said-out p (omega arith))
 stop-out (WantKind t) p h = rw (ne-eqb p 5 (λ e. omega arith), ne-eqb p 2 (λ e. omega arith))
 stop-out (WantIndex t) p h = rw (lt-leb p 255 (omega arith))
@@ -99,22 +99,22 @@ stop-out (WantRed t) p h = rw (lt-leb p 255 (omega arith))
 stop-out (WantGreen t r) p h = rw (lt-leb p 255 (omega arith))
 stop-out (WantBlue t r g) p h = rw (lt-leb p 255 (omega arith))
 
-step-like : (w : Wait) (p q : ℕ) → capped p ≡ capped q → stepOf w p ≡ stepOf w q
-step-like w p q e = alike p q e (λ f. ap (stepOf w) f) (λ f g. stop-out w p f ∙ sym (stop-out w q g))
+step-like : (w : ColorState) (p q : ℕ) → capped p ≡ capped q → meaningAfter w p ≡ meaningAfter w q
+step-like w p q e = alike p q e (λ f. ap (meaningAfter w) f) (λ f g. stop-out w p f ∙ sym (stop-out w q g))
 
-orders-like : (xs ys : List ℕ) → map capped xs ≡ map capped ys → (w : Wait) → ordersFrom w xs ≡ ordersFrom w ys
+orders-like : (xs ys : List ℕ) → map capped xs ≡ map capped ys → (w : ColorState) → ordersFrom w xs ≡ ordersFrom w ys
 unfolding ordersFrom
 orders-like [] [] e = λ w. refl
 orders-like [] (y ∷ ys) e = λ w. absurd (let z = ap length e in omega arith)
 orders-like (x ∷ xs) [] e = λ w. absurd (let z = ap length e in omega arith)
-orders-like (x ∷ xs) (y ∷ ys) e = λ w. rw (step-like w x y (cc)) (rest (stepOf w y) (λ w. orders-like xs ys (cc) w))
+orders-like (x ∷ xs) (y ∷ ys) e = λ w. rw (step-like w x y (cc)) (rest (meaningAfter w y) (λ w. orders-like xs ys (cc) w))
   where
-    rest : (t : Step) → ((w : Wait) → ordersFrom w xs ≡ ordersFrom w ys) → follow t (λ w. ordersFrom w xs) ≡ follow t (λ w. ordersFrom w ys)
+    rest : (t : Meaning) → ((w : ColorState) → ordersFrom w xs ≡ ordersFrom w ys) → follow t (λ w. ordersFrom w xs) ≡ follow t (λ w. ordersFrom w ys)
     rest (step.Order o) ih = ap (λ (l : List Sgr). o ∷ l) (ih Ready)
-    rest (step.Hold w) ih = ih w
-    rest step.Stop ih = refl
+    rest (step.Group w) ih = ih w
+    rest step.Unknown ih = refl
 
-pub orders-same : (w : Wait) (s : List ℕ) → ordersFrom w (numbers 0 s) ≡ ordersFrom w (parameters 0 s)
+pub orders-same : (w : ColorState) (s : List ℕ) → ordersFrom w (numbers 0 s) ≡ ordersFrom w (parameters 0 s)
 orders-same w s = sym (orders-like (parameters 0 s) (numbers 0 s) (numbers-like s 0 0 refl) w)
 
 -- ---- the bytes at a place
@@ -250,10 +250,10 @@ module _ (s : List ℕ) (at i v : ℕ) (y : Digits s at i v) where
 
 -- ---- the next order
 
-pub record Ordering (s : List ℕ) (c : Orders) (at : ℕ) (further : Bool) (w : Wait) : Type 0 where
+pub record Ordering (s : List ℕ) (c : Orders) (at : ℕ) (further : Bool) (w : ColorState) : Type 0 where
   pub todo : ordersFrom w (numbersAt s further at) ≡ ordersAt s c
 
-at-same : (w : Wait) (s : List ℕ) (further : Bool) (i : ℕ) → ordersFrom w (numbersAt s further i) ≡ ordersFrom w (cond further (parameters 0 (drop i s)) [])
+at-same : (w : ColorState) (s : List ℕ) (further : Bool) (i : ℕ) → ordersFrom w (numbersAt s further i) ≡ ordersFrom w (cond further (parameters 0 (drop i s)) [])
 unfolding numbersAt
 at-same w s true i = orders-same w (drop i s)
 at-same w s false i = refl
@@ -262,12 +262,12 @@ pub ordering-begins : (s : List ℕ) (c : Orders) → Ordering s c (c .at) (c .f
 unfolding ordersAt orders parametersAt
 ordering-begins s c = record { todo = at-same Ready s (c .further) (c .at) }
 
-module _ (s : List ℕ) (c : Orders) (at : ℕ) (further : Bool) (w : Wait) (z : Ordering s c at further w) (p : Parameter) (t : Step) (f : further ≡ true) (h : ParameterAt s at p) (e : t ≡ stepOf w (p .value)) where
+module _ (s : List ℕ) (c : Orders) (at : ℕ) (further : Bool) (w : ColorState) (z : Ordering s c at further w) (p : Parameter) (t : Meaning) (f : further ≡ true) (h : ParameterAt s at p) (e : t ≡ meaningAfter w (p .value)) where
   followed : follow t (λ w. ordersFrom w (numbersAt s (p .further) (p .next))) ≡ ordersAt s c
   unfolding ordersFrom numbersAt
-  followed = ap (λ (t : Step). follow t (λ w. ordersFrom w (numbersAt s (p .further) (p .next)))) e ∙ ap (ordersFrom w) (h .same) ∙ (rw f at (z .todo))
+  followed = ap (λ (t : Meaning). follow t (λ w. ordersFrom w (numbersAt s (p .further) (p .next)))) e ∙ ap (ordersFrom w) (h .same) ∙ (rw f at (z .todo))
 
-  pub ordering-more : (x : Wait) → t ≡ step.Hold x → Ordering s c (p .next) (p .further) x
+  pub ordering-more : (x : ColorState) → t ≡ step.Group x → Ordering s c (p .next) (p .further) x
   unfolding follow
   ordering-more x g = record { todo = rw g at followed }
 
@@ -279,10 +279,10 @@ module _ (s : List ℕ) (c : Orders) (at : ℕ) (further : Bool) (w : Wait) (z :
   unfolding follow ordersOf ordersAt orders parametersAt
   order-next o g = ap (λ (l : List Sgr). o ∷ l) (sym (at-same Ready s (p .further) (p .next))) ∙ rw g at followed
 
-  pub order-stops : t ≡ step.Stop → ordersOf s End ≡ ordersAt s c
+  pub order-stops : t ≡ step.Unknown → ordersOf s End ≡ ordersAt s c
   unfolding follow ordersOf
   order-stops g = rw g at followed
 
-pub order-ends : (s : List ℕ) (c : Orders) (at : ℕ) (further : Bool) (w : Wait) → Ordering s c at further w → further ≡ false → ordersOf s End ≡ ordersAt s c
+pub order-ends : (s : List ℕ) (c : Orders) (at : ℕ) (further : Bool) (w : ColorState) → Ordering s c at further w → further ≡ false → ordersOf s End ≡ ordersAt s c
 unfolding ordersFrom numbersAt ordersOf
 order-ends s c at further w z f = rw f at (z .todo)

@@ -28,8 +28,8 @@ use Rattle.text.specs.Code.Profile01.{ascii-classes, syllable-columns}
 use Rattle.text.specs.TextParts.{textAt}
 use Rattle.text.specs.TextParts.Laws.{ascii-at}
 use Rattle.text.specs.declared.class.Profile as code
-use Rattle.spans.specs.Spans.Steps.{plainCluster, plainSize}
-use Rattle.spans.specs.Contracts.{c0NotCr, clustersAt, PlainTo, PrintableTo, printableSize, leavesSyllable, syllablesSize, runAt, SyllablesTo}
+use Rattle.spans.specs.Spans.FirstSpan.{plainCluster, plainSize}
+use Rattle.spans.specs.Reader.{c0NotCr, clustersAt, PlainTo, PrintableTo, printableSize, leavesSyllable, syllablesSize, runAt, SyllablesTo}
 use Rattle.spans.proofs.ClusterBytes.{plain-width}
 
 pub plain-here : (P : Profile) (t : List ℕ) (at : ℕ) → at ≤ length t → PlainTo P t at at

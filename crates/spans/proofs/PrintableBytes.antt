@@ -13,7 +13,7 @@ use Rattle.text.specs.Tests.{cases}
 use Rattle.text.specs.Class.Ascii.{printable-range}
 use Rattle.text.specs.Code.{profileOf, printable}
 use Rattle.text.specs.declared.class.Profile as code
-use Rattle.spans.specs.Contracts.{PrintableTo, printableSize}
+use Rattle.spans.specs.Reader.{PrintableTo, printableSize}
 use Rattle.spans.proofs.PlainClusters.{printable-to}
 
 two-bytes : (t : List ℕ) (i : ℕ) → i + 1 < length t → drop i t ≡ getD t i 0 ∷ getD t (i + 1) 0 ∷ drop (suc (i + 1)) t

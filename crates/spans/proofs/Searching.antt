@@ -14,26 +14,27 @@ use borrow.Author.Tests.{eq-eqb, ne-eqb, lt-ltb, le-ltb}
 use Rattle.text.specs.Tests.{cases, and-T, true-T}
 use Rattle.spans.specs.Sequence.{leading, past}
 use Rattle.spans.specs.Search.{Stretch, stretch, sequenceByte, escapeMatch, addStretch, escapesFrom, trimmed, escapes, lengthOf, searchedLength, inOrder, offsetFrom}
-use Rattle.spans.specs.Contracts.{Skipped, Small, Matching, escapesAt, escapesOf, Lies, EscapeAt, EscapesLength, pairInOrder, offsetOn, OffsetsFrom, OffsetReady, OffsetAt}
+use Rattle.spans.specs.Sequence.Contracts.{Skipped}
+use Rattle.spans.specs.Search.Contracts.{EscapeMatchReady, EscapeMatched, escapesAt, escapesOf, EscapeInside, NextEscape, EscapesLength, pairInOrder, offsetOn, OffsetsFrom, OffsetReady, OffsetAt}
 use Rattle.spans.specs.declared.search.Escape.{Escape}
 use Rattle.spans.specs.declared.search.Offsets.{Offsets}
 
 -- ---- the match at a place
 
-module _ (s : List ℕ) (at : ℕ) (z : Small s at) where
+module _ (s : List ℕ) (at : ℕ) (z : EscapeMatchReady s at) where
   a-byte : (i : ℕ) → getD (drop at s) i 0 ≡ getD s (at + i) 0
   a-byte i = getD-drop at s i 0
 
   match-zero : (x : Bool) (n : ℕ) → x ≡ false → 0 ≡ cond x (3 + n) 0
   match-zero x n e = rw e
 
-  pub match-other : (a : ℕ) → a ≡ getD s at 0 → (a ≡ 0x1B → ⊥) → Matching s at 0
+  pub match-other : (a : ℕ) → a ≡ getD s at 0 → (a ≡ 0x1B → ⊥) → EscapeMatched s at 0
   unfolding escapeMatch
   match-other a e h =
       let d : getD (drop at s) 0 0 ≡ a = a-byte 0 ∙ ap (λ (i : ℕ). getD s i 0) (add-zero at) ∙ sym e in
       record { same = rw (d, ne-eqb a 0x1B h); fits = omega (arith, z .here) }
 
-  pub match-alone : (b : ℕ) → b ≡ getD s (at + 1) 0 → (b ≡ 0x5B → ⊥) → Matching s at 0
+  pub match-alone : (b : ℕ) → b ≡ getD s (at + 1) 0 → (b ≡ 0x5B → ⊥) → EscapeMatched s at 0
   unfolding escapeMatch
   match-alone b e h =
       let d : getD (drop at s) 1 0 ≡ b = a-byte 1 ∙ sym e in
@@ -50,14 +51,14 @@ module _ (s : List ℕ) (at : ℕ) (z : Small s at) where
         let h : getD (drop at s) (2 + (e - (at + 2))) 0 ≡ f = a-byte (2 + (e - (at + 2))) ∙ ap (λ (j : ℕ). getD s j 0) i ∙ sym v in
         rw (n, d, g, h)
 
-    pub match-some : (leb (e - (at + 2)) 32 && eqb f 0x6D) ≡ true → Matching s at (3 + (e - (at + 2)))
+    pub match-some : (leb (e - (at + 2)) 32 && eqb f 0x6D) ≡ true → EscapeMatched s at (3 + (e - (at + 2)))
     match-some w =
         let m : f ≡ 0x6D = eqb→eq f 0x6D (and-T (leb (e - (at + 2)) 32) (eqb f 0x6D) (true-T w) .1) in
         let i : e < length s =
         cases (ltb e (length s)) (λ l. ltb→lt _ _ (true-T l)) (λ l. absurd (let o : getD s e 0 ≡ 0 = List·getD-eq-default s 0 (nltb→le _ _ (rw l tt)) in omega arith)) in
         record { same = sym (match-is ∙ rw w); fits = omega (arith, k .up) }
 
-    pub match-none : (leb (e - (at + 2)) 32 && eqb f 0x6D) ≡ false → Matching s at 0
+    pub match-none : (leb (e - (at + 2)) 32 && eqb f 0x6D) ≡ false → EscapeMatched s at 0
     match-none w = record { same = sym (match-is ∙ rw w); fits = omega (arith, z .here) }
 
 -- ---- the next match
@@ -94,12 +95,12 @@ pub escape-begins : (s : List ℕ) (at : ℕ) → EscapeLoop s at at
 escape-begins s at = record { same = refl; low = omega arith }
 
 module _ (s : List ℕ) (at i : ℕ) (z : EscapeLoop s at i) where
-  pub escape-more : (n : ℕ) → i < length s → Matching s i n → n ≡ 0 → EscapeLoop s at (i + 1)
+  pub escape-more : (n : ℕ) → i < length s → EscapeMatched s i n → n ≡ 0 → EscapeLoop s at (i + 1)
   unfolding addStretch
   escape-more n h m e =
       record { same = ap (escapesAt s) (add-one i) ∙ sym (escapes-at s i n h (m .same) ∙ rw e) ∙ z .same; low = omega (arith, z .low) }
 
-  pub escape-found : (n : ℕ) → i < length s → Matching s i n → (n ≡ 0 → ⊥) → EscapeAt s at (record { from = i; upto = i + n; found = true })
+  pub escape-found : (n : ℕ) → i < length s → EscapeMatched s i n → (n ≡ 0 → ⊥) → NextEscape s at (record { from = i; upto = i + n; found = true })
   unfolding escapesOf
   escape-found n h m e =
       record {
@@ -107,7 +108,7 @@ module _ (s : List ℕ) (at i : ℕ) (z : EscapeLoop s at i) where
         lies = λ t. record { low = z .low; some = omega arith; inside = m .fits };
       }
 
-  pub escape-past : length s ≤ i → EscapeAt s at (record { from = i; upto = i; found = false })
+  pub escape-past : length s ≤ i → NextEscape s at (record { from = i; upto = i; found = false })
   unfolding escapesOf
   escape-past h = record { same = sym (escapes-none s i h) ∙ z .same; lies = λ t. absurd (let o : _≡_ {A = ℕ} 0 1 = cc in omega arith) }
 
@@ -182,11 +183,11 @@ pub length-begins : (s : List ℕ) → LengthLoop s 0 0
 length-begins s = record { same = omega arith; few = omega arith; inside = omega arith }
 
 module _ (s : List ℕ) (at sum : ℕ) (z : LengthLoop s at sum) where
-  length-rest : (e : Escape) → EscapeAt s at e → e .found ≡ true → lengthOf (escapesAt s at) ≡ e .upto - e .from + lengthOf (escapesAt s (e .upto))
+  length-rest : (e : Escape) → NextEscape s at e → e .found ≡ true → lengthOf (escapesAt s at) ≡ e .upto - e .from + lengthOf (escapesAt s (e .upto))
   unfolding escapesOf lengthOf
   length-rest e m f = ap lengthOf (sym (m .same)) ∙ rw f
 
-  module _ (e : Escape) (m : EscapeAt s at e) (f : e .found ≡ true) where
+  module _ (e : Escape) (m : NextEscape s at e) (f : e .found ≡ true) where
     pub length-more : LengthLoop s (e .upto) (sum + (e .upto - e .from))
     length-more =
         let l = m .lies f in
@@ -198,7 +199,7 @@ module _ (s : List ℕ) (at sum : ℕ) (z : LengthLoop s at sum) where
     pub length-room : (e .from ≤ e .upto) × (sum + (e .upto - e .from) ≤ length s)
     length-room = let l = m .lies f in (omega (arith, l .some), omega (arith, z .few, l .low, l .some, l .inside))
 
-  pub length-ends : (e : Escape) → EscapeAt s at e → e .found ≡ false → EscapesLength s sum
+  pub length-ends : (e : Escape) → NextEscape s at e → e .found ≡ false → EscapesLength s sum
   unfolding escapesOf lengthOf
   length-ends e m f =
       let k : lengthOf (escapesAt s at) ≡ 0 = ap lengthOf (sym (m .same)) ∙ rw f in
@@ -275,7 +276,7 @@ module _ (m : List ℕ) (most i e : ℕ) (z : OrderLoop m most i e) where
 
 -- ---- convert_offset
 
-pub offsets-begin : (s : List ℕ) (e : Escape) → EscapeAt s 0 e → OffsetsFrom s 0 (record { origin = 0; passed = 0; next = e })
+pub offsets-begin : (s : List ℕ) (e : Escape) → NextEscape s 0 e → OffsetsFrom s 0 (record { origin = 0; passed = 0; next = e })
 unfolding offsetOn
 offsets-begin s e m =
     record {
@@ -322,7 +323,7 @@ module _ (s : List ℕ) (x : ℕ) (o : Offsets) (next : Escape) (z : OffsetLoop 
           from = z .from;
         }
 
-    lies-next : Lies s (o .origin) next
+    lies-next : EscapeInside s (o .origin) next
     lies-next = rw (z .kept) (z .from .lies found-next)
 
     pub offset-order : o .origin ≤ next .from
@@ -331,7 +332,7 @@ module _ (s : List ℕ) (x : ℕ) (o : Offsets) (next : Escape) (z : OffsetLoop 
     pub offset-passed : next .from ≤ o .origin + (x - o .passed) → o .passed + (next .from - o .origin) ≤ x
     offset-passed h = omega (arith, lies-next .low, z .from .passed)
 
-    pub offset-again : (e : Escape) → next .from ≤ o .origin + (x - o .passed) → EscapeAt s (next .upto) e
+    pub offset-again : (e : Escape) → next .from ≤ o .origin + (x - o .passed) → NextEscape s (next .upto) e
         → OffsetLoop s x (record { origin = next .upto; passed = o .passed + (next .from - o .origin); next = e }) e
     unfolding offsetOn offsetFrom
     offset-again e h m =

@@ -11,7 +11,8 @@ use lib.Seq.{drop-cons, take-all, slice, drop-nil, take-nil, getD-drop}
 use lib.Dec.{eqb}
 use Rattle.spans.specs.Sgr.{parameters, orders}
 use Rattle.spans.specs.Sequence.{Sequence, ignored, Found, found, missing, leading, past, ifKnown, erase, final, charset, csi, uriByte, idByte, closed, osc, parse}
-use Rattle.spans.specs.Contracts.{told, Skipped, uriAt, Scanned, ordersOf, ordersAt, parametersAt}
+use Rattle.spans.specs.Sgr.Contracts.{Scanned, ordersOf, ordersAt, parametersAt}
+use Rattle.spans.specs.Sequence.Contracts.{sequenceOf, Skipped, uriAt}
 use Rattle.spans.specs.declared.sequence.Sequence as code
 use Rattle.spans.specs.declared.sequence.Sequence.the-variants.{Missing}
 use Rattle.spans.specs.declared.sequence.Sequence.the-variants as sequence
@@ -21,11 +22,11 @@ use Rattle.spans.specs.declared.sgr.Orders.{Orders}
 use Rattle.spans.specs.declared.sgr.NextOrder.{NextOrder}
 use Rattle.spans.specs.declared.sgr.NextOrder.the-variants.{Order, End}
 
-pub told-true : (b : Bool) (x y : Found) (z : code.Sequence) → b ≡ true → z ≡ told x → z ≡ told (cond b x y)
-told-true b x y z p q = rw p q
+pub found-true : (b : Bool) (x y : Found) (z : code.Sequence) → b ≡ true → z ≡ sequenceOf x → z ≡ sequenceOf (cond b x y)
+found-true b x y z p q = rw p q
 
-pub told-false : (b : Bool) (x y : Found) (z : code.Sequence) → b ≡ false → z ≡ told y → z ≡ told (cond b x y)
-told-false b x y z p q = rw p q
+pub found-false : (b : Bool) (x y : Found) (z : code.Sequence) → b ≡ false → z ≡ sequenceOf y → z ≡ sequenceOf (cond b x y)
+found-false b x y z p q = rw p q
 
 -- ---- bytes that pass a test
 
@@ -58,16 +59,16 @@ module _ (p : ℕ → Bool) (s : List ℕ) where
 
 -- ---- behind `ESC [`
 
-known-from : (os : List Sgr) (n : ℕ) (o : Sgr) (rest : List Sgr) → o ∷ rest ≡ os → sequence.Sgr (3 + n) ≡ told (ifKnown os n)
-unfolding told ifKnown
+known-from : (os : List Sgr) (n : ℕ) (o : Sgr) (rest : List Sgr) → o ∷ rest ≡ os → sequence.Sgr (3 + n) ≡ sequenceOf (ifKnown os n)
+unfolding sequenceOf ifKnown
 known-from os n o rest e = rw (← e)
 
-pub known-some : (s : List ℕ) (n : ℕ) (x : NextOrder) (o : Sgr) (c : Orders) → ordersOf s x ≡ ordersAt s (record { at = 0; further = true }) → x ≡ Order o c → sequence.Sgr (3 + n) ≡ told (ifKnown (orders (parameters 0 s)) n)
+pub known-some : (s : List ℕ) (n : ℕ) (x : NextOrder) (o : Sgr) (c : Orders) → ordersOf s x ≡ ordersAt s (record { at = 0; further = true }) → x ≡ Order o c → sequence.Sgr (3 + n) ≡ sequenceOf (ifKnown (orders (parameters 0 s)) n)
 unfolding ordersOf ordersAt parametersAt
 known-some s n x o c e f = known-from (orders (parameters 0 s)) n o (ordersAt s c) (rw f at e)
 
-pub known-none : (s : List ℕ) (n : ℕ) (x : NextOrder) → ordersOf s x ≡ ordersAt s (record { at = 0; further = true }) → x ≡ End → Missing ≡ told (ifKnown (orders (parameters 0 s)) n)
-unfolding ordersOf ordersAt parametersAt told ifKnown
+pub known-none : (s : List ℕ) (n : ℕ) (x : NextOrder) → ordersOf s x ≡ ordersAt s (record { at = 0; further = true }) → x ≡ End → Missing ≡ sequenceOf (ifKnown (orders (parameters 0 s)) n)
+unfolding ordersOf ordersAt parametersAt sequenceOf ifKnown
 known-none s n x e f = let g : [] ≡ orders (parameters 0 s) = rw f at e in rw (← g)
 
 -- `csi`, where the scan gave n, the final byte is f, and whether the parameters are allowed is w
@@ -76,34 +77,34 @@ csiOf s n f w =
     cond (eqb f 0x6D) (cond w (ifKnown (orders (parameters 0 s)) n) missing)
     (cond (eqb f 0x4B) (erase n (getD s 0 0)) (cond (final f) (found ignored (3 + n)) missing))
 
-pub csi-is : (s : List ℕ) (p : Scan) (f : ℕ) (z : code.Sequence) → Scanned s p → f ≡ getD s (p .len) 0 → z ≡ told (csiOf s (p .len) f (p .fine)) → z ≡ told (csi s)
+pub csi-is : (s : List ℕ) (p : Scan) (f : ℕ) (z : code.Sequence) → Scanned s p → f ≡ getD s (p .len) 0 → z ≡ sequenceOf (csiOf s (p .len) f (p .fine)) → z ≡ sequenceOf (csi s)
 unfolding csi csiOf
 csi-is s p f z k e q = rw (← (k .len), ← e, ← (k .fine)) q
 
-pub erase-as : (n a b : ℕ) (z : code.Sequence) → z ≡ told (erase n a) → a ≡ b → z ≡ told (erase n b)
+pub erase-as : (n a b : ℕ) (z : code.Sequence) → z ≡ sequenceOf (erase n a) → a ≡ b → z ≡ sequenceOf (erase n b)
 erase-as n a b z e q = rw (← q) e
 
 -- ---- behind `ESC ]`
 
-pub uri-is : (s : List ℕ) (m e b c : ℕ) (z : code.Sequence) → Skipped uriByte s m e → b ≡ getD s e 0 → c ≡ getD s (e + 1) 0 → z ≡ told (closed m e b c) → z ≡ told (uriAt s m)
+pub uri-is : (s : List ℕ) (m e b c : ℕ) (z : code.Sequence) → Skipped uriByte s m e → b ≡ getD s e 0 → c ≡ getD s (e + 1) 0 → z ≡ sequenceOf (closed m e b c) → z ≡ sequenceOf (uriAt s m)
 unfolding uriAt
 uri-is s m e b c z k q r p = rw (← (k .len), ← q, ← r) p
 
 -- a byte 07 says enough
-pub uri-bell : (s : List ℕ) (m e b : ℕ) (z : code.Sequence) → Skipped uriByte s m e → b ≡ getD s e 0 → z ≡ told (closed m e b (getD s (e + 1) 0)) → z ≡ told (uriAt s m)
+pub uri-bell : (s : List ℕ) (m e b : ℕ) (z : code.Sequence) → Skipped uriByte s m e → b ≡ getD s e 0 → z ≡ sequenceOf (closed m e b (getD s (e + 1) 0)) → z ≡ sequenceOf (uriAt s m)
 uri-bell s m e b z k q p = uri-is s m e b (getD s (e + 1) 0) z k q refl p
 
 unfoldable pub oscOf : List ℕ → ℕ → ℕ → ℕ → ℕ → Found
 oscOf s i a b c = cond (eqb a 0x38 && (eqb b 0x3B && eqb c 0x3B)) (uriAt s (i + 1)) missing
 
-pub osc-is : (s : List ℕ) (i a b c : ℕ) (z : code.Sequence) → Skipped idByte s 2 i → a ≡ getD s 0 0 → b ≡ getD s 1 0 → c ≡ getD s i 0 → z ≡ told (oscOf s i a b c) → z ≡ told (osc s)
+pub osc-is : (s : List ℕ) (i a b c : ℕ) (z : code.Sequence) → Skipped idByte s 2 i → a ≡ getD s 0 0 → b ≡ getD s 1 0 → c ≡ getD s i 0 → z ≡ sequenceOf (oscOf s i a b c) → z ≡ sequenceOf (osc s)
 unfolding osc oscOf uriAt
 osc-is s i a b c z k e f g p = rw (← (k .len), ← e, ← f, ← g) p
 
 -- ---- behind ESC
 
-pub parse-none : (s : List ℕ) → length s ≡ 0 → Missing ≡ told (parse s)
-unfolding parse told
+pub parse-none : (s : List ℕ) → length s ≡ 0 → Missing ≡ sequenceOf (parse s)
+unfolding parse sequenceOf
 parse-none [] h = refl
 parse-none (b ∷ s) h = absurd (omega arith)
 
@@ -111,13 +112,13 @@ parse-none (b ∷ s) h = absurd (omega arith)
 rest-is : (s : List ℕ) → take (length s - 1) (drop 1 s) ≡ drop 1 s
 rest-is s = take-all (length s - 1) (drop 1 s) (rw length-drop (omega arith))
 
-pub csi-rest : (s : List ℕ) (z : code.Sequence) → z ≡ told (csi (take (length s - 1) (drop 1 s))) → z ≡ told (csi (drop 1 s))
+pub csi-rest : (s : List ℕ) (z : code.Sequence) → z ≡ sequenceOf (csi (take (length s - 1) (drop 1 s))) → z ≡ sequenceOf (csi (drop 1 s))
 csi-rest s z e = rw (rest-is s) at e
 
-pub osc-rest : (s : List ℕ) (z : code.Sequence) → z ≡ told (osc (take (length s - 1) (drop 1 s))) → z ≡ told (osc (drop 1 s))
+pub osc-rest : (s : List ℕ) (z : code.Sequence) → z ≡ sequenceOf (osc (take (length s - 1) (drop 1 s))) → z ≡ sequenceOf (osc (drop 1 s))
 osc-rest s z e = rw (rest-is s) at e
 
-pub charset-rest : (s : List ℕ) (b : ℕ) (z : code.Sequence) → z ≡ told (charset (b ∷ [])) → b ≡ getD s 1 0 → z ≡ told (charset (drop 1 s))
+pub charset-rest : (s : List ℕ) (b : ℕ) (z : code.Sequence) → z ≡ sequenceOf (charset (b ∷ [])) → b ≡ getD s 1 0 → z ≡ sequenceOf (charset (drop 1 s))
 unfolding charset
 charset-rest s b z e q = let d : getD (drop 1 s) 0 0 ≡ getD s 1 0 = getD-drop 1 s 0 0 in rw (d, ← q) e
 
@@ -128,7 +129,7 @@ part-slice (x ∷ l) zero e = rw sub-zero
 part-slice (x ∷ l) (suc a) zero = rw zero-sub
 part-slice (x ∷ l) (suc a) (suc e) = rw suc-sub-suc (part-slice l a e)
 
-pub parse-part : (l : List ℕ) (a e : ℕ) (z : code.Sequence) → z ≡ told (parse (take (e - a) (drop a l))) → z ≡ told (parse (slice a e l))
+pub parse-part : (l : List ℕ) (a e : ℕ) (z : code.Sequence) → z ≡ sequenceOf (parse (take (e - a) (drop a l))) → z ≡ sequenceOf (parse (slice a e l))
 parse-part l a e z q = rw (part-slice l a e) at q
 
-pub ruleset telling = (told-false, told-true)
+pub ruleset telling = (found-false, found-true)

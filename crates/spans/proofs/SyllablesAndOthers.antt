@@ -23,7 +23,7 @@ use Rattle.text.specs.Scalar.Laws.{NoScalar, PackedScalar, packed-scalar, packe
 use Rattle.text.specs.TextParts.{textAt}
 use Rattle.text.specs.TextParts.Laws.{ascii-at}
 use Rattle.text.specs.declared.class.Profile as code
-use Rattle.spans.specs.Contracts.{SyllablesTo, leavesSyllable, runAt, syllablesSize}
+use Rattle.spans.specs.Reader.{SyllablesTo, leavesSyllable, runAt, syllablesSize}
 use Rattle.spans.proofs.PlainClusters.{syllables-to}
 
 module _ (p : code.Profile) (t : List ℕ) (at : ℕ) where

@@ -9,6 +9,7 @@ use Rattle.text.specs.Calls.{Question, ask, decide, lent, counted, question1, q
 use Rattle.spans.specs.Spans.{Span, Record, aRecord, records}
 use Rattle.spans.specs.Search.{read, inOrder, searchedLength}
 pub mod Laws
+pub mod Contracts
 
 -- the match ranges, of the converted line s
 abbrev pub question3 : List ℕ → List ℕ → Question

@@ -3,5 +3,6 @@ pub mod Sequence
 pub mod Spans
 pub mod Search
 pub mod Calls
-pub mod Contracts
+pub mod Reader
+pub mod Stretches
 pub mod Numbers

@@ -9,6 +9,7 @@ use Rattle.text.specs.Utf8.{to}
 use Rattle.text.specs.Class.{Profile, inAny}
 use Rattle.spans.specs.Sequence.{leading}
 use Rattle.spans.specs.Spans.{Span, spansAt, spans}
+pub mod Contracts
 
 -- ---- ESCAPE_SEQUENCE: ESC [, at most 32 of 0123456789:;[?!"'#%()*+ and space, m
 

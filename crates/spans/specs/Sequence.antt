@@ -7,6 +7,7 @@ use lib.Dec.{eqb, leb}
 use Rattle.spans.specs.Sgr.{digit, parameters, allowed, orders}
 use Rattle.spans.specs.declared.sgr.Sgr.{Sgr}
 pub mod Laws
+pub mod Contracts
 
 -- what a sequence is; the place of a hyperlink's URI is counted from the ESC
 pub data Sequence : Type 0 where

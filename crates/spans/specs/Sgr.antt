@@ -11,10 +11,11 @@ use Rattle.spans.specs.declared.sgr.Sgr.{Sgr}
 use Rattle.spans.specs.declared.sgr.Sgr.the-variants.{Reset, Intensity, Underline, Blink, Italic, Inverse, Invisible, StrikeThrough, Overline, Foreground, Background, UnderlineColor}
 use Rattle.spans.specs.declared.sgr.Target.{Target}
 use Rattle.spans.specs.declared.sgr.Target.the-variants as target
-use Rattle.spans.specs.declared.sgr.Wait.{Wait}
-use Rattle.spans.specs.declared.sgr.Wait.the-variants.{Ready, WantKind, WantIndex, WantRed, WantGreen, WantBlue}
-use Rattle.spans.specs.declared.sgr.Step.{Step}
-use Rattle.spans.specs.declared.sgr.Step.the-variants.{Order, Hold, Stop}
+use Rattle.spans.specs.declared.sgr.ColorState.{ColorState}
+use Rattle.spans.specs.declared.sgr.ColorState.the-variants.{Ready, WantKind, WantIndex, WantRed, WantGreen, WantBlue}
+use Rattle.spans.specs.declared.sgr.Meaning.{Meaning}
+use Rattle.spans.specs.declared.sgr.Meaning.the-variants.{Order, Group, Unknown}
+pub mod Contracts
 
 -- ---- parameters: digits and `;`
 
@@ -44,7 +45,7 @@ allowed ps = leb (length ps) 32 && allAtMost 65535 ps
 pub record Known : Type 0 where
   pub low : ℕ
   pub high : ℕ
-  pub says : ℕ → Step
+  pub says : ℕ → Meaning
 
 abbrev pub one : ℕ → Sgr → Known
 one p o = record { low = p; high = p; says = λ k. Order o }
@@ -55,7 +56,7 @@ eight p f = record { low = p; high = p + 7; says = λ k. Order (f k) }
 
 -- 5 and an index, or 2 and three numbers, are to follow
 abbrev pub group : ℕ → Target → Known
-group p t = record { low = p; high = p; says = λ k. Hold (WantKind t) }
+group p t = record { low = p; high = p; says = λ k. Group (WantKind t) }
 
 unfoldable pub known : List Known
 known =
@@ -69,9 +70,9 @@ known =
     ∷ one 53 (Overline true) ∷ one 55 (Overline false) ∷ group 58 target.Underline ∷ one 59 (UnderlineColor Default)
     ∷ eight 90 (λ k. Foreground (Palette (8 + k))) ∷ eight 100 (λ k. Background (Palette (8 + k))) ∷ []
 
-unfoldable pub saidBy : List Known → ℕ → Step
-saidBy [] p = Stop
-saidBy (r ∷ rs) p = cond (within (to (r .low) (r .high)) p) (r .says (p - r .low)) (saidBy rs p)
+unfoldable pub meaningOf : List Known → ℕ → Meaning
+meaningOf [] p = Unknown
+meaningOf (r ∷ rs) p = cond (within (to (r .low) (r .high)) p) (r .says (p - r .low)) (meaningOf rs p)
 
 -- ---- groups
 
@@ -81,25 +82,25 @@ coloured target.Background c = Background c
 coloured target.Underline c = UnderlineColor c
 
 -- what a parameter says after those before it
-unfoldable pub stepOf : Wait → ℕ → Step
-unfolding saidBy known coloured
-stepOf Ready p = saidBy known p
-stepOf (WantKind t) p = cond (eqb p 5) (Hold (WantIndex t)) (cond (eqb p 2) (Hold (WantRed t)) Stop)
-stepOf (WantIndex t) p = cond (leb p 255) (Order (coloured t (Palette p))) Stop
-stepOf (WantRed t) p = cond (leb p 255) (Hold (WantGreen t p)) Stop
-stepOf (WantGreen t r) p = cond (leb p 255) (Hold (WantBlue t r p)) Stop
-stepOf (WantBlue t r g) p = cond (leb p 255) (Order (coloured t (Rgb r g p))) Stop
+unfoldable pub meaningAfter : ColorState → ℕ → Meaning
+unfolding meaningOf known coloured
+meaningAfter Ready p = meaningOf known p
+meaningAfter (WantKind t) p = cond (eqb p 5) (Group (WantIndex t)) (cond (eqb p 2) (Group (WantRed t)) Unknown)
+meaningAfter (WantIndex t) p = cond (leb p 255) (Order (coloured t (Palette p))) Unknown
+meaningAfter (WantRed t) p = cond (leb p 255) (Group (WantGreen t p)) Unknown
+meaningAfter (WantGreen t r) p = cond (leb p 255) (Group (WantBlue t r p)) Unknown
+meaningAfter (WantBlue t r g) p = cond (leb p 255) (Order (coloured t (Rgb r g p))) Unknown
 
-unfoldable pub follow : Step → (Wait → List Sgr) → List Sgr
+unfoldable pub follow : Meaning → (ColorState → List Sgr) → List Sgr
 follow (Order o) go = o ∷ go Ready
-follow (Hold w) go = go w
-follow Stop go = []
+follow (Group w) go = go w
+follow Unknown go = []
 
 -- the orders up to the first unknown parameter
-unfoldable pub ordersFrom : Wait → List ℕ → List Sgr
-unfolding follow stepOf
+unfoldable pub ordersFrom : ColorState → List ℕ → List Sgr
+unfolding follow meaningAfter
 ordersFrom w [] = []
-ordersFrom w (p ∷ ps) = follow (stepOf w p) (λ w. ordersFrom w ps)
+ordersFrom w (p ∷ ps) = follow (meaningAfter w p) (λ w. ordersFrom w ps)
 
 unfoldable pub orders : List ℕ → List Sgr
 unfolding ordersFrom

@@ -14,10 +14,10 @@ use Rattle.spans.specs.declared.Span as declared
 pub mod Laws
 pub mod Noise
 pub mod ContentLaw
+pub mod FirstSpan
 pub mod RecordSpans
-pub mod Steps
 pub mod Inside
-pub mod Few
+pub mod SpanCount
 pub mod ContentKinds
 
 -- the source's Span: what a span holds; Text is `text none`, Match is `text (some k)`
@@ -41,19 +41,19 @@ span p n c = record { place = p; len = n; content = c }
 -- ---- parse_unicode_span
 
 -- what a cluster is: a part of a text, or a span of n bytes
-pub data Seen : Type 0 where
-  plain : Seen
-  special : Content → ℕ → Seen
+pub data ClusterKind : Type 0 where
+  plain : ClusterKind
+  special : Content → ℕ → ClusterKind
 
-unfoldable pub escapeSeen : Found → Seen
-escapeSeen (found e n) = special (escape e) n
-escapeSeen missing = special (control 0x1B) 1
+unfoldable pub escapeKind : Found → ClusterKind
+escapeKind (found e n) = special (escape e) n
+escapeKind missing = special (control 0x1B) 1
 
 -- one byte below 20, or 7F
-unfoldable pub controlSeen : List ℕ → Seen → Seen
-controlSeen [] otherwise = otherwise
-controlSeen (b ∷ []) otherwise = cond (leb b 0x1F || eqb b 0x7F) (special (control b) 1) otherwise
-controlSeen (b ∷ c ∷ s) otherwise = otherwise
+unfoldable pub controlKind : List ℕ → ClusterKind → ClusterKind
+controlKind [] otherwise = otherwise
+controlKind (b ∷ []) otherwise = cond (leb b 0x1F || eqb b 0x7F) (special (control b) 1) otherwise
+controlKind (b ∷ c ∷ s) otherwise = otherwise
 
 -- a text cluster in front of the spans that follow it: more of the Text that they begin with, or a Text of its own
 unfoldable pub joinText : Option ℕ → ℕ → List Scalar → Span → Content → List Span → List Span
@@ -73,18 +73,18 @@ addText m p g [] = span p (length (bytesOf g)) (text m g) ∷ []
 addText m p g (s ∷ ss) = joinText m p g s (s .content) ss
 
 -- a cluster of n bytes at place p, and the spans behind it, of which the clusters that begin in the next k bytes are no part
-unfoldable pub addCluster : Option ℕ → ℕ → List Scalar → ℕ → Seen → (ℕ → List Span) → List Span
+unfoldable pub addCluster : Option ℕ → ℕ → List Scalar → ℕ → ClusterKind → (ℕ → List Span) → List Span
 unfolding addText
 addCluster m p g n plain go = addText m p g (go zero)
 addCluster m p g n (special c k) go = span p k c ∷ go (k - n)
 
 module _ (P : Profile) where
   -- the cluster g, with the bytes behind it in its run
-  unfoldable pub seen : List Scalar → List ℕ → Seen
-  unfolding escapeSeen controlSeen parse reads bytesOf widthOf
-  seen g behind =
-      let sequence : Seen = escapeSeen (parse behind) in
-      let other : Seen = controlSeen (bytesOf g) (cond (eqb (widthOf P g) 0) (special (unprintable g) (length (bytesOf g))) plain) in
+  unfoldable pub clusterKind : List Scalar → List ℕ → ClusterKind
+  unfolding escapeKind controlKind parse reads bytesOf widthOf
+  clusterKind g behind =
+      let sequence : ClusterKind = escapeKind (parse behind) in
+      let other : ClusterKind = controlKind (bytesOf g) (cond (eqb (widthOf P g) 0) (special (unprintable g) (length (bytesOf g))) plain) in
       cond (reads g (0x1B ∷ [])) sequence
       (cond (reads g (0x0D ∷ 0x0A ∷ [])) (special crlf 2)
       (cond (reads g (0x0A ∷ [])) (special lf 1)
@@ -92,10 +92,10 @@ module _ (P : Profile) where
 
   -- the clusters of a run at place p, those that begin in the first k bytes being dropped
   unfoldable pub readFrom : Option ℕ → ℕ → ℕ → List (List Scalar) → List Span
-  unfolding addCluster seen bytesOf joinAll
+  unfolding addCluster clusterKind bytesOf joinAll
   readFrom m p k [] = []
   readFrom m p zero (g ∷ gs) =
-      addCluster m p g (length (bytesOf g)) (seen g (bytesOf (joinAll gs))) (λ k. readFrom m (p + length (bytesOf g)) k gs)
+      addCluster m p g (length (bytesOf g)) (clusterKind g (bytesOf (joinAll gs))) (λ k. readFrom m (p + length (bytesOf g)) k gs)
   readFrom m p (suc k) (g ∷ gs) = readFrom m (p + length (bytesOf g)) (suc k - length (bytesOf g)) gs
 
   -- ---- parse_spans

@@ -20,7 +20,7 @@ ghost use lib.ListN.{length, take, replicate};
 ghost use Rattle.text.specs.Width.{profile01};
 ghost use Rattle.spans.specs.Calls.{noRecord, readCall};
 ghost use Rattle.spans.specs.Search.{searchedLength, inOrder};
-ghost use Rattle.spans.specs.Contracts.{refusedBy, Planned, Prepared, Ongoing, NextHolds, Fillable, Filled, Holds, numberOf, Finished, readAs};
+ghost use Rattle.spans.specs.Calls.Contracts.{refusedBy, Planned, Prepared, NextReadingReady, ReadingStep, ParseSpansReady, SpansParsed, Holds, numberOf, Finished, readAs};
 
 pub mod numbers;
 pub mod reader;
@@ -129,8 +129,8 @@ fn places_for(places: usize, found: bool) -> usize
 
 // The next record of a reading; behind the last one no place is to be filled.
 fn next_reading(conv: &[u8], matches: &[usize], r: Reading) -> NextReading
-    requires { ⌜ Ongoing (now conv) (now matches) r ⌝ }
-    ensures { λ n. ⌜ NextHolds (now (conv .entry)) (now (matches .entry)) r n ⌝ }
+    requires { ⌜ NextReadingReady (now conv) (now matches) r ⌝ }
+    ensures { λ n. ⌜ ReadingStep (now (conv .entry)) (now (matches .entry)) r n ⌝ }
 {
     let c = r.cursor;
     let len = r.len;
@@ -150,9 +150,9 @@ fn next_reading(conv: &[u8], matches: &[usize], r: Reading) -> NextReading
 }
 
 // A record for each step; the reading behind the last place or the last span.
-fn fill(spans: &mut [Span], conv: &[u8], matches: &[usize], start: Reading) -> Reading
-    requires { ⌜ Fillable (now conv) (now matches) (length (now spans)) start ⌝ }
-    ensures { λ r. ⌜ Filled (now (conv .entry)) (now (matches .entry)) (now (spans .exit)) start r ⌝ }
+fn parse_spans(spans: &mut [Span], conv: &[u8], matches: &[usize], start: Reading) -> Reading
+    requires { ⌜ ParseSpansReady (now conv) (now matches) (length (now spans)) start ⌝ }
+    ensures { λ r. ⌜ SpansParsed (now (conv .entry)) (now (matches .entry)) (now (spans .exit)) start r ⌝ }
 {
     let mut c = start;
     let mut i = 0;
@@ -221,7 +221,7 @@ pub fn read(line: &[u8], matches: &[usize], conv: &mut [u8], spans: &mut [Span])
     ensures { λ r. ⌜ readAs r (now (conv .exit)) (now (spans .exit)) ≡ readCall profile01 (length (now (conv .entry))) (length (now (spans .entry))) (now (matches .entry)) (now (line .entry)) ⌝ }
 {
     let start = prepare(line, matches, conv, spans.len());
-    let r = fill(spans, conv, matches, start);
+    let r = parse_spans(spans, conv, matches, start);
     let a = finish(conv, matches, r);
     clear_spans(spans, a.count);
     a

@@ -20,11 +20,11 @@ ghost use Rattle.text.specs.Class.Ascii.{syllableOrOther};
 ghost use Rattle.text.specs.Code.{profileOf};
 ghost use Rattle.spans.specs.Sequence.{missing};
 ghost use Rattle.spans.specs.Spans.{aRecord};
-ghost use Rattle.spans.specs.Spans.Steps.{plainSize};
-ghost use Rattle.spans.specs.Contracts.{c0NotCr, clustersAt, PrintableTo, SyllablesTo, ClustersTo, escapeLook, lookBytes, Part, SkipReady, Skip, runAt, textRecord, invalidAt, Escaping, Mark, ControlReady, SpecialStep, Ready, Stepped};
+ghost use Rattle.spans.specs.Spans.FirstSpan.{plainSize};
+ghost use Rattle.spans.specs.Reader.{c0NotCr, clustersAt, PrintableTo, SyllablesTo, ClustersTo, escapeHead, headBytes, HeadReady, SkipToReady, SkippedTo, runAt, textRecord, invalidAt, EscapeSpanReady, MarkSpanReady, ControlSpanReady, SpecialStep, NextSpanReady, SpanStep};
 
 // What a cluster that is no part of a text is: a kind of span, and its length.
-pub struct Look {
+pub struct SpanHead {
     pub kind: usize,
     pub len: usize,
 }
@@ -158,49 +158,49 @@ fn text_end(profile: Profile, t: &[u8], at: usize) -> usize
 }
 
 // The span that a sequence is; without one, ESC is Control.
-fn escape_look(q: Sequence) -> Look
-    ensures { λ r. ⌜ r ≡ escapeLook q ⌝ }
+fn escape_head(q: Sequence) -> SpanHead
+    ensures { λ r. ⌜ r ≡ escapeHead q ⌝ }
 {
     match q {
-        Sequence::Missing => Look { kind: 3, len: 1 },
-        Sequence::Sgr(n) => Look { kind: 6, len: n },
-        Sequence::Hyperlink(p, k, n) => Look { kind: 7, len: n },
-        Sequence::LineDrawing(b, n) => Look { kind: 8, len: n },
-        Sequence::Ignored(n) => Look { kind: 9, len: n },
-        Sequence::EraseToEnd(n) => Look { kind: 13, len: n },
+        Sequence::Missing => SpanHead { kind: 3, len: 1 },
+        Sequence::Sgr(n) => SpanHead { kind: 6, len: n },
+        Sequence::Hyperlink(p, k, n) => SpanHead { kind: 7, len: n },
+        Sequence::LineDrawing(b, n) => SpanHead { kind: 8, len: n },
+        Sequence::Ignored(n) => SpanHead { kind: 9, len: n },
+        Sequence::EraseToEnd(n) => SpanHead { kind: 13, len: n },
     }
 }
 
 // What the cluster from `at` to `end` is that is no part of a text, where no sequence begins.
-fn look_at(t: &[u8], at: usize, end: usize) -> Look
-    requires { ⌜ Part (now t) at end ⌝ }
-    ensures { λ r. ⌜ r ≡ lookBytes (end - at) (getD (now (t .entry)) at 0) (getD (now (t .entry)) (at + 1) 0) missing ⌝ }
+fn head_at(t: &[u8], at: usize, end: usize) -> SpanHead
+    requires { ⌜ HeadReady (now t) at end ⌝ }
+    ensures { λ r. ⌜ r ≡ headBytes (end - at) (getD (now (t .entry)) at 0) (getD (now (t .entry)) (at + 1) 0) missing ⌝ }
 {
     let n = end - at;
     let a = byte_at(t, at);
     if n == 1 {
         if a == 0x0A {
-            return Look { kind: 12, len: 1 };
+            return SpanHead { kind: 12, len: 1 };
         }
         if a == 0x09 {
-            return Look { kind: 10, len: 1 };
+            return SpanHead { kind: 10, len: 1 };
         }
         if (a <= 0x1F) | (a == 0x7F) {
-            return Look { kind: 3, len: 1 };
+            return SpanHead { kind: 3, len: 1 };
         }
-        return Look { kind: 5, len: 1 };
+        return SpanHead { kind: 5, len: 1 };
     }
     let b = byte_at(t, at + 1);
     if (n == 2) & ((a == 0x0D) & (b == 0x0A)) {
-        return Look { kind: 11, len: 2 };
+        return SpanHead { kind: 11, len: 2 };
     }
-    Look { kind: 5, len: n }
+    SpanHead { kind: 5, len: n }
 }
 
 // Past the clusters that begin before `stop`, where the byte before it begins one, as the last byte of every sequence does.
 fn skip_to(profile: Profile, t: &[u8], at: usize, stop: usize) -> usize
-    requires { ⌜ SkipReady (now t) at stop ⌝ }
-    ensures { λ r. ⌜ Skip (profileOf profile) (now (t .entry)) at stop r ⌝ }
+    requires { ⌜ SkipToReady (now t) at stop ⌝ }
+    ensures { λ r. ⌜ SkippedTo (profileOf profile) (now (t .entry)) at stop r ⌝ }
 {
     if stop <= at {
         return at;
@@ -210,7 +210,7 @@ fn skip_to(profile: Profile, t: &[u8], at: usize, stop: usize) -> usize
 
 // The end of the run at the place.
 fn run_at(t: &[u8], c: Place) -> usize
-    requires { ⌜ Ready (now t) c ⌝ }
+    requires { ⌜ NextSpanReady (now t) c ⌝ }
     ensures { λ r. ⌜ r ≡ runAt (now (t .entry)) (c .at) ⌝ }
 {
     if c.at < c.run {
@@ -243,12 +243,12 @@ fn text_span(at: usize, end: usize, m: Matched) -> Span
 
 // The span of an ESC, and the place behind what is dropped. The end of the run is looked for here alone, and kept for the next ESC.
 fn escape_span(profile: Profile, t: &[u8], c: Place) -> NextSpan
-    requires { ⌜ Escaping (now t) c ⌝ }
+    requires { ⌜ EscapeSpanReady (now t) c ⌝ }
     ensures { λ r. ⌜ SpecialStep (profileOf profile) (now (t .entry)) (c .at) r ⌝ }
 {
     let at = c.at;
     let run = run_at(t, c);
-    let l = escape_look(sequence_at(t, at, run));
+    let l = escape_head(sequence_at(t, at, run));
     let next = skip_to(profile, t, at + 1, at + l.len);
     let span = span_of(l.kind, at, l.len, 0);
     NextSpan {
@@ -259,11 +259,11 @@ fn escape_span(profile: Profile, t: &[u8], c: Place) -> NextSpan
 
 // The span of the cluster from a place to `end` that is no part of a text, and no ESC.
 fn mark_span(profile: Profile, t: &[u8], c: Place, end: usize) -> NextSpan
-    requires { ⌜ Mark (profileOf profile) (now t) c end ⌝ }
+    requires { ⌜ MarkSpanReady (profileOf profile) (now t) c end ⌝ }
     ensures { λ r. ⌜ SpecialStep (profileOf profile) (now (t .entry)) (c .at) r ⌝ }
 {
     let at = c.at;
-    let l = look_at(t, at, end);
+    let l = head_at(t, at, end);
     let span = span_of(l.kind, at, l.len, 0);
     NextSpan {
         span: span,
@@ -276,7 +276,7 @@ fn mark_span(profile: Profile, t: &[u8], c: Place, end: usize) -> NextSpan
 
 // The span of a control byte that is a cluster by itself.
 fn control_span(profile: Profile, t: &[u8], c: Place) -> NextSpan
-    requires { ⌜ ControlReady (now t) c ⌝ }
+    requires { ⌜ ControlSpanReady (now t) c ⌝ }
     ensures { λ r. ⌜ SpecialStep (profileOf profile) (now (t .entry)) (c .at) r ⌝ }
 {
     let at = c.at;
@@ -304,8 +304,8 @@ fn invalid_span(c: Place) -> NextSpan
 
 // The next span of a stretch that is match m or none.
 pub(crate) fn next_span(profile: Profile, t: &[u8], c: Place, m: Matched) -> NextSpan
-    requires { ⌜ Ready (now t) c ⌝ }
-    ensures { λ r. ⌜ Stepped (profileOf profile) (now (t .entry)) m (c .at) r ⌝ }
+    requires { ⌜ NextSpanReady (now t) c ⌝ }
+    ensures { λ r. ⌜ SpanStep (profileOf profile) (now (t .entry)) m (c .at) r ⌝ }
 {
     let at = c.at;
     if is_c0_not_cr(byte_at(t, at)) {

@@ -4,7 +4,8 @@ ghost use mathlib.Core.Path.{_≡_};
 ghost use Prim.Native.Nat.{_+_, _≤_, _<_};
 ghost use lib.ListN.{length};
 ghost use Rattle.spans.specs.Search.{sequenceByte, trimmed, searchedLength, inOrder};
-ghost use Rattle.spans.specs.Contracts.{Skipped, Matching, Small, EscapeAt, EscapesLength, pairInOrder, OffsetsFrom, OffsetReady, OffsetAt};
+ghost use Rattle.spans.specs.Sequence.Contracts.{Skipped};
+ghost use Rattle.spans.specs.Search.Contracts.{EscapeMatched, EscapeMatchReady, NextEscape, EscapesLength, pairInOrder, OffsetsFrom, OffsetReady, OffsetAt};
 
 // A match of ESCAPE_SEQUENCE, or none.
 pub struct Escape {
@@ -53,8 +54,8 @@ fn skip_sequence(s: &[u8], at: usize) -> usize
 
 // The length of the ESCAPE_SEQUENCE match at a place, or 0.
 fn escape_match(s: &[u8], at: usize) -> usize
-    requires { ⌜ Small (now s) at ⌝ }
-    ensures { λ r. ⌜ Matching (now (s .entry)) at r ⌝ }
+    requires { ⌜ EscapeMatchReady (now s) at ⌝ }
+    ensures { λ r. ⌜ EscapeMatched (now (s .entry)) at r ⌝ }
 {
     if byte_at(s, at) != 0x1B {
         return 0;
@@ -74,7 +75,7 @@ fn escape_match(s: &[u8], at: usize) -> usize
 // The first ESCAPE_SEQUENCE match from a place on.
 fn next_escape(s: &[u8], at: usize) -> Escape
     requires { ⌜ length (now s) ≤ 65536 ⌝ }
-    ensures { λ r. ⌜ EscapeAt (now (s .entry)) at r ⌝ }
+    ensures { λ r. ⌜ NextEscape (now (s .entry)) at r ⌝ }
 {
     let mut i = at;
     while i < s.len() {

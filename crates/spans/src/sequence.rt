@@ -11,7 +11,7 @@ ghost use lib.Seq.{slice};
 ghost use mathlib.Core.List.{[], _∷_};
 ghost use Rattle.spans.specs.Sgr.{parameters, orders};
 ghost use Rattle.spans.specs.Sequence.{final, uriByte, idByte, ifKnown, erase, charset, csi, osc, parse};
-ghost use Rattle.spans.specs.Contracts.{told, Skipped, Near, Within, uriAt};
+ghost use Rattle.spans.specs.Sequence.Contracts.{sequenceOf, Skipped, UriReady, SequenceReady, uriAt};
 
 // What stands at an ESC: the sequence's length, the ESC counted; of a hyperlink first its URI's place from the ESC, and the URI's length.
 pub enum Sequence {
@@ -82,7 +82,7 @@ fn skip_id(s: &[u8], at: usize) -> usize
 // `K` behind n parameter bytes, of which a is the first.
 fn erase(n: usize, a: u8) -> Sequence
     requires { ⌜ n ≤ 65536 ⌝ }
-    ensures { λ r. ⌜ r ≡ told (erase n a) ⌝ }
+    ensures { λ r. ⌜ r ≡ sequenceOf (erase n a) ⌝ }
 {
     if (n == 0) | ((n == 1) & (a == b'0')) {
         return Sequence::EraseToEnd(3 + n);
@@ -96,7 +96,7 @@ fn erase(n: usize, a: u8) -> Sequence
 // Behind `ESC [`.
 fn csi(s: &[u8]) -> Sequence
     requires { ⌜ length (now s) ≤ 65536 ⌝ }
-    ensures { λ r. ⌜ r ≡ told (csi (now (s .entry))) ⌝ }
+    ensures { λ r. ⌜ r ≡ sequenceOf (csi (now (s .entry))) ⌝ }
 {
     let p = scan_parameters(s);
     let n = p.len;
@@ -120,7 +120,7 @@ fn csi(s: &[u8]) -> Sequence
 // `m` behind n parameter bytes: recognised if the first parameter is known.
 fn style(s: &[u8], n: usize) -> Sequence
     requires { ⌜ n ≤ 65536 ⌝ }
-    ensures { λ r. ⌜ r ≡ told (ifKnown (orders (parameters 0 (now (s .entry)))) n) ⌝ }
+    ensures { λ r. ⌜ r ≡ sequenceOf (ifKnown (orders (parameters 0 (now (s .entry)))) n) ⌝ }
 {
     let first = next_order(
         s,
@@ -137,7 +137,7 @@ fn style(s: &[u8], n: usize) -> Sequence
 
 // Behind `ESC (`, the byte there.
 fn charset(b: u8) -> Sequence
-    ensures { λ r. ⌜ r ≡ told (charset (b ∷ [])) ⌝ }
+    ensures { λ r. ⌜ r ≡ sequenceOf (charset (b ∷ [])) ⌝ }
 {
     if b == b'0' {
         return Sequence::LineDrawing(true, 3);
@@ -150,8 +150,8 @@ fn charset(b: u8) -> Sequence
 
 // Behind `ESC ]`: a URI at m.
 fn uri_at(s: &[u8], m: usize) -> Sequence
-    requires { ⌜ Near (now s) m ⌝ }
-    ensures { λ r. ⌜ r ≡ told (uriAt (now (s .entry)) m) ⌝ }
+    requires { ⌜ UriReady (now s) m ⌝ }
+    ensures { λ r. ⌜ r ≡ sequenceOf (uriAt (now (s .entry)) m) ⌝ }
 {
     let e = skip_uri(s, m);
     let b = byte_at(s, e);
@@ -168,7 +168,7 @@ fn uri_at(s: &[u8], m: usize) -> Sequence
 // Behind `ESC ]`.
 fn osc(s: &[u8]) -> Sequence
     requires { ⌜ length (now s) ≤ 65536 ⌝ }
-    ensures { λ r. ⌜ r ≡ told (osc (now (s .entry))) ⌝ }
+    ensures { λ r. ⌜ r ≡ sequenceOf (osc (now (s .entry))) ⌝ }
 {
     let i = skip_id(s, 2);
     let a = byte_at(s, 0);
@@ -183,7 +183,7 @@ fn osc(s: &[u8]) -> Sequence
 // Behind ESC.
 fn parse(s: &[u8]) -> Sequence
     requires { ⌜ length (now s) ≤ 65536 ⌝ }
-    ensures { λ r. ⌜ r ≡ told (parse (now (s .entry))) ⌝ }
+    ensures { λ r. ⌜ r ≡ sequenceOf (parse (now (s .entry))) ⌝ }
 {
     if s.len() == 0 {
         return Sequence::Missing;
@@ -203,8 +203,8 @@ fn parse(s: &[u8]) -> Sequence
 
 // The sequence of the ESC at a place, in a run that ends at `end`.
 pub fn sequence_at(s: &[u8], at: usize, end: usize) -> Sequence
-    requires { ⌜ Within (now s) at end ⌝ }
-    ensures { λ r. ⌜ r ≡ told (parse (slice (at + 1) end (now (s .entry)))) ⌝ }
+    requires { ⌜ SequenceReady (now s) at end ⌝ }
+    ensures { λ r. ⌜ r ≡ sequenceOf (parse (slice (at + 1) end (now (s .entry)))) ⌝ }
 {
     let a = at + 1;
     parse(&s[a..end])

@@ -1,7 +1,7 @@
 // Style orders: the parameters behind `ESC [`, and what the known ones say (ECMA-48, SGR, as document 01 cuts it).
 ghost use mathlib.Core.Path.{_≡_};
-ghost use Rattle.spans.specs.Sgr.{digit, known, saidBy, coloured, stepOf};
-ghost use Rattle.spans.specs.Contracts.{more, eights, Scanned, ParameterAt, ordersAt, ordersOf};
+ghost use Rattle.spans.specs.Sgr.{digit, known, meaningOf, coloured, meaningAfter};
+ghost use Rattle.spans.specs.Sgr.Contracts.{more, eights, Scanned, ParameterAt, ordersAt, ordersOf};
 
 pub enum Color {
     Default,
@@ -33,7 +33,7 @@ pub enum Target {
 }
 
 // Where a reading stands: between orders, or inside a group with what was read of it.
-pub enum Wait {
+pub enum ColorState {
     Ready,
     WantKind(Target),
     WantIndex(Target),
@@ -43,10 +43,10 @@ pub enum Wait {
 }
 
 // What a parameter says after those before it: an order, a part of a group, or nothing known.
-pub enum Step {
+pub enum Meaning {
     Order(Sgr),
-    Hold(Wait),
-    Stop,
+    Group(ColorState),
+    Unknown,
 }
 
 // The length of a run of parameters, and whether there are at most 32, each at most 65,535.
@@ -169,101 +169,101 @@ fn coloured(t: Target, c: Color) -> Sgr
 }
 
 // The sixteen colours of the palette.
-fn palette_order(p: usize) -> Step
-    ensures { λ r. ⌜ r ≡ saidBy eights p ⌝ }
+fn palette_order(p: usize) -> Meaning
+    ensures { λ r. ⌜ r ≡ meaningOf eights p ⌝ }
 {
     if (30 <= p) & (p <= 37) {
-        return Step::Order(Sgr::Foreground(Color::Palette((p - 30) as u8)));
+        return Meaning::Order(Sgr::Foreground(Color::Palette((p - 30) as u8)));
     }
     if (40 <= p) & (p <= 47) {
-        return Step::Order(Sgr::Background(Color::Palette((p - 40) as u8)));
+        return Meaning::Order(Sgr::Background(Color::Palette((p - 40) as u8)));
     }
     if (90 <= p) & (p <= 97) {
-        return Step::Order(Sgr::Foreground(Color::Palette((p - 82) as u8)));
+        return Meaning::Order(Sgr::Foreground(Color::Palette((p - 82) as u8)));
     }
     if (100 <= p) & (p <= 107) {
-        return Step::Order(Sgr::Background(Color::Palette((p - 92) as u8)));
+        return Meaning::Order(Sgr::Background(Color::Palette((p - 92) as u8)));
     }
-    Step::Stop
+    Meaning::Unknown
 }
 
 // What a parameter says that is in no group.
-fn said_by(p: usize) -> Step
-    ensures { λ r. ⌜ r ≡ saidBy known p ⌝ }
+fn meaning_of(p: usize) -> Meaning
+    ensures { λ r. ⌜ r ≡ meaningOf known p ⌝ }
 {
     match p {
-        0 => Step::Order(Sgr::Reset),
-        1 => Step::Order(Sgr::Intensity(1)),
-        2 => Step::Order(Sgr::Intensity(2)),
-        3 => Step::Order(Sgr::Italic(true)),
-        4 => Step::Order(Sgr::Underline(1)),
-        5 => Step::Order(Sgr::Blink(1)),
-        6 => Step::Order(Sgr::Blink(2)),
-        7 => Step::Order(Sgr::Inverse(true)),
-        8 => Step::Order(Sgr::Invisible(true)),
-        9 => Step::Order(Sgr::StrikeThrough(true)),
-        21 => Step::Order(Sgr::Underline(2)),
-        22 => Step::Order(Sgr::Intensity(0)),
-        23 => Step::Order(Sgr::Italic(false)),
-        24 => Step::Order(Sgr::Underline(0)),
-        25 => Step::Order(Sgr::Blink(0)),
-        27 => Step::Order(Sgr::Inverse(false)),
-        28 => Step::Order(Sgr::Invisible(false)),
-        29 => Step::Order(Sgr::StrikeThrough(false)),
-        38 => Step::Hold(Wait::WantKind(Target::Foreground)),
-        39 => Step::Order(Sgr::Foreground(Color::Default)),
-        48 => Step::Hold(Wait::WantKind(Target::Background)),
-        49 => Step::Order(Sgr::Background(Color::Default)),
-        53 => Step::Order(Sgr::Overline(true)),
-        55 => Step::Order(Sgr::Overline(false)),
-        58 => Step::Hold(Wait::WantKind(Target::Underline)),
-        59 => Step::Order(Sgr::UnderlineColor(Color::Default)),
+        0 => Meaning::Order(Sgr::Reset),
+        1 => Meaning::Order(Sgr::Intensity(1)),
+        2 => Meaning::Order(Sgr::Intensity(2)),
+        3 => Meaning::Order(Sgr::Italic(true)),
+        4 => Meaning::Order(Sgr::Underline(1)),
+        5 => Meaning::Order(Sgr::Blink(1)),
+        6 => Meaning::Order(Sgr::Blink(2)),
+        7 => Meaning::Order(Sgr::Inverse(true)),
+        8 => Meaning::Order(Sgr::Invisible(true)),
+        9 => Meaning::Order(Sgr::StrikeThrough(true)),
+        21 => Meaning::Order(Sgr::Underline(2)),
+        22 => Meaning::Order(Sgr::Intensity(0)),
+        23 => Meaning::Order(Sgr::Italic(false)),
+        24 => Meaning::Order(Sgr::Underline(0)),
+        25 => Meaning::Order(Sgr::Blink(0)),
+        27 => Meaning::Order(Sgr::Inverse(false)),
+        28 => Meaning::Order(Sgr::Invisible(false)),
+        29 => Meaning::Order(Sgr::StrikeThrough(false)),
+        38 => Meaning::Group(ColorState::WantKind(Target::Foreground)),
+        39 => Meaning::Order(Sgr::Foreground(Color::Default)),
+        48 => Meaning::Group(ColorState::WantKind(Target::Background)),
+        49 => Meaning::Order(Sgr::Background(Color::Default)),
+        53 => Meaning::Order(Sgr::Overline(true)),
+        55 => Meaning::Order(Sgr::Overline(false)),
+        58 => Meaning::Group(ColorState::WantKind(Target::Underline)),
+        59 => Meaning::Order(Sgr::UnderlineColor(Color::Default)),
         _ => palette_order(p),
     }
 }
 
 // What a parameter says after those before it.
-fn step_of(w: Wait, p: usize) -> Step
-    ensures { λ r. ⌜ r ≡ stepOf w p ⌝ }
+fn meaning_after(w: ColorState, p: usize) -> Meaning
+    ensures { λ r. ⌜ r ≡ meaningAfter w p ⌝ }
 {
     match w {
-        Wait::Ready => said_by(p),
-        Wait::WantKind(t) => {
+        ColorState::Ready => meaning_of(p),
+        ColorState::WantKind(t) => {
             if p == 5 {
-                return Step::Hold(Wait::WantIndex(t));
+                return Meaning::Group(ColorState::WantIndex(t));
             }
             if p == 2 {
-                Step::Hold(Wait::WantRed(t))
+                Meaning::Group(ColorState::WantRed(t))
             } else {
-                Step::Stop
+                Meaning::Unknown
             }
         }
-        Wait::WantIndex(t) => {
+        ColorState::WantIndex(t) => {
             if p <= 255 {
-                Step::Order(coloured(t, Color::Palette(p as u8)))
+                Meaning::Order(coloured(t, Color::Palette(p as u8)))
             } else {
-                Step::Stop
+                Meaning::Unknown
             }
         }
-        Wait::WantRed(t) => {
+        ColorState::WantRed(t) => {
             if p <= 255 {
-                Step::Hold(Wait::WantGreen(t, p as u8))
+                Meaning::Group(ColorState::WantGreen(t, p as u8))
             } else {
-                Step::Stop
+                Meaning::Unknown
             }
         }
-        Wait::WantGreen(t, r) => {
+        ColorState::WantGreen(t, r) => {
             if p <= 255 {
-                Step::Hold(Wait::WantBlue(t, r, p as u8))
+                Meaning::Group(ColorState::WantBlue(t, r, p as u8))
             } else {
-                Step::Stop
+                Meaning::Unknown
             }
         }
-        Wait::WantBlue(t, r, g) => {
+        ColorState::WantBlue(t, r, g) => {
             if p <= 255 {
-                Step::Order(coloured(t, Color::Rgb(r, g, p as u8)))
+                Meaning::Order(coloured(t, Color::Rgb(r, g, p as u8)))
             } else {
-                Step::Stop
+                Meaning::Unknown
             }
         }
     }
@@ -275,14 +275,14 @@ pub fn next_order(s: &[u8], c: Orders) -> NextOrder
 {
     let mut at = c.at;
     let mut further = c.further;
-    let mut wait = Wait::Ready;
+    let mut wait = ColorState::Ready;
     while further {
         let p = parameter_at(s, at);
-        let step = step_of(wait, p.value);
+        let step = meaning_after(wait, p.value);
         at = p.next;
         further = p.further;
         match step {
-            Step::Order(o) => {
+            Meaning::Order(o) => {
                 return NextOrder::Order(
                     o,
                     Orders {
@@ -291,10 +291,10 @@ pub fn next_order(s: &[u8], c: Orders) -> NextOrder
                     },
                 );
             }
-            Step::Hold(w) => {
+            Meaning::Group(w) => {
                 wait = w;
             }
-            Step::Stop => {
+            Meaning::Unknown => {
                 return NextOrder::End;
             }
         }

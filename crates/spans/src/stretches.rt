@@ -13,7 +13,7 @@ use text::class::Profile;
 ghost use mathlib.Core.Path.{_≡_};
 ghost use lib.ListN.{length};
 ghost use Rattle.text.specs.Code.{profileOf};
-ghost use Rattle.spans.specs.Contracts.{spent, Opening, Waiting, Sound, Opened, Moved, Going, Settled, Counting, Nexted, HasNext, Begun, Started};
+ghost use Rattle.spans.specs.Stretches.{spent, OutsideReady, InsideReady, Sound, OutsideBegun, Advanced, AdvanceReady, SpentSkipped, NextRecordReady, RecordStep, HasNext, BeginReady, Begun};
 
 // Where a reading of a line stands: a place in a stretch, the stretch's end, the match that it is or that follows it, the next number
 // of the match ranges, and the conversion of offsets. `count` spans stand before it.
@@ -34,8 +34,8 @@ pub struct NextRecord {
 
 // The stretch from `start` to match `number`, or to the line's end where there is none.
 fn outside(line: &[u8], matches: &[usize], start: usize, number: usize, c: Cursor) -> Cursor
-    requires { ⌜ Opening (now line) (now matches) number c ⌝ }
-    ensures { λ r. ⌜ Opened (now (line .entry)) (now (matches .entry)) start number c r ⌝ }
+    requires { ⌜ OutsideReady (now line) (now matches) number c ⌝ }
+    ensures { λ r. ⌜ OutsideBegun (now (line .entry)) (now (matches .entry)) start number c r ⌝ }
 {
     let index = c.index;
     let offsets = c.offsets;
@@ -70,8 +70,8 @@ fn outside(line: &[u8], matches: &[usize], start: usize, number: usize, c: Curso
 
 // Match `number` behind the stretch that ends where it begins.
 fn inside(line: &[u8], matches: &[usize], c: Cursor) -> Cursor
-    requires { ⌜ Waiting (now line) (now matches) c ⌝ }
-    ensures { λ r. ⌜ Moved (now (line .entry)) (now (matches .entry)) c r ⌝ }
+    requires { ⌜ InsideReady (now line) (now matches) c ⌝ }
+    ensures { λ r. ⌜ Advanced (now (line .entry)) (now (matches .entry)) c r ⌝ }
 {
     let index = c.index;
     let offsets = c.offsets;
@@ -103,8 +103,8 @@ fn is_spent(line: &[u8], matches: &[usize], c: Cursor) -> bool
 
 // The stretch behind one that has no bytes left.
 fn advance(line: &[u8], matches: &[usize], c: Cursor) -> Cursor
-    requires { ⌜ Going (now line) (now matches) c ⌝ }
-    ensures { λ r. ⌜ Moved (now (line .entry)) (now (matches .entry)) c r ⌝ }
+    requires { ⌜ AdvanceReady (now line) (now matches) c ⌝ }
+    ensures { λ r. ⌜ Advanced (now (line .entry)) (now (matches .entry)) c r ⌝ }
 {
     let m = c.matched;
     if m.kind == 2 {
@@ -116,7 +116,7 @@ fn advance(line: &[u8], matches: &[usize], c: Cursor) -> Cursor
 // The first stretch behind this one that has bytes left, if there is one.
 fn skip_spent(line: &[u8], matches: &[usize], c: Cursor) -> Cursor
     requires { ⌜ Sound (now line) (now matches) c ⌝ }
-    ensures { λ r. ⌜ Settled (now (line .entry)) (now (matches .entry)) c r ⌝ }
+    ensures { λ r. ⌜ SpentSkipped (now (line .entry)) (now (matches .entry)) c r ⌝ }
 {
     let mut d = c;
     while is_spent(line, matches, d) {
@@ -128,7 +128,7 @@ fn skip_spent(line: &[u8], matches: &[usize], c: Cursor) -> Cursor
 // The first stretch from here on that has bytes left, if there is one: mostly this one.
 fn settle(line: &[u8], matches: &[usize], c: Cursor) -> Cursor
     requires { ⌜ Sound (now line) (now matches) c ⌝ }
-    ensures { λ r. ⌜ Settled (now (line .entry)) (now (matches .entry)) c r ⌝ }
+    ensures { λ r. ⌜ SpentSkipped (now (line .entry)) (now (matches .entry)) c r ⌝ }
 {
     if is_spent(line, matches, c) {
         return skip_spent(line, matches, c);
@@ -138,8 +138,8 @@ fn settle(line: &[u8], matches: &[usize], c: Cursor) -> Cursor
 
 // The next record; behind the last span a record of zeros.
 pub(crate) fn next_record(profile: Profile, line: &[u8], matches: &[usize], c: Cursor) -> NextRecord
-    requires { ⌜ Counting (now line) (now matches) c ⌝ }
-    ensures { λ r. ⌜ Nexted (profileOf profile) (now (line .entry)) (now (matches .entry)) c r ⌝ }
+    requires { ⌜ NextRecordReady (now line) (now matches) c ⌝ }
+    ensures { λ r. ⌜ RecordStep (profileOf profile) (now (line .entry)) (now (matches .entry)) c r ⌝ }
 {
     let d = settle(line, matches, c);
     let end = smaller(d.end, line.len());
@@ -186,8 +186,8 @@ pub(crate) fn has_next(line: &[u8], matches: &[usize], c: Cursor) -> bool
 
 // The beginning of a line, where the match ranges pass question 3.
 pub(crate) fn begin(line: &[u8], matches: &[usize]) -> Cursor
-    requires { ⌜ Begun (now line) (now matches) ⌝ }
-    ensures { λ r. ⌜ Started (now (line .entry)) (now (matches .entry)) r ⌝ }
+    requires { ⌜ BeginReady (now line) (now matches) ⌝ }
+    ensures { λ r. ⌜ Begun (now (line .entry)) (now (matches .entry)) r ⌝ }
 {
     let n = trimmed_len(line);
     let offsets = first_offsets(&line[..n]);

@@ -9,7 +9,7 @@ use Rattle.text.specs.declared.Answer.{Answer}
 use Rattle.text.specs.Width.{profile01}
 use Rattle.text.specs.TextParts.{column}
 use Rattle.spans.specs.Spans.{Record}
-use Rattle.spans.specs.Contracts.{readAs}
+use Rattle.spans.specs.Calls.Contracts.{readAs}
 use Rattle.rows.specs.Calls.{modeAndWidth, Wrapped, rowsCall, heightCall}
 use Rattle.rows.specs.declared.Request.{Request}
 use Rattle.rows.specs.declared.Outcome.{Outcome}

@@ -14,12 +14,12 @@ use Rattle.text.specs.Overstrike.{convert}
 use Rattle.text.specs.Overstrike.Length.{convert-size}
 use Rattle.text.specs.declared.Answer.{Answer}
 use Rattle.spans.specs.Spans.{Span, Record, recordOf, records}
-use Rattle.spans.specs.Spans.Few.{few}
+use Rattle.spans.specs.Spans.SpanCount.{few}
 use Rattle.spans.specs.Spans.ContentLaw.{contentOf, content-front}
 use Rattle.spans.specs.Search as search
 use Rattle.spans.specs.Calls.{Read, readCall, noRecord}
 use Rattle.spans.specs.Calls.Laws.{read-accepted, read-refused, read-passed}
-use Rattle.spans.specs.Contracts.{readAs}
+use Rattle.spans.specs.Calls.Contracts.{readAs}
 use Rattle.rows.specs.Calls.Contracts.{lineRoom}
 
 module _ (size places : ℕ) (matches line : List ℕ) (a : Answer) (cs : List ℕ) (rs : List Record) (read : readAs a cs rs ≡ readCall profile01 size places matches line) where

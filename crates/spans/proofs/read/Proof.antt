@@ -1,4 +1,4 @@
--- A walk of the code, by hand, with four calls. The buffer is lent again to `prepare`; the list is lent again, and the buffer as a `&`, to `fill`; the buffer goes to `finish` and the list to `clear_spans` for good. Of each callee the proof knows its contract alone.
+-- A walk of the code, by hand, with four calls. The buffer is lent again to `prepare`; the list is lent again, and the buffer as a `&`, to `parse_spans`; the buffer goes to `finish` and the list to `clear_spans` for good. Of each callee the proof knows its contract alone.
 use mathlib.Core.Path.{refl, sym, ap, subst}
 use Prim.Native.Nat.{ℕ}
 use mathlib.Core.List.{List, [], _∷_}
@@ -28,17 +28,17 @@ use Rattle.lending.specs.Statements.{copies, counts, lends-on, gives}
 use Rattle.lending.specs.Functions.{W, asks, answers, walks}
 use Rattle.text.proofs.Answer as R
 use Rattle.text.proofs.Answer.Laws as R′
-use Rattle.spans.specs.Contracts.{Fillable, Holds}
-use Rattle.spans.proofs.CallLaws.{fill-ready, read-done}
+use Rattle.spans.specs.Calls.Contracts.{ParseSpansReady, Holds}
+use Rattle.spans.proofs.ReadCall.{parse-ready, read-done}
 use Rattle.spans.proofs.Span as T
 use Rattle.spans.proofs.Reading as K
 use Rattle.spans.proofs.Reading.Laws as K′
 use Rattle.spans.proofs.prepare as prep
 use Rattle.spans.proofs.prepare.Symbol as prep-def
 use Rattle.spans.proofs.prepare.Met as prep-thm
-use Rattle.spans.proofs.fill as fill
-use Rattle.spans.proofs.fill.Symbol as fill-def
-use Rattle.spans.proofs.fill.Met as fill-thm
+use Rattle.spans.proofs.parse_spans as parse
+use Rattle.spans.proofs.parse_spans.Symbol as parse-def
+use Rattle.spans.proofs.parse_spans.Met as parse-thm
 use Rattle.spans.proofs.finish as fin
 use Rattle.spans.proofs.finish.Symbol as fin-def
 use Rattle.spans.proofs.finish.Met as fin-thm
@@ -50,15 +50,15 @@ use Rattle.spans.proofs.read as f
 use Rattle.spans.proofs.read.Statement as stated
 use Rattle.spans.proofs.read.Code as code
 
--- the parameters: of the function, of `prepare`, `fill`, `finish` and `clear_spans`
+-- the parameters: of the function, of `prepare`, `parse_spans`, `finish` and `clear_spans`
 abbrev own : List (Kind 4)
 own = shared 0 tt u8 ∷ shared 1 tt usize ∷ lent 2 tt u8 ∷ lent 3 tt T.the-row ∷ []
 
 abbrev of-prepare : List (Kind 3)
 of-prepare = shared 0 tt u8 ∷ shared 1 tt usize ∷ lent 2 tt u8 ∷ number ∷ []
 
-abbrev of-fill : List (Kind 3)
-of-fill = lent 0 tt T.the-row ∷ shared 1 tt u8 ∷ shared 2 tt usize ∷ copied K.the-type K′.the-laws K′.the-copy ∷ []
+abbrev of-parse : List (Kind 3)
+of-parse = lent 0 tt T.the-row ∷ shared 1 tt u8 ∷ shared 2 tt usize ∷ copied K.the-type K′.the-laws K′.the-copy ∷ []
 
 abbrev of-finish : List (Kind 2)
 of-finish = lent 0 tt u8 ∷ shared 1 tt usize ∷ copied K.the-type K′.the-laws K′.the-copy ∷ []
@@ -97,14 +97,14 @@ read-spec 𝓤 H 𝓜 𝓖 𝓡 =
     move ! (5 ∷ []) $ heard ! _ (λ e.
     -- [3 tokens; what is left in conv; the locals; the reading; the matches, twice; what the lender keeps; spans' token; spans; …]
     move ! (2 ∷ 3 ∷ 8 ∷ []) $ regains ! tt u8 κ q (name conv) (ptr conv .0) (ptr conv .1) (named 2) (named 2) (now conv) zs room (λ l.
-    -- `fill`: the list is lent again, and the buffer as a `&`
+    -- `parse_spans`: the list is lent again, and the buffer as a `&`
     move ! (4 ∷ []) $ revalue ! 3 refl (ap (sliceVal (ptr conv)) (sym l)) $ lends-on ! refl refl tt refl tt $ lends-on ! refl refl tt refl tt $
     rewrite ! 1 (λ (n : ℕ). ‵ (MutSlice (named 2) κ u8 .own (record { ptr = ptr conv; name = name conv; now = zs }) (sliceVal (ptr conv) n ∷ []))) (sym l) refl $
     move ! (1 ∷ 2 ∷ []) $ shows-on ! tt u8 κ q (name conv) (ptr conv .0) (ptr conv .1) (named 2) (named 1) zs (λ μ′ ε′.
     move ! (10 ∷ 9 ∷ []) $ relends ! tt T.the-row κ′ q′ (name spans) (ptr spans .0) (ptr spans .1) (named 3) (named 0) (now spans) (λ μ ε. move ! (0 ∷ 3 ∷ 8 ∷ 1 ∷ 4 ∷ 10 ∷ 9 ∷ 6 ∷ []) $
-    asks 𝓤 H 𝓜 𝓖 𝓡 code.env 3 of-fill (plain (λ _. K.the-row)) (fill.clauses 𝓤 H (𝓖 .A) (𝓜 .mem) (𝓡 .run)) fill-def.name fill-def.routine code.calls-spans·fill (fill-thm.met 𝓤 H 𝓜 𝓖 𝓡)
+    asks 𝓤 H 𝓜 𝓖 𝓡 code.env 3 of-parse (plain (λ _. K.the-row)) (parse.clauses 𝓤 H (𝓖 .A) (𝓜 .mem) (𝓡 .run)) parse-def.name parse-def.routine code.calls-spans·parse-spans (parse-thm.met 𝓤 H 𝓜 𝓖 𝓡)
     (μ ∷ [], (μ′ ∷ [], (κm, tt))) (fullShare, (fullShare, (qm, tt))) (record { ptr = ptr spans; name = ε; now = now spans }, (record { ptr = ptr conv; name = ε′; now = zs }, (matches, (c, tt)))) ! tt
-    (factI 𝓤 (Fillable zs (now matches) (length (now spans)) c) (emp 𝓤) (fill-ready (now line) (now matches) (length (now conv)) zs (length (now spans)) c e))
+    (factI 𝓤 (ParseSpansReady zs (now matches) (length (now spans)) c) (emp 𝓤) (parse-ready (now line) (now matches) (length (now conv)) zs (length (now spans)) c e))
     (gives ! refl (gives ! refl (gives ! refl (gives ! refl (no-more !))))) (a-struct W′ K.the-type K′.the-laws) (λ r t. t .0) (λ r r-is vs.
     let ws = vs .0 in
     move ! (5 ∷ []) $ heard ! _ (λ e′.

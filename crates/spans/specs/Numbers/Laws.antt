@@ -16,7 +16,7 @@ use Rattle.buffer.specs.Sink.Laws.{emit-none, emit-append, emit-room}
 use Rattle.text.specs.declared.Answer.{Answer}
 use Rattle.spans.specs.Spans.{Record}
 use Rattle.spans.specs.Calls.{Read, noRecord}
-use Rattle.spans.specs.Contracts.{readAs}
+use Rattle.spans.specs.Calls.Contracts.{readAs}
 use Rattle.spans.specs.Numbers.{numbersOf, numbersOfAll, placesIn, ReadNumbers}
 
 pub push-four : (s s₁ s₂ s₃ s₄ : Sink) (a b c d : ℕ) → s₁ ≡ put s a → s₂ ≡ put s₁ b → s₃ ≡ put s₂ c → s₄ ≡ put s₃ d → s₄ ≡ emit s (a ∷ b ∷ c ∷ d ∷ [])

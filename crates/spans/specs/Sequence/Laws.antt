@@ -289,10 +289,10 @@ unfolding Told ifKnown
 known-told s [] n e = tt
 known-told s (o ∷ os) n e = e
 
-told : (s : List ℕ) → Told s (parse s)
+sequenceOf : (s : List ℕ) → Told s (parse s)
 unfolding parse csi erase charset osc closed Told
-told [] = tt
-told (a ∷ s) =
+sequenceOf [] = tt
+sequenceOf (a ∷ s) =
     let ps : List ℕ = parameters 0 s in
     let n : ℕ = leading parameterByte s in
     let i : ℕ = past idByte s 2 in
@@ -315,12 +315,12 @@ told (a ∷ s) =
 -- the orders of a sequence are those of its parameters
 pub parse-orders : (s : List ℕ) (os : List Sgr) (n : ℕ) → parse s ≡ found (sgr os) n → os ≡ orders (parameters 0 (drop 1 s))
 unfolding Told
-parse-orders s os n e = rw e at (told s)
+parse-orders s os n e = rw e at (sequenceOf s)
 
 -- line drawing goes on where the byte behind `ESC (` is `0`
 pub parse-drawing : (s : List ℕ) (b : Bool) (n : ℕ) → parse s ≡ found (lineDrawing b) n → b ≡ eqb (getD s 1 0) 0x30
 unfolding Told
-parse-drawing s b n e = rw e at (told s)
+parse-drawing s b n e = rw e at (sequenceOf s)
 
 -- the URI of a hyperlink begins inside the sequence
 pub parse-link : (s : List ℕ) (a m n : ℕ) → parse s ≡ found (hyperlink a m) n → a ≤ n

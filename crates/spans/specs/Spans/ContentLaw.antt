@@ -22,7 +22,7 @@ use Rattle.text.specs.Cluster.Laws.{clusters-all, join-bytes, join-cons}
 use Rattle.spans.specs.Sequence.{sgr, eraseToEnd, ignored, hyperlink, lineDrawing, Found, found, missing, parse}
 use Rattle.spans.specs.Sequence.Laws.{parse-stable}
 use Rattle.spans.specs.Search.{Stretch, offsetFrom, escapes, readPart, readMatches, read}
-use Rattle.spans.specs.Spans.{Content, text, control, invalid, unprintable, escape, tab, crlf, lf, Span, span, Seen, plain, special, escapeSeen, controlSeen, joinText, addText, addCluster, seen, readFrom, readPieces, spansAt, spans, Record, aRecord, kindOf, matchOf, recordOf}
+use Rattle.spans.specs.Spans.{Content, text, control, invalid, unprintable, escape, tab, crlf, lf, Span, span, ClusterKind, plain, special, escapeKind, controlKind, joinText, addText, addCluster, clusterKind, readFrom, readPieces, spansAt, spans, Record, aRecord, kindOf, matchOf, recordOf}
 
 -- ---- what a record says of the bytes from its place on
 
@@ -123,7 +123,7 @@ module _ (line : List ℕ) where
   joinText-begins m p g s crlf ss = refl
   joinText-begins m p g s lf ss = refl
 
-  addCluster-begins : (m : Option ℕ) (p : ℕ) (g : List Scalar) (n : ℕ) (w : Seen) (go : ℕ → List Span) → Begins p (addCluster m p g n w go)
+  addCluster-begins : (m : Option ℕ) (p : ℕ) (g : List Scalar) (n : ℕ) (w : ClusterKind) (go : ℕ → List Span) → Begins p (addCluster m p g n w go)
   unfolding Begins addCluster addText
   addCluster-begins m p g n plain go = begin (go zero)
     where
@@ -159,30 +159,30 @@ module _ (line : List ℕ) where
 -- ---- clusters
 
 -- what a cluster is, at place p
-unfoldable SeenStands : List ℕ → ℕ → Seen → Type 0
-SeenStands line p plain = Unit {0}
-SeenStands line p (special c n) = Stands line p n c
+unfoldable KindStands : List ℕ → ℕ → ClusterKind → Type 0
+KindStands line p plain = Unit {0}
+KindStands line p (special c n) = Stands line p n c
 
-cond-stands : (line : List ℕ) (p : ℕ) (b : Bool) (x y : Seen) → (b ≡ true → SeenStands line p x) → (b ≡ false → SeenStands line p y) → SeenStands line p (cond b x y)
+cond-stands : (line : List ℕ) (p : ℕ) (b : Bool) (x y : ClusterKind) → (b ≡ true → KindStands line p x) → (b ≡ false → KindStands line p y) → KindStands line p (cond b x y)
 cond-stands line p true x y f g = f refl
 cond-stands line p false x y f g = g refl
 
 module _ (line : List ℕ) (p : ℕ) (after : List ℕ) where
-  escape-stands : (f : Found) (s : List ℕ) → parse s ≡ f → drop p line ≡ 0x1B ∷ (s ++ after) → SeenStands line p (escapeSeen f)
-  unfolding SeenStands escapeSeen Stands sequenceIn
+  escape-stands : (f : Found) (s : List ℕ) → parse s ≡ f → drop p line ≡ 0x1B ∷ (s ++ after) → KindStands line p (escapeKind f)
+  unfolding KindStands escapeKind Stands sequenceIn
   escape-stands (found e n) s h d = rw (d, parse-stable s after e n h)
   escape-stands missing s h d = rw d
 
-  control-stands : (g : List ℕ) (w : Seen) → drop p line ≡ g ++ after → SeenStands line p w → SeenStands line p (controlSeen g w)
-  unfolding controlSeen SeenStands Stands
+  control-stands : (g : List ℕ) (w : ClusterKind) → drop p line ≡ g ++ after → KindStands line p w → KindStands line p (controlKind g w)
+  unfolding controlKind KindStands Stands
   control-stands [] w d h = h
   control-stands (b ∷ []) w d h = cond-stands line p (leb b 0x1F || eqb b 0x7F) (special (control b) 1) w (λ e. rw d) (λ e. h)
   control-stands (b ∷ c ∷ g) w d h = h
 
 module _ (P : Profile) (line : List ℕ) where
-  seen-stands : (p : ℕ) (g : List Scalar) (s after : List ℕ) → drop p line ≡ bytesOf g ++ (s ++ after) → All Valid g → SeenStands line p (seen P g s)
-  unfolding seen SeenStands Stands
-  seen-stands p g s after d v =
+  kind-stands : (p : ℕ) (g : List Scalar) (s after : List ℕ) → drop p line ≡ bytesOf g ++ (s ++ after) → All Valid g → KindStands line p (clusterKind P g s)
+  unfolding clusterKind KindStands Stands
+  kind-stands p g s after d v =
       cond-stands line p (reads g (0x1B ∷ [])) _ _
       (λ e. escape-stands line p after (parse s) s refl (d ∙ ap (λ (l : List ℕ). l ++ (s ++ after)) (reads-is g (0x1B ∷ []) e)))
       (λ e. cond-stands line p (reads g (0x0D ∷ 0x0A ∷ [])) _ _ (λ e. tt)
@@ -196,12 +196,12 @@ module _ (P : Profile) (line : List ℕ) where
   readFrom-begins : (m : Option ℕ) (p : ℕ) (gs : List (List Scalar)) → Begins line p (readFrom P m p zero gs)
   unfolding readFrom Begins
   readFrom-begins m p [] = tt
-  readFrom-begins m p (g ∷ gs) = addCluster-begins line m p g (length (bytesOf g)) (seen P g (bytesOf (joinAll gs))) (λ k. readFrom P m (p + length (bytesOf g)) k gs)
+  readFrom-begins m p (g ∷ gs) = addCluster-begins line m p g (length (bytesOf g)) (clusterKind P g (bytesOf (joinAll gs))) (λ k. readFrom P m (p + length (bytesOf g)) k gs)
 
-  addCluster-stands : (m : Option ℕ) (p : ℕ) (g : List Scalar) (w : Seen) (go : ℕ → List Span)
-      → drop p line ≡ bytesOf g ++ drop (p + length (bytesOf g)) line → All Valid g → SeenStands line p w → Begins line (p + length (bytesOf g)) (go zero)
+  addCluster-stands : (m : Option ℕ) (p : ℕ) (g : List Scalar) (w : ClusterKind) (go : ℕ → List Span)
+      → drop p line ≡ bytesOf g ++ drop (p + length (bytesOf g)) line → All Valid g → KindStands line p w → Begins line (p + length (bytesOf g)) (go zero)
       → ((k : ℕ) → All (StandsIn line) (go k)) → All (StandsIn line) (addCluster m p g (length (bytesOf g)) w go)
-  unfolding addCluster SeenStands
+  unfolding addCluster KindStands
   addCluster-stands m p g plain go d v h b a = addText-stands line m p g (go zero) d v b (a zero)
   addCluster-stands m p g (special c k) go d v h b a = all-cons h (a (k - length (bytesOf g)))
 
@@ -213,7 +213,7 @@ module _ (P : Profile) (line : List ℕ) where
       let w = all-split g (rw (join-cons g gs) at v) in
       let e : drop p line ≡ bytesOf g ++ (bytesOf (joinAll gs) ++ after) = d ∙ ap (λ (l : List ℕ). l ++ after) (join-bytes g gs) ∙ append-assoc (bytesOf g) (bytesOf (joinAll gs)) after in
       let f = behind p line (bytesOf g) (bytesOf (joinAll gs) ++ after) e in
-      addCluster-stands m p g (seen P g (bytesOf (joinAll gs))) (λ k. readFrom P m (p + length (bytesOf g)) k gs) (e ∙ ap (λ (l : List ℕ). bytesOf g ++ l) (sym f)) (w .0) (seen-stands p g (bytesOf (joinAll gs)) after e (w .0))
+      addCluster-stands m p g (clusterKind P g (bytesOf (joinAll gs))) (λ k. readFrom P m (p + length (bytesOf g)) k gs) (e ∙ ap (λ (l : List ℕ). bytesOf g ++ l) (sym f)) (w .0) (kind-stands p g (bytesOf (joinAll gs)) after e (w .0))
       (readFrom-begins m (p + length (bytesOf g)) gs)
       (λ k. readFrom-stands m (p + length (bytesOf g)) k gs after f (w .1))
   readFrom-stands m p (suc k) (g ∷ gs) after d v =

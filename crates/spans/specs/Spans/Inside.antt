@@ -22,7 +22,7 @@ use Rattle.text.specs.Cluster.Walk.{clusters-some}
 use Rattle.spans.specs.Sequence.{Found, found, missing, parse}
 use Rattle.spans.specs.Sequence.Laws.{parse-length}
 use Rattle.spans.specs.Search.{Stretch, offsetFrom, escapes, readPart, readMatches, read}
-use Rattle.spans.specs.Spans.{Content, text, control, invalid, unprintable, escape, tab, crlf, lf, Span, span, Seen, plain, special, escapeSeen, controlSeen, joinText, addText, addCluster, seen, readFrom, readPieces, spansAt, spans}
+use Rattle.spans.specs.Spans.{Content, text, control, invalid, unprintable, escape, tab, crlf, lf, Span, span, ClusterKind, plain, special, escapeKind, controlKind, joinText, addText, addCluster, clusterKind, readFrom, readPieces, spansAt, spans}
 use Rattle.spans.specs.Spans.Laws.{no-spans}
 
 -- a span from p on, up to q
@@ -58,29 +58,29 @@ addText-inside m p q g (s ∷ ss) h (all-cons z a) = joinText-inside m p q g s (
 -- ---- clusters
 
 -- a cluster's span has at most n bytes
-unfoldable AtMost : ℕ → Seen → Type 0
+unfoldable AtMost : ℕ → ClusterKind → Type 0
 AtMost n plain = Unit {0}
 AtMost n (special c k) = k ≤ n
 
-cond-most : (n : ℕ) (b : Bool) (x y : Seen) → (b ≡ true → AtMost n x) → (b ≡ false → AtMost n y) → AtMost n (cond b x y)
+cond-most : (n : ℕ) (b : Bool) (x y : ClusterKind) → (b ≡ true → AtMost n x) → (b ≡ false → AtMost n y) → AtMost n (cond b x y)
 cond-most n true x y f g = f refl
 cond-most n false x y f g = g refl
 
-escape-most : (n : ℕ) (s : List ℕ) (f : Found) → parse s ≡ f → 1 + length s ≤ n → AtMost n (escapeSeen f)
-unfolding AtMost escapeSeen
+escape-most : (n : ℕ) (s : List ℕ) (f : Found) → parse s ≡ f → 1 + length s ≤ n → AtMost n (escapeKind f)
+unfolding AtMost escapeKind
 escape-most n s (found e k) q h = omega (arith, parse-length s e k q)
 escape-most n s missing q h = omega arith
 
-control-most : (n : ℕ) (g : List ℕ) (w : Seen) → 1 ≤ n → AtMost n w → AtMost n (controlSeen g w)
-unfolding controlSeen AtMost
+control-most : (n : ℕ) (g : List ℕ) (w : ClusterKind) → 1 ≤ n → AtMost n w → AtMost n (controlKind g w)
+unfolding controlKind AtMost
 control-most n [] w h z = z
 control-most n (b ∷ []) w h z = cond-most n (leb b 0x1F || eqb b 0x7F) (special (control b) 1) w (λ e. h) (λ e. z)
 control-most n (b ∷ c ∷ g) w h z = z
 
 module _ (P : Profile) where
-  seen-most : (g : List Scalar) (s : List ℕ) → 1 ≤ length (bytesOf g) → AtMost (length (bytesOf g) + length s) (seen P g s)
-  unfolding seen AtMost
-  seen-most g s h =
+  kind-most : (g : List Scalar) (s : List ℕ) → 1 ≤ length (bytesOf g) → AtMost (length (bytesOf g) + length s) (clusterKind P g s)
+  unfolding clusterKind AtMost
+  kind-most g s h =
       let n : ℕ = length (bytesOf g) + length s in
       cond-most n (reads g (0x1B ∷ [])) _ _ (λ e. escape-most n s (parse s) refl (omega arith))
       (λ e. cond-most n (reads g (0x0D ∷ 0x0A ∷ [])) _ _ (λ e. omega (arith, ap length (reads-is g (0x0D ∷ 0x0A ∷ []) e)))
@@ -88,7 +88,7 @@ module _ (P : Profile) where
       (λ e. cond-most n (reads g (0x09 ∷ [])) _ _ (λ e. omega arith)
       (λ e. control-most n (bytesOf g) _ (omega arith) (cond-most n (eqb (widthOf P g) 0) _ _ (λ e. omega arith) (λ e. tt))))))
 
-  addCluster-inside : (m : Option ℕ) (p q : ℕ) (g : List Scalar) (n : ℕ) (w : Seen) (go : ℕ → List Span) → p + length (bytesOf g) ≤ q → p + n ≤ q → AtMost n w → ((k : ℕ) → All (Between (p + length (bytesOf g)) q) (go k))
+  addCluster-inside : (m : Option ℕ) (p q : ℕ) (g : List Scalar) (n : ℕ) (w : ClusterKind) (go : ℕ → List Span) → p + length (bytesOf g) ≤ q → p + n ≤ q → AtMost n w → ((k : ℕ) → All (Between (p + length (bytesOf g)) q) (go k))
       → All (Between p q) (addCluster m p g (length (bytesOf g)) w go)
   unfolding addCluster AtMost
   addCluster-inside m p q g n plain go h k z a = addText-inside m p q g (go zero) h (a zero)
@@ -103,7 +103,7 @@ module _ (P : Profile) where
           → (m : Option ℕ) (p k q : ℕ) → All (λ (g : List Scalar). 1 ≤ length (bytesOf g)) (g ∷ gs) → p + length (bytesOf (joinAll (g ∷ gs))) ≤ q → All (Between p q) (readFrom P m p k (g ∷ gs))
       go ih m p zero q (all-cons s a) h =
           let n = join-length g gs in
-          addCluster-inside m p q g (length (bytesOf g) + length (bytesOf (joinAll gs))) (seen P g (bytesOf (joinAll gs))) (λ k. readFrom P m (p + length (bytesOf g)) k gs) (omega arith) (omega arith) (seen-most g (bytesOf (joinAll gs)) s)
+          addCluster-inside m p q g (length (bytesOf g) + length (bytesOf (joinAll gs))) (clusterKind P g (bytesOf (joinAll gs))) (λ k. readFrom P m (p + length (bytesOf g)) k gs) (omega arith) (omega arith) (kind-most g (bytesOf (joinAll gs)) s)
           (λ k. ih m (p + length (bytesOf g)) k q a (omega arith))
       go ih m p (suc k) q (all-cons s a) h =
           let n = join-length g gs in

@@ -11,7 +11,7 @@ use Rattle.text.specs.Class.{Profile}
 use Rattle.text.specs.Cluster.{clusters, joinAll}
 use Rattle.text.specs.Utf8.Laws.{pieceBytes, pieces-damaged, pieces-nil, pieces-run}
 use Rattle.text.specs.Utf8.Runs.{runs-nil}
-use Rattle.spans.specs.Spans.{Content, text, control, invalid, unprintable, escape, tab, crlf, lf, Span, span, Seen, plain, special, joinText, addText, addCluster, seen, readFrom, readPieces, spansAt}
+use Rattle.spans.specs.Spans.{Content, text, control, invalid, unprintable, escape, tab, crlf, lf, Span, span, ClusterKind, plain, special, joinText, addText, addCluster, clusterKind, readFrom, readPieces, spansAt}
 
 pub map-append {ℓ κ} : {A : Type ℓ} {B : Type κ} (f : A → B) (s t : List A) → map f (s ++ t) ≡ map f s ++ map f t
 map-append f [] t = refl
@@ -39,7 +39,7 @@ unfolding addText shift
 addText-shift m p k g [] = refl
 addText-shift m p k g (s ∷ ss) = joinText-shift m p k g s (s .content) ss
 
-addCluster-shift : (m : Option ℕ) (p k : ℕ) (g : List Scalar) (n : ℕ) (w : Seen) (go go′ : ℕ → List Span) → ((j : ℕ) → go′ j ≡ map (shift k) (go j))
+addCluster-shift : (m : Option ℕ) (p k : ℕ) (g : List Scalar) (n : ℕ) (w : ClusterKind) (go go′ : ℕ → List Span) → ((j : ℕ) → go′ j ≡ map (shift k) (go j))
     → addCluster m (p + k) g n w go′ ≡ map (shift k) (addCluster m p g n w go)
 unfolding addCluster shift
 addCluster-shift m p k g n plain go go′ e = ap (addText m (p + k) g) (e zero) ∙ addText-shift m p k g (go zero)
@@ -56,7 +56,7 @@ module _ (P : Profile) where
   readFrom-shift m p k zero (g ∷ gs) =
       let n : ℕ = length (bytesOf g) in
       let e : p + k + n ≡ p + n + k = omega arith in
-      addCluster-shift m p k g n (seen P g (bytesOf (joinAll gs))) (λ j. readFrom P m (p + n) j gs) (λ j. readFrom P m (p + k + n) j gs)
+      addCluster-shift m p k g n (clusterKind P g (bytesOf (joinAll gs))) (λ j. readFrom P m (p + n) j gs) (λ j. readFrom P m (p + k + n) j gs)
       (λ j. ap (λ (q : ℕ). readFrom P m q j gs) e ∙ readFrom-shift m (p + n) k j gs)
   readFrom-shift m p k (suc j) (g ∷ gs) =
       let n : ℕ = length (bytesOf g) in

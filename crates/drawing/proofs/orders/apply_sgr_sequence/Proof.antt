@@ -39,7 +39,7 @@ use denote.Triple.Table.{entered, cited}
 use denote.Triple.Walked.{says, Stays, stay-ref, stay-none-slice, stay-none, walkOf, goes-none, goes-none-slice, goes-ref, Walks, ends-at, walked, walk-meets}
 use denote.Exit.{yes}
 use Rattle.spans.specs.declared.sgr.Orders.{Orders}
-use Rattle.spans.specs.Contracts.{ordersAt}
+use Rattle.spans.specs.Sgr.Contracts.{ordersAt}
 use Rattle.spans.proofs.sgr.Orders as P
 use Rattle.spans.proofs.sgr.Orders.Laws as P′
 use Rattle.drawing.specs.declared.state.AttributeState.{AttributeState}

@@ -41,7 +41,7 @@ use denote.Triple.Table.{entered, cited}
 use denote.Triple.Walked.{says, Stays, stay-none, stay-none-slice, walkOf, goes-none, goes-none-slice, Walks, ends-at, walked, walk-meets}
 use denote.Exit.{yes}
 use Rattle.spans.specs.declared.sgr.Orders.{Orders}
-use Rattle.spans.specs.Contracts.{ordersAt}
+use Rattle.spans.specs.Sgr.Contracts.{ordersAt}
 use Rattle.spans.proofs.sgr.Orders as P
 use Rattle.spans.proofs.sgr.Orders.Laws as P′
 use Rattle.drawing.specs.declared.state.AttributeState.{AttributeState}

@@ -1,4 +1,4 @@
-use Rattle.spans.proofs.ReaderLaws.{control-escape, control-mark}
+use Rattle.spans.proofs.SpanSteps.{control-escape, control-mark}
 use borrow.Author.Needs.{needs}
 use Rattle.spans.proofs.reader.control_span.Statement.{statement}
 use Rattle.spans.proofs.reader.control_span.Tie as tie

@@ -1,4 +1,4 @@
-use Rattle.spans.proofs.ReaderLaws.{escape-within, escape-fit, escape-ready, escape-step}
+use Rattle.spans.proofs.SpanSteps.{escape-within, escape-fit, escape-ready, escape-step}
 use borrow.Author.Needs.{needs}
 use Rattle.spans.proofs.reader.escape_span.Statement.{statement}
 use Rattle.spans.proofs.reader.escape_span.Tie as tie
@@ -9,14 +9,14 @@ run-at-requires c κs = search needs
 sequence-at-requires : tie.Need-sequence-at-requires
 sequence-at-requires c κs = search escape-within
 
-escape-look-requires : tie.Need-escape-look-requires
-escape-look-requires c κs = search needs
+escape-head-requires : tie.Need-escape-head-requires
+escape-head-requires c κs = search needs
 
 add-skip-to : tie.Need-add-skip-to
 add-skip-to c = search needs
 
 add-skip-to-2 : tie.Need-add-skip-to-2
-add-skip-to-2 c = let h = escape-fit _ _ (c .before .before .before .before .before .pre) _ (c .before .before .before .run-at .ensures) _ (c .before .before .sequence-at .ensures) _ (c .before .escape-look .ensures) in search needs
+add-skip-to-2 c = let h = escape-fit _ _ (c .before .before .before .before .before .pre) _ (c .before .before .before .run-at .ensures) _ (c .before .before .sequence-at .ensures) _ (c .before .escape-head .ensures) in search needs
 
 skip-to-requires : tie.Need-skip-to-requires
 skip-to-requires c κs = search escape-ready
@@ -33,7 +33,7 @@ escape-span-spec =
     (tie.spec
     run-at-requires
     sequence-at-requires
-    escape-look-requires
+    escape-head-requires
     add-skip-to
     add-skip-to-2
     skip-to-requires

@@ -1,4 +1,4 @@
-use Rattle.spans.proofs.ReaderLaws.{invalid-is}
+use Rattle.spans.proofs.SpanSteps.{invalid-is}
 use borrow.Author.Needs.{needs}
 use Rattle.spans.proofs.reader.invalid_span.Statement.{statement}
 use Rattle.spans.proofs.reader.invalid_span.Tie as tie

@@ -1,10 +1,10 @@
-use Rattle.spans.proofs.ReaderLaws.{mark-part, mark-step}
+use Rattle.spans.proofs.SpanSteps.{mark-part, mark-step}
 use borrow.Author.Needs.{needs}
 use Rattle.spans.proofs.reader.mark_span.Statement.{statement}
 use Rattle.spans.proofs.reader.mark_span.Tie as tie
 
-look-at-requires : tie.Need-look-at-requires
-look-at-requires c κs = search mark-part
+head-at-requires : tie.Need-head-at-requires
+head-at-requires c κs = search mark-part
 
 span-of-requires : tie.Need-span-of-requires
 span-of-requires c κs = search needs
@@ -13,4 +13,4 @@ returns : tie.Need-returns
 returns c = search mark-step
 
 pub mark-span-spec : {M : Type 1} → statement M
-mark-span-spec = tie.close (tie.spec look-at-requires span-of-requires returns)
+mark-span-spec = tie.close (tie.spec head-at-requires span-of-requires returns)

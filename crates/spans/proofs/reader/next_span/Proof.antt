@@ -1,4 +1,4 @@
-use Rattle.spans.proofs.ReaderLaws.{control-ready, invalid-step, mark-ready, special-done, text-done, text-up}
+use Rattle.spans.proofs.SpanSteps.{control-ready, invalid-step, mark-ready, special-done, text-done, text-up}
 use borrow.Author.Needs.{needs}
 use Rattle.spans.proofs.reader.next_span.Statement.{statement}
 use Rattle.spans.proofs.reader.next_span.Tie as tie

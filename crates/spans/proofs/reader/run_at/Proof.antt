@@ -1,4 +1,4 @@
-use Rattle.spans.proofs.ReaderLaws.{run-known}
+use Rattle.spans.proofs.SpanSteps.{run-known}
 use borrow.Author.Needs.{needs}
 use Rattle.spans.proofs.reader.run_at.Statement.{statement}
 use Rattle.spans.proofs.reader.run_at.Tie as tie

@@ -1,4 +1,4 @@
-use Rattle.spans.proofs.ReaderLaws.{skip-nothing, skip-inside, skip-last}
+use Rattle.spans.proofs.SkippedClusters.{skip-nothing, skip-inside, skip-last}
 use borrow.Author.Needs.{needs}
 use Rattle.spans.proofs.reader.skip_to.Statement.{statement}
 use Rattle.spans.proofs.reader.skip_to.Tie as tie

@@ -1,9 +1,9 @@
 use Prim.Native.Nat.{_-_}
 use lib.ListN.{length}
 use Rattle.text.specs.Code.{profileOf}
-use Rattle.spans.specs.Contracts.{PlainTo}
+use Rattle.spans.specs.Reader.{PlainTo}
 use Rattle.spans.proofs.PlainClusters.{plain-here}
-use Rattle.spans.proofs.ReaderLaws.{other-here, text-control, text-control-behind, text-falls, text-more, text-past, text-stops}
+use Rattle.spans.proofs.TextEnd.{other-here, text-control, text-control-behind, text-falls, text-more, text-past, text-stops}
 use borrow.Author.Needs.{needs}
 use Rattle.spans.proofs.reader.text_end.Statement.{statement}
 use Rattle.spans.proofs.reader.text_end.Tie as tie

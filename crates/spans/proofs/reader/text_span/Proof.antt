@@ -1,4 +1,4 @@
-use Rattle.spans.specs.Contracts.{textRecord}
+use Rattle.spans.specs.Reader.{textRecord}
 use Rattle.lending.specs.Conditions.{branch}
 use borrow.Author.Needs.{needs}
 use Rattle.spans.proofs.reader.text_span.Statement.{statement}

@@ -1,4 +1,4 @@
-use Rattle.spans.specs.Contracts.{told}
+use Rattle.spans.specs.Sequence.Contracts.{sequenceOf}
 use Rattle.spans.proofs.Sequences.{telling, csiOf, csi-is, erase-as}
 use Rattle.lending.specs.Conditions.{branch}
 use borrow.Author.Needs.{needs}
@@ -15,11 +15,11 @@ style-requires : tie.Need-style-requires
 style-requires c κs = search needs
 
 returns : tie.Need-returns
-unfolding csiOf told
+unfolding csiOf sequenceOf
 returns c = search (csi-is, telling, branch) depth 12 fits 20000
 
 returns-2 : tie.Need-returns-2
-unfolding csiOf told
+unfolding csiOf sequenceOf
 returns-2 c = search (csi-is, telling, branch) depth 12 fits 20000
 
 byte-at-requires-2 : tie.Need-byte-at-requires-2
@@ -39,11 +39,11 @@ add-t10 : tie.Need-add-t10
 add-t10 c = search needs
 
 returns-4 : tie.Need-returns-4
-unfolding csiOf told
+unfolding csiOf sequenceOf
 returns-4 c = search (csi-is, telling, branch) depth 12 fits 20000
 
 returns-5 : tie.Need-returns-5
-unfolding csiOf told
+unfolding csiOf sequenceOf
 returns-5 c = search (csi-is, telling, branch) depth 12 fits 20000
 
 pub csi-spec : {M : Type 1} → statement M

@@ -1,4 +1,4 @@
-use Rattle.spans.specs.Contracts.{told}
+use Rattle.spans.specs.Sequence.Contracts.{sequenceOf}
 use Rattle.spans.proofs.Sequences.{telling, oscOf, osc-is}
 use Rattle.lending.specs.Conditions.{branch}
 use borrow.Author.Needs.{needs}
@@ -28,7 +28,7 @@ unfolding oscOf
 returns c = search (osc-is, telling, branch) depth 12 fits 20000
 
 returns-2 : tie.Need-returns-2
-unfolding oscOf told
+unfolding oscOf sequenceOf
 returns-2 c = search (osc-is, telling, branch) depth 12 fits 20000
 
 pub osc-spec : {M : Type 1} → statement M

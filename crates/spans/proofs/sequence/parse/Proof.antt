@@ -1,4 +1,4 @@
-use Rattle.spans.specs.Contracts.{told}
+use Rattle.spans.specs.Sequence.Contracts.{sequenceOf}
 use Rattle.spans.specs.Sequence.{parse}
 use Rattle.spans.proofs.Sequences.{telling, parse-none, csi-rest, osc-rest, charset-rest}
 use Rattle.lending.specs.Conditions.{branch}
@@ -55,7 +55,7 @@ unfolding parse
 returns-4 c = search (osc-rest, telling, branch) depth 12 fits 20000
 
 returns-5 : tie.Need-returns-5
-unfolding parse told
+unfolding parse sequenceOf
 returns-5 c = search (telling, branch) depth 12 fits 20000
 
 pub parse-spec : {M : Type 1} → statement M

@@ -1,4 +1,4 @@
-use Rattle.spans.specs.Contracts.{told}
+use Rattle.spans.specs.Sequence.Contracts.{sequenceOf}
 use Rattle.spans.specs.Sequence.{closed}
 use Rattle.spans.proofs.Sequences.{telling, uri-is, uri-bell}
 use Rattle.lending.specs.Conditions.{branch}
@@ -22,7 +22,7 @@ add-t9 : tie.Need-add-t9
 add-t9 c = search needs
 
 returns : tie.Need-returns
-unfolding closed told
+unfolding closed sequenceOf
 returns c = search (uri-bell, telling, branch) depth 12 fits 20000
 
 add-byte-at : tie.Need-add-byte-at
@@ -41,11 +41,11 @@ add-t15 : tie.Need-add-t15
 add-t15 c = search needs
 
 returns-2 : tie.Need-returns-2
-unfolding closed told
+unfolding closed sequenceOf
 returns-2 c = search (uri-is, telling, branch) depth 12 fits 20000
 
 returns-3 : tie.Need-returns-3
-unfolding closed told
+unfolding closed sequenceOf
 returns-3 c = search (uri-is, telling, branch) depth 12 fits 20000
 
 pub uri-at-spec : {M : Type 1} → statement M

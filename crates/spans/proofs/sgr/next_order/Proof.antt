@@ -1,4 +1,4 @@
-use Rattle.spans.specs.Contracts.{room}
+use Rattle.spans.specs.Sgr.Contracts.{room}
 use Rattle.spans.proofs.Parameters.{Ordering, ordering-begins, ordering-more, ordering-falls, order-next, order-stops, order-ends}
 use borrow.Author.Needs.{needs}
 use Rattle.spans.proofs.sgr.next_order.Statement.{statement}
@@ -16,8 +16,8 @@ loop-holds c = search ordering-begins
 parameter-at-requires : tie.Need-parameter-at-requires Inv-loop μ-loop
 parameter-at-requires c κs = search needs
 
-step-of-requires : tie.Need-step-of-requires Inv-loop μ-loop
-step-of-requires c κs = search needs
+meaning-after-requires : tie.Need-meaning-after-requires Inv-loop μ-loop
+meaning-after-requires c κs = search needs
 
 enum-known-step : tie.Need-enum-known-step Inv-loop μ-loop
 enum-known-step c = search needs
@@ -51,7 +51,7 @@ next-order-spec =
     μ-loop
     loop-holds
     parameter-at-requires
-    step-of-requires
+    meaning-after-requires
     enum-known-step
     returns
     enum-known-step-2

@@ -1,4 +1,4 @@
-use Rattle.spans.specs.Contracts.{more}
+use Rattle.spans.specs.Sgr.Contracts.{more}
 use Rattle.lending.specs.Conditions.{branch}
 use borrow.Author.Needs.{needs}
 use Rattle.spans.proofs.sgr.with_digit.Statement.{statement}

@@ -1,4 +1,4 @@
-use Rattle.spans.proofs.StretchLaws.{going-inside, going-on, going-outside}
+use Rattle.spans.proofs.StretchCursor.{going-inside, going-on, going-outside}
 use borrow.Author.Needs.{needs}
 use Rattle.spans.proofs.stretches.advance.Statement.{statement}
 use Rattle.spans.proofs.stretches.advance.Tie as tie

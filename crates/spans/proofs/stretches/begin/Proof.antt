@@ -1,6 +1,6 @@
 use lib.Seq.{length-take-le}
 use mathlib.Core.Path.{sym}
-use Rattle.spans.proofs.StretchLaws.{trimmed-part, begin-small, begin-opens, begin-done}
+use Rattle.spans.proofs.StretchCursor.{trimmed-part, begin-small, begin-opens, begin-done}
 use borrow.Author.Needs.{needs}
 use Rattle.spans.proofs.stretches.begin.Statement.{statement}
 use Rattle.spans.proofs.stretches.begin.Tie as tie

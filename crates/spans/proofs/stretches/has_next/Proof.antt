@@ -1,4 +1,4 @@
-use Rattle.spans.proofs.StretchLaws.{has-next-is}
+use Rattle.spans.proofs.StretchCursor.{has-next-is}
 use borrow.Author.Needs.{needs}
 use Rattle.spans.proofs.stretches.has_next.Statement.{statement}
 use Rattle.spans.proofs.stretches.has_next.Tie as tie

@@ -1,6 +1,6 @@
 use lib.Seq.{length-take-le}
 use mathlib.Core.Path.{sym}
-use Rattle.spans.proofs.StretchLaws.{trimmed-part, close-ready, close-pending}
+use Rattle.spans.proofs.StretchCursor.{trimmed-part, close-ready, close-pending}
 use borrow.Author.Needs.{needs}
 use Rattle.spans.proofs.stretches.inside.Statement.{statement}
 use Rattle.spans.proofs.stretches.inside.Tie as tie

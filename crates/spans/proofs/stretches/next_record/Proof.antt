@@ -1,7 +1,7 @@
 use lib.Seq.{length-take-le}
 use mathlib.Core.Path.{sym}
 use Rattle.buffer.specs.Numbers.Laws.{smaller-right}
-use Rattle.spans.proofs.StretchLaws.{span-ready, record-step, record-none}
+use Rattle.spans.proofs.StretchCursor.{span-ready, record-step, record-none}
 use borrow.Author.Needs.{needs}
 use Rattle.spans.proofs.stretches.next_record.Statement.{statement}
 use Rattle.spans.proofs.stretches.next_record.Tie as tie

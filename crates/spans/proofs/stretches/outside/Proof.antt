@@ -1,6 +1,6 @@
 use lib.Seq.{length-take-le}
 use mathlib.Core.Path.{sym}
-use Rattle.spans.proofs.StretchLaws.{trimmed-part, open-ready, open-pending, open-last}
+use Rattle.spans.proofs.StretchCursor.{trimmed-part, open-ready, open-pending, open-last}
 use borrow.Author.Needs.{needs}
 use Rattle.spans.proofs.stretches.outside.Statement.{statement}
 use Rattle.spans.proofs.stretches.outside.Tie as tie

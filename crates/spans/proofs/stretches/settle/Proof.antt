@@ -1,4 +1,4 @@
-use Rattle.spans.proofs.StretchLaws.{settled-here}
+use Rattle.spans.proofs.StretchCursor.{settled-here}
 use borrow.Author.Needs.{needs}
 use Rattle.spans.proofs.stretches.settle.Statement.{statement}
 use Rattle.spans.proofs.stretches.settle.Tie as tie

@@ -1,6 +1,6 @@
 use lib.ListN.{length}
-use Rattle.spans.specs.Contracts.{stretchesLeft}
-use Rattle.spans.proofs.StretchLaws.{SettleLoop, settle-begins, settle-going, settle-more, settle-falls, settle-ends}
+use Rattle.spans.specs.Stretches.{stretchesLeft}
+use Rattle.spans.proofs.StretchCursor.{SettleLoop, settle-begins, settle-going, settle-more, settle-falls, settle-ends}
 use borrow.Author.Needs.{needs}
 use Rattle.spans.proofs.stretches.skip_spent.Statement.{statement}
 use Rattle.spans.proofs.stretches.skip_spent.Tie as tie

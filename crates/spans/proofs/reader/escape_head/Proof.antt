@@ -1,8 +1,8 @@
-use Rattle.spans.proofs.ReaderLaws.{on-sequence}
-use Rattle.spans.specs.Contracts.{escapeLook}
+use Rattle.spans.proofs.ClusterBytes.{on-sequence}
+use Rattle.spans.specs.Reader.{escapeHead}
 use borrow.Author.Needs.{needs}
-use Rattle.spans.proofs.reader.escape_look.Statement.{statement}
-use Rattle.spans.proofs.reader.escape_look.Tie as tie
+use Rattle.spans.proofs.reader.escape_head.Statement.{statement}
+use Rattle.spans.proofs.reader.escape_head.Tie as tie
 
 enum-told : tie.Need-enum-told
 enum-told c = search needs
@@ -23,31 +23,31 @@ enum-known-q-5 : tie.Need-enum-known-q-5
 enum-known-q-5 c = search needs
 
 returns : tie.Need-returns
-unfolding escapeLook
+unfolding escapeHead
 returns c = search on-sequence
 
 returns-2 : tie.Need-returns-2
-unfolding escapeLook
+unfolding escapeHead
 returns-2 c = search on-sequence
 
 returns-3 : tie.Need-returns-3
-unfolding escapeLook
+unfolding escapeHead
 returns-3 c = search on-sequence
 
 returns-4 : tie.Need-returns-4
-unfolding escapeLook
+unfolding escapeHead
 returns-4 c = search on-sequence
 
 returns-5 : tie.Need-returns-5
-unfolding escapeLook
+unfolding escapeHead
 returns-5 c = search on-sequence
 
 returns-6 : tie.Need-returns-6
-unfolding escapeLook
+unfolding escapeHead
 returns-6 c = search on-sequence
 
-pub escape-look-spec : {M : Type 1} → statement M
-escape-look-spec =
+pub escape-head-spec : {M : Type 1} → statement M
+escape-head-spec =
     tie.close
     (tie.spec
     enum-told

@@ -19,7 +19,7 @@ use Rattle.text.specs.Cluster.{clusters, joinAll}
 use Rattle.text.specs.Cluster.Laws.{clusters-none}
 use Rattle.text.specs.Cluster.Walk.{first, next-clusters}
 use Rattle.spans.specs.Sequence.{Found, found, missing, parse}
-use Rattle.spans.specs.Spans.{Content, text, control, invalid, unprintable, escape, tab, crlf, lf, Span, span, Seen, plain, special, escapeSeen, controlSeen, joinText, addText, addCluster, seen, readFrom, readPieces, spansAt}
+use Rattle.spans.specs.Spans.{Content, text, control, invalid, unprintable, escape, tab, crlf, lf, Span, span, ClusterKind, plain, special, escapeKind, controlKind, joinText, addText, addCluster, clusterKind, readFrom, readPieces, spansAt}
 
 -- the bytes of a cluster
 abbrev pub extent : List Scalar → ℕ
@@ -27,11 +27,11 @@ extent g = length (bytesOf g)
 
 -- ---- what a cluster is: plain, or a span that is no text
 
-unfoldable pub isPlain : Seen → Bool
+unfoldable pub isPlain : ClusterKind → Bool
 isPlain plain = true
 isPlain (special c k) = false
 
-unfoldable pub NoText : Seen → Type 0
+unfoldable pub NoText : ClusterKind → Type 0
 NoText plain = Unit {0}
 NoText (special (text m t) k) = ⊥
 NoText (special (control b) k) = Unit {0}
@@ -42,34 +42,34 @@ NoText (special tab k) = Unit {0}
 NoText (special crlf k) = Unit {0}
 NoText (special lf k) = Unit {0}
 
-cond-noText : (b : Bool) (x y : Seen) → NoText x → NoText y → NoText (cond b x y)
+cond-noText : (b : Bool) (x y : ClusterKind) → NoText x → NoText y → NoText (cond b x y)
 cond-noText true x y f g = f
 cond-noText false x y f g = g
 
-escape-noText : (f : Found) → NoText (escapeSeen f)
-unfolding NoText escapeSeen
+escape-noText : (f : Found) → NoText (escapeKind f)
+unfolding NoText escapeKind
 escape-noText (found e n) = tt
 escape-noText missing = tt
 
-pub escape-special : (f : Found) → isPlain (escapeSeen f) ≡ false
-unfolding isPlain escapeSeen
+pub escape-special : (f : Found) → isPlain (escapeKind f) ≡ false
+unfolding isPlain escapeKind
 escape-special (found e n) = refl
 escape-special missing = refl
 
-control-noText : (g : List ℕ) (w : Seen) → NoText w → NoText (controlSeen g w)
-unfolding controlSeen NoText
+control-noText : (g : List ℕ) (w : ClusterKind) → NoText w → NoText (controlKind g w)
+unfolding controlKind NoText
 control-noText [] w h = h
 control-noText (b ∷ []) w h = cond-noText (leb b 0x1F || eqb b 0x7F) (special (control b) 1) w tt h
 control-noText (b ∷ c ∷ g) w h = h
 
-cond-plain : (b : Bool) (x x′ y : Seen) → isPlain x ≡ isPlain x′ → isPlain (cond b x y) ≡ isPlain (cond b x′ y)
+cond-plain : (b : Bool) (x x′ y : ClusterKind) → isPlain x ≡ isPlain x′ → isPlain (cond b x y) ≡ isPlain (cond b x′ y)
 cond-plain true x x′ y e = e
 cond-plain false x x′ y e = refl
 
 module _ (P : Profile) where
-  pub seen-noText : (g : List Scalar) (s : List ℕ) → NoText (seen P g s)
-  unfolding seen NoText
-  seen-noText g s =
+  pub kind-noText : (g : List Scalar) (s : List ℕ) → NoText (clusterKind P g s)
+  unfolding clusterKind NoText
+  kind-noText g s =
       cond-noText (reads g (0x1B ∷ [])) _ _ (escape-noText (parse s))
       (cond-noText (reads g (0x0D ∷ 0x0A ∷ [])) _ _ tt
       (cond-noText (reads g (0x0A ∷ [])) _ _ tt
@@ -78,12 +78,12 @@ module _ (P : Profile) where
 
   -- whether a cluster is plain, whatever stands behind it
   unfoldable pub plainCluster : List Scalar → Bool
-  unfolding seen isPlain
-  plainCluster g = isPlain (seen P g [])
+  unfolding clusterKind isPlain
+  plainCluster g = isPlain (clusterKind P g [])
 
-  pub plain-same : (g : List Scalar) (s : List ℕ) → isPlain (seen P g s) ≡ plainCluster g
-  unfolding plainCluster seen
-  plain-same g s = cond-plain (reads g (0x1B ∷ [])) (escapeSeen (parse s)) (escapeSeen (parse [])) _ (escape-special (parse s) ∙ sym (escape-special (parse [])))
+  pub plain-same : (g : List Scalar) (s : List ℕ) → isPlain (clusterKind P g s) ≡ plainCluster g
+  unfolding plainCluster clusterKind
+  plain-same g s = cond-plain (reads g (0x1B ∷ [])) (escapeKind (parse s)) (escapeKind (parse [])) _ (escape-special (parse s) ∙ sym (escape-special (parse [])))
 
   -- ---- a line: the clusters of its first run, and the spans behind the run
 
@@ -156,13 +156,13 @@ module _ (P : Profile) where
   plainRest [] = []
   plainRest (g ∷ gs) = let more : List (List Scalar) = plainRest gs in cond (plainCluster g) more (g ∷ gs)
 
-  plain-is : (w : Seen) → isPlain w ≡ true → w ≡ plain
+  plain-is : (w : ClusterKind) → isPlain w ≡ true → w ≡ plain
   unfolding isPlain
   plain-is plain e = refl
   plain-is (special c k) e = absurd (let z : _≡_ {A = ℕ} 0 1 = cc in omega arith)
 
   -- a text in front of a span that is none
-  apart : (m : Option ℕ) (p : ℕ) (g : List Scalar) (q : ℕ) (h : List Scalar) (n : ℕ) (w : Seen) (go : ℕ → List Span) → NoText w → isPlain w ≡ false
+  apart : (m : Option ℕ) (p : ℕ) (g : List Scalar) (q : ℕ) (h : List Scalar) (n : ℕ) (w : ClusterKind) (go : ℕ → List Span) → NoText w → isPlain w ≡ false
       → addText m p g (addCluster m q h n w go) ≡ span p (extent g) (text m g) ∷ addCluster m q h n w go
   unfolding addCluster addText joinText NoText isPlain
   apart m p g q h n plain go f e = absurd (let z : _≡_ {A = ℕ} 0 1 = cc in omega arith)
@@ -179,14 +179,14 @@ module _ (P : Profile) where
   unfolding readFrom addCluster
   first-plain m p g gs e =
       let b : List ℕ = bytesOf (joinAll gs) in
-      ap (λ (w : Seen). addCluster m p g (extent g) w (λ k. readFrom P m (p + extent g) k gs)) (plain-is (seen P g b) (plain-same g b ∙ e))
+      ap (λ (w : ClusterKind). addCluster m p g (extent g) w (λ k. readFrom P m (p + extent g) k gs)) (plain-is (clusterKind P g b) (plain-same g b ∙ e))
 
   first-special : (m : Option ℕ) (p : ℕ) (h g : List Scalar) (q : ℕ) (gs : List (List Scalar)) → plainCluster g ≡ false
       → addText m p h (readFrom P m q zero (g ∷ gs)) ≡ span p (extent h) (text m h) ∷ readFrom P m q zero (g ∷ gs)
   unfolding readFrom
   first-special m p h g q gs e =
       let b : List ℕ = bytesOf (joinAll gs) in
-      apart m p h q g (extent g) (seen P g b) (λ k. readFrom P m (q + extent g) k gs) (seen-noText g b) (plain-same g b ∙ e)
+      apart m p h q g (extent g) (clusterKind P g b) (λ k. readFrom P m (q + extent g) k gs) (kind-noText g b) (plain-same g b ∙ e)
 
   read-text : (gs : List (List Scalar)) → (m : Option ℕ) (p : ℕ) (g : List Scalar) → plainCluster g ≡ true
       → readFrom P m p zero (g ∷ gs) ≡ span p (extent g + plainSize gs) (text m (g ++ plainText gs)) ∷ readFrom P m (p + (extent g + plainSize gs)) zero (plainRest gs)
@@ -227,14 +227,14 @@ module _ (P : Profile) where
       ∙ rw f (ap (λ (l : List Span). span p (extent g + plainSize gs) (text m (g ++ plainText gs)) ∷ l) (rw f at (after-text (g ∷ gs) m p s e))))
 
   -- any other cluster: a span of k bytes, and the clusters that begin in them are dropped
-  pub step-special : (m : Option ℕ) (p : ℕ) (s : List ℕ) (g : List Scalar) (gs : List (List Scalar)) (c : Content) (k : ℕ) → clustersOf s ≡ g ∷ gs → seen P g (bytesOf (joinAll gs)) ≡ special c k
+  pub step-special : (m : Option ℕ) (p : ℕ) (s : List ℕ) (g : List Scalar) (gs : List (List Scalar)) (c : Content) (k : ℕ) → clustersOf s ≡ g ∷ gs → clusterKind P g (bytesOf (joinAll gs)) ≡ special c k
       → spansAt P m p s ≡ span p k c ∷ spansAt P m (p + (extent g + skipped (k - extent g) gs)) (drop (extent g + skipped (k - extent g) gs) s)
   unfolding readFrom addCluster
   step-special m p s g gs c k e f =
       let n : ℕ = skipped (k - extent g) gs in
       let q : p + extent g + n ≡ p + (extent g + n) = omega arith in
       spans-run m p s ∙ ap (λ (l : List (List Scalar)). readFrom P m p zero l ++ behindRun m p s) e
-      ∙ ap (λ (w : Seen). addCluster m p g (extent g) w (λ k. readFrom P m (p + extent g) k gs) ++ behindRun m p s) f
+      ∙ ap (λ (w : ClusterKind). addCluster m p g (extent g) w (λ k. readFrom P m (p + extent g) k gs) ++ behindRun m p s) f
       ∙ ap (λ (l : List Span). span p k c ∷ l)
       (ap (λ (l : List Span). readFrom P m (p + extent g) (k - extent g) gs ++ l) (sym (behind-next m p s g gs e))
       ∙ after-skipped gs m (p + extent g) (k - extent g) (drop (extent g) s) (next-clusters P s g gs e)
@@ -246,7 +246,7 @@ module _ (P : Profile) where
   step-invalid m p b s e = ap (readPieces P m p) (runs-damaged b s e)
 
   -- a stretch with bytes left has a span
-  some-cluster : (m : Option ℕ) (p : ℕ) (s : List ℕ) (g : List Scalar) (gs : List (List Scalar)) → clustersOf s ≡ g ∷ gs → (w : Seen) → seen P g (bytesOf (joinAll gs)) ≡ w → 0 < length (spansAt P m p s)
+  some-cluster : (m : Option ℕ) (p : ℕ) (s : List ℕ) (g : List Scalar) (gs : List (List Scalar)) → clustersOf s ≡ g ∷ gs → (w : ClusterKind) → clusterKind P g (bytesOf (joinAll gs)) ≡ w → 0 < length (spansAt P m p s)
   unfolding isPlain
   some-cluster m p s g gs e plain f = rw (step-text m p s g gs e (sym (plain-same g (bytesOf (joinAll gs))) ∙ ap isPlain f)) (omega arith)
   some-cluster m p s g gs e (special c k) f = rw (step-special m p s g gs c k e f) (omega arith)
@@ -256,4 +256,4 @@ module _ (P : Profile) where
     where
       go : (gs : List (List Scalar)) → clustersOf (b ∷ s) ≡ gs → 0 < length (spansAt P m p (b ∷ s))
       go [] e = rw (step-invalid m p b s (clusters-none P (runOf (decode (b ∷ s))) e)) (omega arith)
-      go (g ∷ gs) e = some-cluster m p (b ∷ s) g gs e (seen P g (bytesOf (joinAll gs))) refl
+      go (g ∷ gs) e = some-cluster m p (b ∷ s) g gs e (clusterKind P g (bytesOf (joinAll gs))) refl

@@ -21,7 +21,8 @@ use Rattle.text.specs.declared.class.Profile as code
 use Rattle.spans.specs.Search.{searchedLength, inOrder, read}
 use Rattle.spans.specs.Spans.{Span, Record, recordOf, records}
 use Rattle.spans.specs.Calls.{noRecord, Read, readCall}
-use Rattle.spans.specs.Contracts.{remaining, Sound, Counting, firstRecord, Nexted, Begun, Started, refusedBy, thirdQuestion, Planned, Holds, recordsOf, Ongoing, NextHolds, Fillable, Filled, numberOf, Finished, readAs, firstQuestions, Prepared}
+use Rattle.spans.specs.Stretches.{remaining, Sound, NextRecordReady, firstRecord, RecordStep, BeginReady, Begun}
+use Rattle.spans.specs.Calls.Contracts.{refusedBy, thirdQuestion, Planned, Holds, recordsOf, NextReadingReady, ReadingStep, ParseSpansReady, SpansParsed, numberOf, Finished, readAs, firstQuestions, Prepared}
 use Rattle.spans.specs.declared.stretches.Cursor.{Cursor}
 use Rattle.spans.specs.declared.stretches.NextRecord.{NextRecord}
 use Rattle.spans.specs.declared.Reading.{Reading}
@@ -40,10 +41,10 @@ in-order-is line matches most w e f = rw (← e) f
 -- ---- `plan`
 
 module _ (line matches : List ℕ) (places : ℕ) (w : Bool) (e : w ≡ inOrder (searchedLength line) 0 matches) where
-  pub begin-ready : length line ≤ 65536 → w ≡ true → Begun line matches
+  pub begin-ready : length line ≤ 65536 → w ≡ true → BeginReady line matches
   begin-ready h f = record { small = h; order = sym e ∙ f }
 
-  pub plan-begins : (c : Cursor) → w ≡ true → Started line matches c → Planned line matches places (record { number = 0; len = length line; places = places; cursor = c })
+  pub plan-begins : (c : Cursor) → w ≡ true → Begun line matches c → Planned line matches places (record { number = 0; len = length line; places = places; cursor = c })
   plan-begins c f s =
       record {
         number = rw (← e, f);
@@ -152,15 +153,15 @@ step-counts : (R S : List Record) (a b : ℕ) → S ≡ drop 1 R → b + length 
 step-counts [] S a b t c = let k : length S ≡ 0 = ap length t in le-ltb a b (omega arith)
 step-counts (r ∷ R) S a b t c = let k : length S ≡ length R = ap length t in lt-ltb a b (omega arith) ∙ sym (lt-ltb 0 (suc (length R)) (omega arith))
 
-module _ (p : code.Profile) (conv matches : List ℕ) (r : Reading) (z : Ongoing conv matches r) where
+module _ (p : code.Profile) (conv matches : List ℕ) (r : Reading) (z : NextReadingReady conv matches r) where
   pub ongoing-fits : r .len ≤ length conv
   ongoing-fits = z .held .fits
 
-  pub ongoing-ready : Counting (take (r .len) conv) matches (r .cursor)
+  pub ongoing-ready : NextRecordReady (take (r .len) conv) matches (r .cursor)
   ongoing-ready = record { sound = z .held .sound; counts = z .counts }
 
-  pub ongoing-next : (n : NextRecord) (k : ℕ) → Nexted (profileOf p) (take (r .len) conv) matches (r .cursor) n → k ≡ cond (ltb (r .cursor .count) (n .cursor .count)) (r .places) 0
-      → NextHolds conv matches r (record { span = n .span; reading = record { number = 0; len = r .len; places = k; cursor = n .cursor } })
+  pub ongoing-next : (n : NextRecord) (k : ℕ) → RecordStep (profileOf p) (take (r .len) conv) matches (r .cursor) n → k ≡ cond (ltb (r .cursor .count) (n .cursor .count)) (r .places) 0
+      → ReadingStep conv matches r (record { span = n .span; reading = record { number = 0; len = r .len; places = k; cursor = n .cursor } })
   unfolding recordsOf profileOf
   ongoing-next n k m e =
       let g : eqb (r .number) 0 ≡ true = eq-eqb (r .number) 0 (z .accepted) in
@@ -175,10 +176,10 @@ module _ (p : code.Profile) (conv matches : List ℕ) (r : Reading) (z : Ongoing
         held = record { fits = z .held .fits; sound = m .sound };
       }
 
--- ---- `fill`
+-- ---- `parse_spans`
 
 -- the list so far and the reading before its place i
-pub record Going (conv matches : List ℕ) (start : Reading) (n i : ℕ) (c : Reading) (ws : List Record) : Type 0 where
+pub record ParseLoop (conv matches : List ℕ) (start : Reading) (n i : ℕ) (c : Reading) (ws : List Record) : Type 0 where
   pub number : c .number ≡ start .number
   pub holds : Holds conv matches c
   pub same : take (c .cursor .count) ws ++ recordsOf conv matches c ≡ recordsOf conv matches start
@@ -199,9 +200,9 @@ take-set-next [] i x h = absurd (not-suc-le-zero h)
 take-set-next (w ∷ ws) zero x h = refl
 take-set-next {A} (w ∷ ws) (suc i) x h = ap (λ (l : List A). w ∷ l) (take-set-next ws i x (le-of-suc-le-suc h))
 
-pub fill-begins : (conv matches : List ℕ) (start : Reading) (ws : List Record) → Fillable conv matches (length ws) start → Going conv matches start (length ws) 0 start ws
+pub parse-begins : (conv matches : List ℕ) (start : Reading) (ws : List Record) → ParseSpansReady conv matches (length ws) start → ParseLoop conv matches start (length ws) 0 start ws
 unfolding recordsOf
-fill-begins conv matches start ws z =
+parse-begins conv matches start ws z =
     record {
       number = refl;
       holds = z .holds;
@@ -213,20 +214,20 @@ fill-begins conv matches start ws z =
       full = λ h k. cases (eqb (start .number) 0) (λ f. let j : start .places ≡ length ws = z .places ∙ rw f in omega arith) (λ f. absurd (let j : 0 < length {A = Record} [] = rw f at k in omega arith));
     }
 
-module _ (conv matches : List ℕ) (start : Reading) (n i : ℕ) (c : Reading) (ws : List Record) (z : Going conv matches start n i c ws) where
+module _ (conv matches : List ℕ) (start : Reading) (n i : ℕ) (c : Reading) (ws : List Record) (z : ParseLoop conv matches start n i c ws) where
   module _ (h : i < c .places) where
     some-place : 0 < c .places
     some-place = omega arith
 
-    pub going-within : i < n
-    going-within = omega (arith, z .places some-place)
+    pub parse-within : i < n
+    parse-within = omega (arith, z .places some-place)
 
-    pub going-ongoing : n < 18446744073709551616 → Ongoing conv matches c
-    going-ongoing k = let e : c .number ≡ 0 = z .accepted some-place in record { accepted = e; held = z .holds e; counts = omega (arith, z .count some-place, going-within) }
+    pub parse-ongoing : n < 18446744073709551616 → NextReadingReady conv matches c
+    parse-ongoing k = let e : c .number ≡ 0 = z .accepted some-place in record { accepted = e; held = z .holds e; counts = omega (arith, z .count some-place, parse-within) }
 
-    pub going-turn : length ws ≡ n → (x : NextReading) → NextHolds conv matches c x → Going conv matches start n (i + 1) (x .reading) (set ws i (x .span))
+    pub parse-turn : length ws ≡ n → (x : NextReading) → ReadingStep conv matches c x → ParseLoop conv matches start n (i + 1) (x .reading) (set ws i (x .span))
     unfolding firstRecord
-    going-turn l x m = go (recordsOf conv matches c) refl
+    parse-turn l x m = go (recordsOf conv matches c) refl
       where
         k : ℕ
         k = x .reading .cursor .count
@@ -237,7 +238,7 @@ module _ (conv matches : List ℕ) (start : Reading) (n i : ℕ) (c : Reading) (
         before : take i ws ++ recordsOf conv matches c ≡ recordsOf conv matches start
         before = ap (λ (j : ℕ). take j ws ++ recordsOf conv matches c) (sym i-is) ∙ z .same
 
-        go : (R : List Record) → recordsOf conv matches c ≡ R → Going conv matches start n (i + 1) (x .reading) (set ws i (x .span))
+        go : (R : List Record) → recordsOf conv matches c ≡ R → ParseLoop conv matches start n (i + 1) (x .reading) (set ws i (x .span))
         go [] e =
             let t : recordsOf conv matches (x .reading) ≡ [] = m .tail ∙ ap (drop 1) e in
             let q : k ≡ i = omega (arith, m .count, ap length t, ap length e, i-is) in
@@ -246,7 +247,7 @@ module _ (conv matches : List ℕ) (start : Reading) (n i : ℕ) (c : Reading) (
               number = m .accepted ∙ sym (z .accepted some-place) ∙ z .number;
               holds = λ _. m .held;
               same = ap₂ (λ (j : ℕ) (l : List Record). take j (set ws i (x .span)) ++ l) q t ∙ ap (λ (l : List Record). l ++ []) (take-set ws i (x .span)) ∙ ap (λ (l : List Record). take i ws ++ l) (sym e) ∙ before;
-              few = omega (arith, going-within);
+              few = omega (arith, parse-within);
               accepted = λ _. m .accepted;
               places = λ j. absurd (omega arith);
               count = λ j. absurd (omega arith);
@@ -261,18 +262,18 @@ module _ (conv matches : List ℕ) (start : Reading) (n i : ℕ) (c : Reading) (
               number = m .accepted ∙ sym (z .accepted some-place) ∙ z .number;
               holds = λ _. m .held;
               same = ap₂ (λ (j : ℕ) (l : List Record). take j (set ws i (x .span)) ++ l) q t
-                  ∙ ap (λ (l : List Record). l ++ R) (take-set-next ws i (x .span) (omega (arith, going-within, l)))
+                  ∙ ap (λ (l : List Record). l ++ R) (take-set-next ws i (x .span) (omega (arith, parse-within, l)))
                   ∙ append-assoc (take i ws) (x .span ∷ []) R
                   ∙ ap (λ (u : Record). take i ws ++ u ∷ R) f ∙ ap (λ (l : List Record). take i ws ++ l) (sym e) ∙ before;
-              few = omega (arith, going-within);
+              few = omega (arith, parse-within);
               accepted = λ _. m .accepted;
               places = λ _. p ∙ z .places some-place;
               count = λ _. omega arith;
               full = λ j. absurd (omega arith);
             }
 
-  pub going-done : length ws ≡ n → c .places ≤ i → Filled conv matches ws start c
-  going-done l h =
+  pub parse-done : length ws ≡ n → c .places ≤ i → SpansParsed conv matches ws start c
+  parse-done l h =
       record {
         number = z .number;
         holds = z .holds;
@@ -350,8 +351,8 @@ records-length : (ss : List Span) → length (records ss) ≡ length ss
 unfolding records
 records-length ss = length-map ss recordOf
 
-pub fill-ready : (line matches : List ℕ) (size : ℕ) (conv : List ℕ) (places : ℕ) (r : Reading) → Prepared line matches size conv places r → Fillable conv matches places r
-fill-ready line matches size conv places r p =
+pub parse-ready : (line matches : List ℕ) (size : ℕ) (conv : List ℕ) (places : ℕ) (r : Reading) → Prepared line matches size conv places r → ParseSpansReady conv matches places r
+parse-ready line matches size conv places r p =
     cases (eqb (r .number) 0)
     (λ f.
     let k : r .number ≡ 0 = eqb-true (r .number) 0 f in
@@ -377,7 +378,7 @@ no-length [] h = refl
 no-length (x ∷ l) h = absurd (omega arith)
 
 module _ (line matches : List ℕ) (size places : ℕ) (conv : List ℕ) (start : Reading) (p : Prepared line matches size conv places start)
-    (list : List Record) (r : Reading) (f : Filled conv matches list start r) (many : length list ≡ places) (out : List ℕ) (a : Answer) (g : Finished conv matches r out a) where
+    (list : List Record) (r : Reading) (f : SpansParsed conv matches list start r) (many : length list ≡ places) (out : List ℕ) (a : Answer) (g : Finished conv matches r out a) where
   abbrev cs : List ℕ
   cs = convert profile01 line
 

@@ -1,5 +1,5 @@
 -- A walk of the code, by hand, with a loop. Each turn calls `next_reading`, of which the proof knows its contract alone, opens the borrow, stores one record and closes the borrow.
--- The loop's variant is the state of a turn: the index, the reading, the list so far, and what they have of the records (`Going`).
+-- The loop's variant is the state of a turn: the index, the reading, the list so far, and what they have of the records (`ParseLoop`).
 use mathlib.Core.Path.{_≡_, refl, sym, _∙_, ap, subst}
 use mathlib.Core.Bool.{Bool}
 use mathlib.Core.WellFounded.{WellFounded, InvImage·wf}
@@ -53,8 +53,8 @@ use Rattle.spans.specs.declared.Span.{Span}
 use Rattle.spans.specs.declared.Reading.{Reading}
 use Rattle.spans.specs.declared.NextReading.{NextReading}
 use Rattle.spans.specs.Calls.{noRecord}
-use Rattle.spans.specs.Contracts.{Ongoing, NextHolds, Fillable, Filled}
-use Rattle.spans.proofs.CallLaws.{Going, fill-begins, going-within, going-ongoing, going-turn, going-done}
+use Rattle.spans.specs.Calls.Contracts.{NextReadingReady, ReadingStep, ParseSpansReady, SpansParsed}
+use Rattle.spans.proofs.ReadCall.{ParseLoop, parse-begins, parse-within, parse-ongoing, parse-turn, parse-done}
 use Rattle.spans.proofs.Span as T
 use Rattle.spans.proofs.Span.Laws as T′
 use Rattle.spans.proofs.Reading as S
@@ -65,13 +65,13 @@ use Rattle.spans.proofs.next_reading as next
 use Rattle.spans.proofs.next_reading.Symbol as next-def
 use Rattle.spans.proofs.next_reading.Symbol.{name as #spans·next-reading}
 use Rattle.spans.proofs.next_reading.Met as next-thm
-use Rattle.spans.proofs.fill.Key.{name as #spans·fill}
-use Rattle.spans.proofs.fill as fill
-use Rattle.spans.proofs.fill.Statement as stated
-use Rattle.spans.proofs.fill.Code as code
-use Rattle.spans.proofs.fill.Code.Mir as mir
+use Rattle.spans.proofs.parse_spans.Key.{name as #spans·parse_spans}
+use Rattle.spans.proofs.parse_spans as parse_spans
+use Rattle.spans.proofs.parse_spans.Statement as stated
+use Rattle.spans.proofs.parse_spans.Code as code
+use Rattle.spans.proofs.parse_spans.Code.Mir as mir
 
-abbrev stayed : Stays (fill.ended .signature .params) (fill.ended .kept)
+abbrev stayed : Stays (parse_spans.ended .signature .params) (parse_spans.ended .kept)
 stayed = (stay-slice (0 ∷ []) tt (plain (λ _. T.the-row)), (stay-none-slice (1 ∷ []) tt (plain (λ _. u8)) yes, (stay-none-slice (2 ∷ []) tt (plain (λ _. usize)) yes, (stay-none (λ _. S.the-row) yes, tt))))
 
 abbrev tvals : Span → List Val
@@ -106,10 +106,10 @@ module _ {M : Type 1} (𝓤 : URA M) (H : Heap 𝓤) (A : Atoms 𝓤) (mem : Mem
   abbrev NextC : Contract 𝓤
   NextC = tripleOf 𝓤 H A next.signature (next.spec 𝓤 H A mem run)
 
-  said : (κ κ′ : Lft) (l m : Numbers) (c : Reading) (r : NextReading) → ent 𝓤 (ensured 𝓤 H A next.ended (next.clauses 𝓤 H A mem run) (κ, (κ′, tt)) (l, (m, (c, tt))) tt r) (fact 𝓤 (NextHolds (l .now) (m .now) c r))
-  said κ κ′ l m c r = exE 𝓤 _ (λ ws. snd∗ 𝓤 (sem 𝓤 H A (lasts next.ended (κ, (κ′, tt)) (l, (m, (c, tt))) ws)) (fact 𝓤 (NextHolds (l .now) (m .now) c r)))
+  said : (κ κ′ : Lft) (l m : Numbers) (c : Reading) (r : NextReading) → ent 𝓤 (ensured 𝓤 H A next.ended (next.clauses 𝓤 H A mem run) (κ, (κ′, tt)) (l, (m, (c, tt))) tt r) (fact 𝓤 (ReadingStep (l .now) (m .now) c r))
+  said κ κ′ l m c r = exE 𝓤 _ (λ ws. snd∗ 𝓤 (sem 𝓤 H A (lasts next.ended (κ, (κ′, tt)) (l, (m, (c, tt))) ws)) (fact 𝓤 (ReadingStep (l .now) (m .now) c r)))
 
-module _ {M : Type 1} (𝓤 : URA M) (H : Heap 𝓤) (A : Atoms 𝓤) (W : Given 𝓤 H A) (mem : Memory → SProp 𝓤) (run : Routine → Fun 𝓤) (κ κ′ κ″ : Lft) (q q′ q″ : Share) (b o : ℕ) (γ : GName) (ys : List Span) (line found : Numbers) (c₀ : Reading) (room : Room T.the-row (length ys)) (line-room : Room u8 (length (line .now))) (found-room : Room usize (length (found .now))) (c-is : Is S.the-row c₀ (svals c₀)) (fillable : Fillable (line .now) (found .now) (length ys) c₀) where
+module _ {M : Type 1} (𝓤 : URA M) (H : Heap 𝓤) (A : Atoms 𝓤) (W : Given 𝓤 H A) (mem : Memory → SProp 𝓤) (run : Routine → Fun 𝓤) (κ κ′ κ″ : Lft) (q q′ q″ : Share) (b o : ℕ) (γ : GName) (ys : List Span) (line found : Numbers) (c₀ : Reading) (room : Room T.the-row (length ys)) (line-room : Room u8 (length (line .now))) (found-room : Room usize (length (found .now))) (c-is : Is S.the-row c₀ (svals c₀)) (fillable : ParseSpansReady (line .now) (found .now) (length ys) c₀) where
   abbrev n : ℕ
   n = length ys
 
@@ -135,7 +135,7 @@ module _ {M : Type 1} (𝓤 : URA M) (H : Heap 𝓤) (A : Atoms 𝓤) (W : Given
   vals = (s ∷ [], (lv ∷ [], (mv ∷ [], (smach c₀ ∷ [], tt))))
 
   abbrev Post : Val → SProp 𝓤
-  Post = walkOf 𝓤 H A fill.ended stayed (fill.clauses 𝓤 H A mem run) .post (((κ, (κ′, (κ″, tt))), (q, (q′, (q″, tt))), tt, a, vals), tt)
+  Post = walkOf 𝓤 H A parse_spans.ended stayed (parse_spans.clauses 𝓤 H A mem run) .post (((κ, (κ′, (κ″, tt))), (q, (q′, (q″, tt))), tt, a, vals), tt)
 
   abbrev LineOwn : Item 𝓤
   LineOwn = ‵ (ShrSlice (named 1) κ′ u8 .own line (lv ∷ []))
@@ -149,11 +149,11 @@ module _ {M : Type 1} (𝓤 : URA M) (H : Heap 𝓤) (A : Atoms 𝓤) (W : Given
   t-typed : (y : Span) → Is T.the-row y (tvals y) → Holds (hasTy T′.mir (tmach y)) × WT (tmach y)
   t-typed y is = LL.lawful T.the-type T′.the-laws 𝓤 H A W .typed y _ is .0
 
-  exits : (c : Reading) (ws : List Span) → Filled (line .now) (found .now) ws c₀ c → length ws ≡ n → Is S.the-row c (svals c)
+  exits : (c : Reading) (ws : List Span) → SpansParsed (line .now) (found .now) ws c₀ c → length ws ≡ n → Is S.the-row c (svals c)
       → ent 𝓤 (⋆ 𝓤 H A (‵ (fobs γ (codedHoleys T.the-row .code (heres T.the-row ws))) ∷ ‵ (fbor κ (Held T.the-row (length ws) b o γ)) ∷ ‵ (flft κ q) ∷ ‵ (flft κ′ q′) ∷ LineOwn ∷ ‵ (flft κ″ q″) ∷ FoundOwn ∷ [])) (Post (smach c))
   exits c ws e len is =
       qed W (‵ (fobs γ (codedHoleys T.the-row .code (heres T.the-row ws))) ∷ ‵ (fbor κ (Held T.the-row (length ws) b o γ)) ∷ ‵ (flft κ q) ∷ ‵ (flft κ′ q′) ∷ LineOwn ∷ ‵ (flft κ″ q″) ∷ FoundOwn ∷ []) ∵
-      suffices ! _ (ends-at 𝓤 H A fill.ended stayed (fill.clauses 𝓤 H A mem run) W (((κ, (κ′, (κ″, tt))), (q, (q′, (q″, tt))), tt, a, vals), tt) (smach c) c (ws, (tt, (tt, (tt, tt)))) (len, (tt, (tt, (tt, tt))))) $ says ! e $
+      suffices ! _ (ends-at 𝓤 H A parse_spans.ended stayed (parse_spans.clauses 𝓤 H A mem run) W (((κ, (κ′, (κ″, tt))), (q, (q′, (q″, tt))), tt, a, vals), tt) (smach c) c (ws, (tt, (tt, (tt, tt)))) (len, (tt, (tt, (tt, tt))))) $ says ! e $
       nothing ! $ move ! (6 ∷ 0 ∷ []) $ join ! $ move ! (4 ∷ 0 ∷ []) $ join ! $ move ! (3 ∷ 0 ∷ []) $ join ! $ frame ! $
       -- [obs; the borrow; what line owns; what found owns]
       fjoin ! $ pureI ! (at-slice T.the-row (x ws) (s ∷ [])) (tt, (tt, tt)) (ap (λ (m : ℕ). sliceVal (b, o) m ∷ []) (sym len), subst (Room T.the-row) (sym len) room) $ fjoin ! $
@@ -162,7 +162,7 @@ module _ {M : Type 1} (𝓤 : URA M) (H : Heap 𝓤) (A : Atoms 𝓤) (W : Given
 
   -- the state of a turn
   abbrev Turn : Type 0
-  Turn = (i : ℕ) × (c : Reading) × (ws : List Span) × Is S.the-row c (svals c) × (length ws ≡ n) × Going (line .now) (found .now) c₀ n i c ws
+  Turn = (i : ℕ) × (c : Reading) × (ws : List Span) × Is S.the-row c (svals c) × (length ws ≡ n) × ParseLoop (line .now) (found .now) c₀ n i c ws
 
   abbrev Nearer : Turn → Turn → Type 0
   Nearer y z = n - y .0 < n - z .0
@@ -176,7 +176,7 @@ module _ {M : Type 1} (𝓤 : URA M) (H : Heap 𝓤) (A : Atoms 𝓤) (W : Given
     i = t .0
 
     below : i < n
-    below = going-within (line .now) (found .now) c₀ n i (t .1) (t .2) (t .5) less
+    below = parse-within (line .now) (found .now) c₀ n i (t .1) (t .2) (t .5) less
 
     within : i < length (t .2)
     within = subst (λ (k : ℕ). i < k) (sym (t .4)) below
@@ -187,11 +187,11 @@ module _ {M : Type 1} (𝓤 : URA M) (H : Heap 𝓤) (A : Atoms 𝓤) (W : Given
     next-fits : i + 1 < 2 ^ 64
     next-fits = omega (arith, below, room .0)
 
-    ongoing : Ongoing (line .now) (found .now) (t .1)
-    ongoing = going-ongoing (line .now) (found .now) c₀ n i (t .1) (t .2) (t .5) less (room .0)
+    ongoing : NextReadingReady (line .now) (found .now) (t .1)
+    ongoing = parse-ongoing (line .now) (found .now) c₀ n i (t .1) (t .2) (t .5) less (room .0)
 
-    abbrev next-turn : (r : NextReading) → NextHolds (line .now) (found .now) (t .1) r → Is S.the-row (r .reading) (svals (r .reading)) → Turn
-    next-turn r e is = (i + 1, r .reading, set (t .2) i (r .span), is, length-set (t .2) i (r .span) ∙ t .4, going-turn (line .now) (found .now) c₀ n i (t .1) (t .2) (t .5) less (t .4) r e)
+    abbrev next-turn : (r : NextReading) → ReadingStep (line .now) (found .now) (t .1) r → Is S.the-row (r .reading) (svals (r .reading)) → Turn
+    next-turn r e is = (i + 1, r .reading, set (t .2) i (r .span), is, length-set (t .2) i (r .span) ∙ t .4, parse-turn (line .now) (found .now) c₀ n i (t .1) (t .2) (t .5) less (t .4) r e)
 
   module _ (𝓣 : Tables 𝓤 H) (fm : FmC 𝓤 H (W .laws) (𝓣 .C)) (known : Triple 𝓤 (𝓣 .C #spans·next-reading) (NextC 𝓤 H A mem run)) where
     abbrev C : Calls 𝓤 H
@@ -204,7 +204,7 @@ module _ {M : Type 1} (𝓤 : URA M) (H : Heap 𝓤) (A : Atoms 𝓤) (W : Given
     to-next c = (((κ′, (κ″, tt)), (q′, (q″, tt)), tt, (line, (found, (c, tt))), (lv ∷ [], (mv ∷ [], (smach c ∷ [], tt)))), tt)
 
     -- what `next_reading` asks
-    goes-next : (c : Reading) → Is S.the-row c (svals c) → Ongoing (line .now) (found .now) c
+    goes-next : (c : Reading) → Is S.the-row c (svals c) → NextReadingReady (line .now) (found .now) c
         → ent 𝓤 (sep 𝓤 (sep 𝓤 (A .lft κ′ q′) (A .lft κ″ q″)) (sep 𝓤 (sem 𝓤 H A (ShrSlice (named 1) κ′ u8 .own line (lv ∷ []))) (sem 𝓤 H A (ShrSlice (named 2) κ″ usize .own found (mv ∷ []))))) (NextC 𝓤 H A mem run .pre (to-next c))
     goes-next c is h = qed W ((‵ (flft κ′ q′) ⊛ ‵ (flft κ″ q″)) ∷ LineOwn ∷ FoundOwn ∷ []) ∵
         says ! h $ split ! $ nothing ! $ move ! (2 ∷ 0 ∷ []) $ join ! $ move ! (1 ∷ 0 ∷ []) $ join ! $ nothing ! $ owned ! S.the-row (Is S.the-row) (LL.makes S.the-type S′.the-plain 𝓤 H A) c _ is $ fjoin ! $ move ! (3 ∷ 0 ∷ []) $ fjoin ! $ move ! (2 ∷ 0 ∷ []) $ fjoin ! $ move ! (1 ∷ 0 ∷ []) $ done !
@@ -236,7 +236,7 @@ module _ {M : Type 1} (𝓤 : URA M) (H : Heap 𝓤) (A : Atoms 𝓤) (W : Given
           move ! (7 ∷ 8 ∷ 2 ∷ 0 ∷ []) $ join ! $ use3 W (raw (NextC 𝓤 H A mem run .pre (to-next (t .1)))) (goes-next (t .1) (t .3) (ongoing t less)) $
           calls-at ! fm (NextC 𝓤 H A mem run) known (to-next (t .1)) (and-then ! (load ! (from ! (stop !)) (look ! 22 refl)) (and-then ! (load ! (from ! (stop !)) (look ! 20 refl)) (and-then ! (load ! (from ! (stop !)) (look ! 16 refl)) (no-more !)))) (λ v.
           use1 W (later (some (λ (r : NextReading). ((‵ (flft κ′ q′) ⊛ ‵ (flft κ″ q″) ⊛ ‵ ftrue) ⊛ ‵ (N.the-row .own r (v ∷ []))) ⊛ raw (ensured 𝓤 H A next.ended (next.clauses 𝓤 H A mem run) (κ′, (κ″, tt)) (line, (found, (t .1, tt))) tt r)))) (id⊢ 𝓤 _) $ await ! tt $ pick ! (λ r.
-          split ! $ move ! (1 ∷ []) $ use1 W (raw (fact 𝓤 (NextHolds (line .now) (found .now) (t .1) r))) (said 𝓤 H A mem run κ′ κ″ line found (t .1) r) $ heard ! (NextHolds (line .now) (found .now) (t .1) r) (λ e. split ! $ move ! (1 ∷ []) $
+          split ! $ move ! (1 ∷ []) $ use1 W (raw (fact 𝓤 (ReadingStep (line .now) (found .now) (t .1) r))) (said 𝓤 H A mem run κ′ κ″ line found (t .1) r) $ heard ! (ReadingStep (line .now) (found .now) (t .1) r) (λ e. split ! $ move ! (1 ∷ []) $
           peeks ! N.the-row (Is N.the-row) (shows 𝓤 H A N.the-row) r (v ∷ []) (λ r-is.
           -- [the result; the tokens; found; line; obs; the borrow; its token; _10; …]
           land ! (from ! (stop !)) (init ! 13 refl (LL.lawful N.the-type N′.the-laws 𝓤 H A W .typed r _ r-is .0)) $
@@ -271,18 +271,18 @@ module _ {M : Type 1} (𝓤 : URA M) (H : Heap 𝓤) (A : Atoms 𝓤) (W : Given
           returns ! (look ! 27 refl) $ forget ! 11 refl $ forget ! 15 refl $ forget ! 17 refl $ forget ! 19 refl $ forget ! 21 refl $ forget ! 23 refl $ forget ! 25 refl $ forget ! 27 refl $
           move ! (27 ∷ 28 ∷ []) $ free1 ! $ move ! (25 ∷ 26 ∷ []) $ free1 ! $ move ! (23 ∷ 24 ∷ []) $ free1 ! $ move ! (21 ∷ 22 ∷ []) $ free1 ! $ move ! (19 ∷ 20 ∷ []) $ free1 ! $ move ! (17 ∷ 18 ∷ []) $ free1 ! $
           move ! (15 ∷ 16 ∷ []) $ free1 ! $ move ! (13 ∷ 14 ∷ []) $ free1 ! $ move ! (11 ∷ 12 ∷ []) $ free1 ! $ move ! (9 ∷ 10 ∷ []) $ free1 ! $ move ! (7 ∷ 8 ∷ []) $ free1 ! $ free0 ! $
-          keep ! (0 ∷ 1 ∷ 2 ∷ 3 ∷ 4 ∷ 5 ∷ 6 ∷ []) $ by ! (exits (t .1) (t .2) (going-done (line .now) (found .now) c₀ n (t .0) (t .1) (t .2) (t .5) (t .4) e) (t .4) (t .3))
+          keep ! (0 ∷ 1 ∷ 2 ∷ 3 ∷ 4 ∷ 5 ∷ 6 ∷ []) $ by ! (exits (t .1) (t .2) (parse-done (line .now) (found .now) c₀ n (t .0) (t .1) (t .2) (t .5) (t .4) e) (t .4) (t .3))
 
       turns : (t : Turn) → Sq W (At t) (runs C Λ En mir.turn-1 (anyQ (Turned t)))
       turns t = cases (ltb (t .0) (t .1 .places)) (λ e. more t (ltb-true (t .0) (t .1 .places) e)) (λ e. ends t (ltb-false (t .0) (t .1 .places) e))
 
       abbrev beginning : Turn
-      beginning = (0, c₀, ys, c-is, refl, fill-begins (line .now) (found .now) c₀ ys fillable)
+      beginning = (0, c₀, ys, c-is, refl, parse-begins (line .now) (found .now) c₀ ys fillable)
 
       looped : Sq W (At beginning) (runs C Λ En mir.t-3 (atRet En Post))
       looped = first ! $ blocks ! $ loops ! 𝓣 Nearer Nearer-wf At turns beginning
 
-    walk : ent 𝓤 (onEntry 𝓤 H A fill.signature (κ, (κ′, (κ″, tt))) (q, (q′, (q″, tt))) a vals) (WpFn 𝓤 H C Λ code.function (s ∷ lv ∷ mv ∷ smach c₀ ∷ []) Post)
+    walk : ent 𝓤 (onEntry 𝓤 H A parse_spans.signature (κ, (κ′, (κ″, tt))) (q, (q′, (q″, tt))) a vals) (WpFn 𝓤 H C Λ code.function (s ∷ lv ∷ mv ∷ smach c₀ ∷ []) Post)
     walk =
         qed W ((‵ (flft κ q) ⊛ ‵ (flft κ′ q′) ⊛ ‵ (flft κ″ q″) ⊛ ‵ ftrue) ∷ ‵ (owns (MutSlice (named 0) κ T.the-row ∷ ShrSlice (named 1) κ′ u8 ∷ ShrSlice (named 2) κ″ usize ∷ S.the-row ∷ []) a vals) ∷ []) ∵ enter ! C Λ code.function (s ∷ lv ∷ mv ∷ smach c₀ ∷ []) _ $
         alloc1 ! (λ l₀. alloc1 ! (λ l₁. alloc1 ! (λ l₂. alloc1 ! (λ l₃. alloc1 ! (λ l₄. alloc1 ! (λ l₅. alloc1 ! (λ l₆. alloc1 ! (λ l₇. alloc1 ! (λ l₈. alloc1 ! (λ l₉. alloc1 ! (λ l₁₀. alloc0 ! $ params1 ! $
@@ -296,21 +296,21 @@ module _ {M : Type 1} (𝓤 : URA M) (H : Heap 𝓤) (A : Atoms 𝓤) (W : Given
         looped l₀ l₁ l₂ l₃ l₄ l₅ l₆ l₇ l₈ l₉ l₁₀)))))))))))
 
 module _ {M : Type 1} (𝓤 : URA M) (H : Heap 𝓤) (A : Atoms 𝓤) (W : Given 𝓤 H A) (mem : Memory → SProp 𝓤) (run : Routine → Fun 𝓤) (𝓣 : Tables 𝓤 H) (known : Triple 𝓤 (𝓣 .C #spans·next-reading) (NextC 𝓤 H A mem run)) where
-  fill-walks : Walks 𝓤 H A fill.ended stayed (WpFn 𝓤 H (𝓣 .C) (𝓣 .Λ) code.function) (fill.clauses 𝓤 H A mem run)
-  fill-walks = walked 𝓤 H A fill.ended stayed (fill.clauses 𝓤 H A mem run) (WpFn 𝓤 H (𝓣 .C) (𝓣 .Λ) code.function)
+  parse-walks : Walks 𝓤 H A parse_spans.ended stayed (WpFn 𝓤 H (𝓣 .C) (𝓣 .Λ) code.function) (parse_spans.clauses 𝓤 H A mem run)
+  parse-walks = walked 𝓤 H A parse_spans.ended stayed (parse_spans.clauses 𝓤 H A mem run) (WpFn 𝓤 H (𝓣 .C) (𝓣 .Λ) code.function)
       (λ κs. (slice-vals, (slice-vals, (slice-vals, (svals, tt))))) (λ κs. (mut-slice-tells (named 0) (κs .0) T.the-row, (shr-slice-tells (named 1) (κs .1 .0) u8, (shr-slice-tells (named 2) (κs .1 .1 .0) usize, (LL.tells S.the-type S′.the-laws, tt)))))
-      (λ κs qs bounds a g are. needs 𝓤 (Fillable (a .1 .0 .now) (a .1 .1 .0 .now) (length (a .0 .now)) (a .1 .1 .1 .0)) _ (λ fillable.
+      (λ κs qs bounds a g are. needs 𝓤 (ParseSpansReady (a .1 .0 .now) (a .1 .1 .0 .now) (length (a .0 .now)) (a .1 .1 .1 .0)) _ (λ fillable.
       walk 𝓤 H A W mem run (κs .0) (κs .1 .0) (κs .1 .1 .0) (qs .0) (qs .1 .0) (qs .1 .1 .0) (a .0 .ptr .0) (a .0 .ptr .1) (a .0 .name) (a .0 .now) (a .1 .0) (a .1 .1 .0) (a .1 .1 .1 .0) (are .0 .0 .1) (are .1 .0 .0 .1) (are .1 .1 .0 .0 .1) (are .1 .1 .1 .0) fillable 𝓣 (fmOf 𝓤 H (W .laws) 𝓣) known))
 
-  fill-meets : Meets 𝓤 H A fill.signature (WpFn 𝓤 H (𝓣 .C) (𝓣 .Λ) code.function) (fill.spec 𝓤 H A mem run)
-  fill-meets =
-      walk-meets 𝓤 H A fill.ended stayed W (goes-slice 𝓤 H A W 3 0 tt (plain (λ _. T.the-row)), (goes-none-slice 𝓤 H A W 3 (1 ∷ []) tt (plain (λ _. u8)) yes, (goes-none-slice 𝓤 H A W 3 (2 ∷ []) tt (plain (λ _. usize)) yes, (goes-none 𝓤 H A W 3 (λ _. S.the-row) yes (λ κs x f. refl), tt)))) (fill.clauses 𝓤 H A mem run)
-      (WpFn 𝓤 H (𝓣 .C) (𝓣 .Λ) code.function) (WpFn-mono 𝓤 H (W .laws) 𝓣 code.function) fill-walks
+  parse-meets : Meets 𝓤 H A parse_spans.signature (WpFn 𝓤 H (𝓣 .C) (𝓣 .Λ) code.function) (parse_spans.spec 𝓤 H A mem run)
+  parse-meets =
+      walk-meets 𝓤 H A parse_spans.ended stayed W (goes-slice 𝓤 H A W 3 0 tt (plain (λ _. T.the-row)), (goes-none-slice 𝓤 H A W 3 (1 ∷ []) tt (plain (λ _. u8)) yes, (goes-none-slice 𝓤 H A W 3 (2 ∷ []) tt (plain (λ _. usize)) yes, (goes-none 𝓤 H A W 3 (λ _. S.the-row) yes (λ κs x f. refl), tt)))) (parse_spans.clauses 𝓤 H A mem run)
+      (WpFn 𝓤 H (𝓣 .C) (𝓣 .Λ) code.function) (WpFn-mono 𝓤 H (W .laws) 𝓣 code.function) parse-walks
 
-pub fill-spec : {M : Type 1} → stated.statement M
+pub parse-spans-spec : {M : Type 1} → stated.statement M
 unfolding code.routine tablesOf
-fill-spec 𝓤 H 𝓜 𝓖 𝓡 =
-    entered 𝓤 H (tripleOf 𝓤 H (𝓖 .A) fill.signature (fill.spec 𝓤 H (𝓖 .A) (𝓜 .mem) (𝓡 .run)))
-    (tables 𝓤 H 𝓜 𝓡 code.env .C) (tables 𝓤 H 𝓜 𝓡 code.env .Λ) #spans·fill code.function (code.unfolded 𝓤 H 𝓜 𝓡)
-    (fill-meets 𝓤 H (𝓖 .A) (givenOf 𝓤 H 𝓜 𝓖) (𝓜 .mem) (𝓡 .run) (tablesOf 𝓤 H 𝓜 (tables 𝓤 H 𝓜 𝓡 code.env))
+parse-spans-spec 𝓤 H 𝓜 𝓖 𝓡 =
+    entered 𝓤 H (tripleOf 𝓤 H (𝓖 .A) parse_spans.signature (parse_spans.spec 𝓤 H (𝓖 .A) (𝓜 .mem) (𝓡 .run)))
+    (tables 𝓤 H 𝓜 𝓡 code.env .C) (tables 𝓤 H 𝓜 𝓡 code.env .Λ) #spans·parse_spans code.function (code.unfolded 𝓤 H 𝓜 𝓡)
+    (parse-meets 𝓤 H (𝓖 .A) (givenOf 𝓤 H 𝓜 𝓖) (𝓜 .mem) (𝓡 .run) (tablesOf 𝓤 H 𝓜 (tables 𝓤 H 𝓜 𝓡 code.env))
     (cited 𝓤 H (NextC 𝓤 H (𝓖 .A) (𝓜 .mem) (𝓡 .run)) 𝓜 𝓡 code.env #spans·next-reading next-def.routine code.calls-spans·next-reading (next-thm.met 𝓤 H 𝓜 𝓖 𝓡)))

@@ -1,21 +1,21 @@
 use Rattle.spans.proofs.KnownParameters.{on-wait}
-use Rattle.spans.specs.Sgr.{stepOf}
+use Rattle.spans.specs.Sgr.{meaningAfter}
 use Rattle.lending.specs.Conditions.{branch}
 use borrow.Author.Needs.{needs}
-use Rattle.spans.proofs.sgr.step_of.Statement.{statement}
-use Rattle.spans.proofs.sgr.step_of.Tie as tie
+use Rattle.spans.proofs.sgr.meaning_after.Statement.{statement}
+use Rattle.spans.proofs.sgr.meaning_after.Tie as tie
 
 enum-told : tie.Need-enum-told
 enum-told c = search needs
 
-said-by-requires : tie.Need-said-by-requires
-said-by-requires c κs = search needs
+meaning-of-requires : tie.Need-meaning-of-requires
+meaning-of-requires c κs = search needs
 
 enum-known-w : tie.Need-enum-known-w
 enum-known-w c = search needs
 
 returns : tie.Need-returns
-unfolding stepOf
+unfolding meaningAfter
 returns c = search (on-wait, branch) depth 10 fits 20000
 
 enum-known-w-2 : tie.Need-enum-known-w-2
@@ -49,55 +49,55 @@ coloured-requires-2 : tie.Need-coloured-requires-2
 coloured-requires-2 c κs = search needs
 
 returns-2 : tie.Need-returns-2
-unfolding stepOf
+unfolding meaningAfter
 returns-2 c = search (on-wait, branch) depth 10 fits 20000
 
 returns-3 : tie.Need-returns-3
-unfolding stepOf
+unfolding meaningAfter
 returns-3 c = search (on-wait, branch) depth 10 fits 20000
 
 returns-4 : tie.Need-returns-4
-unfolding stepOf
+unfolding meaningAfter
 returns-4 c = search (on-wait, branch) depth 10 fits 20000
 
 returns-5 : tie.Need-returns-5
-unfolding stepOf
+unfolding meaningAfter
 returns-5 c = search (on-wait, branch) depth 10 fits 20000
 
 returns-6 : tie.Need-returns-6
-unfolding stepOf
+unfolding meaningAfter
 returns-6 c = search (on-wait, branch) depth 10 fits 20000
 
 returns-7 : tie.Need-returns-7
-unfolding stepOf
+unfolding meaningAfter
 returns-7 c = search (on-wait, branch) depth 10 fits 20000
 
 returns-8 : tie.Need-returns-8
-unfolding stepOf
+unfolding meaningAfter
 returns-8 c = search (on-wait, branch) depth 10 fits 20000
 
 returns-9 : tie.Need-returns-9
-unfolding stepOf
+unfolding meaningAfter
 returns-9 c = search (on-wait, branch) depth 10 fits 20000
 
 returns-10 : tie.Need-returns-10
-unfolding stepOf
+unfolding meaningAfter
 returns-10 c = search (on-wait, branch) depth 10 fits 20000
 
 returns-11 : tie.Need-returns-11
-unfolding stepOf
+unfolding meaningAfter
 returns-11 c = search (on-wait, branch) depth 10 fits 20000
 
 returns-12 : tie.Need-returns-12
-unfolding stepOf
+unfolding meaningAfter
 returns-12 c = search (on-wait, branch) depth 10 fits 20000
 
-pub step-of-spec : {M : Type 1} → statement M
-step-of-spec =
+pub meaning-after-spec : {M : Type 1} → statement M
+meaning-after-spec =
     tie.close
     (tie.spec
     enum-told
-    said-by-requires
+    meaning-of-requires
     enum-known-w
     returns
     enum-known-w-2

@@ -18,7 +18,7 @@ use Rattle.text.specs.Class.{Profile}
 use Rattle.text.specs.Cluster.{clusters, joinAll}
 use Rattle.text.specs.Cluster.Laws.{clusters-all, join-length}
 use Rattle.text.specs.Cluster.Walk.{clusters-some}
-use Rattle.spans.specs.Spans.{Content, text, control, invalid, unprintable, escape, tab, crlf, lf, Span, Seen, plain, special, joinText, addText, addCluster, seen, readFrom, readPieces, spansAt, spans}
+use Rattle.spans.specs.Spans.{Content, text, control, invalid, unprintable, escape, tab, crlf, lf, Span, ClusterKind, plain, special, joinText, addText, addCluster, clusterKind, readFrom, readPieces, spansAt, spans}
 use Rattle.spans.specs.Search.{Stretch, escapeMatch, addStretch, escapesFrom, trimmed, escapes, searchedLength, inOrder, offsetFrom, readPart, readMatches, read}
 
 -- a cluster adds at most one span
@@ -39,7 +39,7 @@ unfolding addText
 addText-few m p g [] = omega arith
 addText-few m p g (s ∷ ss) = omega (arith, joinText-few m p g s (s .content) ss)
 
-addCluster-few : (m : Option ℕ) (p : ℕ) (g : List Scalar) (n : ℕ) (w : Seen) (go : ℕ → List Span) (most : ℕ) → ((k : ℕ) → length (go k) ≤ most) → length (addCluster m p g n w go) ≤ 1 + most
+addCluster-few : (m : Option ℕ) (p : ℕ) (g : List Scalar) (n : ℕ) (w : ClusterKind) (go : ℕ → List Span) (most : ℕ) → ((k : ℕ) → length (go k) ≤ most) → length (addCluster m p g n w go) ≤ 1 + most
 unfolding addCluster
 addCluster-few m p g n plain go most h = omega (arith, addText-few m p g (go zero), h zero)
 addCluster-few m p g n (special c k) go most h = omega (arith, h (k - n))
@@ -53,7 +53,7 @@ module _ (P : Profile) where
       go : ((m : Option ℕ) (p k : ℕ) → All (λ (g : List Scalar). 1 ≤ length (bytesOf g)) gs → length (readFrom P m p k gs) ≤ length (bytesOf (joinAll gs)))
           → (m : Option ℕ) (p k : ℕ) → All (λ (g : List Scalar). 1 ≤ length (bytesOf g)) (g ∷ gs) → length (readFrom P m p k (g ∷ gs)) ≤ length (bytesOf (joinAll (g ∷ gs)))
       go ih m p zero (all-cons s a) =
-          omega (arith, join-length g gs, addCluster-few m p g (length (bytesOf g)) (seen P g (bytesOf (joinAll gs))) (λ k. readFrom P m (p + length (bytesOf g)) k gs) (length (bytesOf (joinAll gs))) (λ k. ih m (p + length (bytesOf g)) k a))
+          omega (arith, join-length g gs, addCluster-few m p g (length (bytesOf g)) (clusterKind P g (bytesOf (joinAll gs))) (λ k. readFrom P m (p + length (bytesOf g)) k gs) (length (bytesOf (joinAll gs))) (λ k. ih m (p + length (bytesOf g)) k a))
       go ih m p (suc k) (all-cons s a) =
           omega (arith, join-length g gs, ih m (p + length (bytesOf g)) (suc k - length (bytesOf g)) a)
 

@@ -15,10 +15,12 @@ use Rattle.text.specs.Class.{Profile}
 use Rattle.spans.specs.Search.{trimmed, escapes, searchedLength, inOrder, offsetFrom, readPart, readMatches, read}
 use Rattle.spans.specs.Spans.{Span, spansAt, spans, Record, aRecord, recordOf, records}
 use Rattle.spans.specs.Spans.Laws.{map-append, no-spans}
-use Rattle.spans.specs.Spans.Steps.{step-some}
+use Rattle.spans.specs.Spans.FirstSpan.{step-some}
 use Rattle.buffer.specs.Numbers.{smallerOf}
 use Rattle.buffer.specs.Numbers.Laws.{smaller-right}
-use Rattle.spans.specs.Contracts.{isMatch, spent, withoutNewline, pending, behindStretch, remaining, orderFrom, stretchesLeft, Sound, Opening, Opened, Waiting, Going, Moved, Settled, Counting, firstRecord, Nexted, HasNext, Begun, Started, OffsetsFrom, OffsetReady, OffsetAt, recordsFrom, matchIn, Ready, Stepped}
+use Rattle.spans.specs.Reader.{isMatch, recordsFrom, matchIn, NextSpanReady, SpanStep}
+use Rattle.spans.specs.Search.Contracts.{OffsetsFrom, OffsetReady, OffsetAt}
+use Rattle.spans.specs.Stretches.{spent, withoutNewline, pending, behindStretch, remaining, orderFrom, stretchesLeft, Sound, OutsideReady, OutsideBegun, InsideReady, AdvanceReady, Advanced, SpentSkipped, NextRecordReady, firstRecord, RecordStep, HasNext, BeginReady, Begun}
 use Rattle.spans.specs.declared.search.Offset.{Offset}
 use Rattle.spans.specs.declared.search.Offsets.{Offsets}
 use Rattle.spans.specs.declared.reader.Matched.{Matched}
@@ -99,7 +101,7 @@ offset-is line n x o e z = rw (← e) (z .same)
 
 -- ---- `outside`
 
-module _ (line matches : List ℕ) (start number : ℕ) (c : Cursor) (z : Opening line matches number c) where
+module _ (line matches : List ℕ) (start number : ℕ) (c : Cursor) (z : OutsideReady line matches number c) where
   module _ (h : c .index < length matches) where
     next-is : drop (c .index) matches ≡ getD matches (c .index) 0 ∷ drop (c .index + 1) matches
     next-is = drop-cons matches (c .index) 0 h ∙ ap (λ (i : ℕ). getD matches (c .index) 0 ∷ drop i matches) (sym (add-one (c .index)))
@@ -111,7 +113,7 @@ module _ (line matches : List ℕ) (start number : ℕ) (c : Cursor) (z : Openin
     open-ready n e = offset-ready line n (z .last) (getD matches (c .index) 0) (c .offsets) (z .small) e (z .from) (pair .low) (omega (arith, pair .ordered, pair .high))
 
     pub open-pending : (n : ℕ) (o : Offset) → n ≡ trimmed line → OffsetAt (take n line) (getD matches (c .index) 0) o
-        → Opened line matches start number c (record { place = record { at = start; run = 0 }; end = o .value; matched = record { kind = 1; number = number }; index = c .index + 1; offsets = o .offsets; count = c .count })
+        → OutsideBegun line matches start number c (record { place = record { at = start; run = 0 }; end = o .value; matched = record { kind = 1; number = number }; index = c .index + 1; offsets = o .offsets; count = c .count })
     unfolding remaining behindStretch pending readMatches matchIn orderFrom stretchesLeft
     open-pending n o e k =
         let x : ℕ = getD matches (c .index) 0 in
@@ -140,7 +142,7 @@ module _ (line matches : List ℕ) (start number : ℕ) (c : Cursor) (z : Openin
         }
 
   pub open-last : length matches ≤ c .index
-      → Opened line matches start number c (record { place = record { at = start; run = 0 }; end = length line; matched = record { kind = 1; number = number }; index = c .index; offsets = c .offsets; count = c .count })
+      → OutsideBegun line matches start number c (record { place = record { at = start; run = 0 }; end = length line; matched = record { kind = 1; number = number }; index = c .index; offsets = c .offsets; count = c .count })
   unfolding remaining behindStretch pending readMatches matchIn orderFrom stretchesLeft records
   open-last h =
       let d : drop (c .index) matches ≡ [] = drop-of-length-le matches h in
@@ -153,7 +155,7 @@ module _ (line matches : List ℕ) (start number : ℕ) (c : Cursor) (z : Openin
 
 -- ---- `inside`
 
-module _ (line matches : List ℕ) (c : Cursor) (z : Waiting line matches c) where
+module _ (line matches : List ℕ) (c : Cursor) (z : InsideReady line matches c) where
   end-is : drop (c .index) matches ≡ getD matches (c .index) 0 ∷ drop (c .index + 1) matches
   end-is = drop-cons matches (c .index) 0 (z .some) ∙ ap (λ (i : ℕ). getD matches (c .index) 0 ∷ drop i matches) (sym (add-one (c .index)))
 
@@ -164,7 +166,7 @@ module _ (line matches : List ℕ) (c : Cursor) (z : Waiting line matches c) whe
   close-ready n e = offset-ready line n (z .sound .last) (getD matches (c .index) 0) (c .offsets) (z .sound .small) e (z .sound .from) (second .low) (second .high)
 
   pub close-pending : (n : ℕ) (o : Offset) → n ≡ trimmed line → OffsetAt (take n line) (getD matches (c .index) 0) o
-      → Moved line matches c (record { place = record { at = c .end; run = 0 }; end = o .value; matched = record { kind = 2; number = c .matched .number }; index = c .index + 1; offsets = o .offsets; count = c .count })
+      → Advanced line matches c (record { place = record { at = c .end; run = 0 }; end = o .value; matched = record { kind = 2; number = c .matched .number }; index = c .index + 1; offsets = o .offsets; count = c .count })
   unfolding remaining behindStretch pending matchIn orderFrom stretchesLeft
   close-pending n o e k =
       let x : ℕ = getD matches (c .index) 0 in
@@ -191,8 +193,8 @@ module _ (line matches : List ℕ) (c : Cursor) (z : Waiting line matches c) whe
 
 -- ---- `advance`
 
-module _ (line matches : List ℕ) (c : Cursor) (z : Going line matches c) where
-  pub going-inside : c .matched .kind ≡ 2 → Opening line matches (c .matched .number + 1) c
+module _ (line matches : List ℕ) (c : Cursor) (z : AdvanceReady line matches c) where
+  pub going-inside : c .matched .kind ≡ 2 → OutsideReady line matches (c .matched .number + 1) c
   unfolding orderFrom
   going-inside k =
       let e = eq-eqb (c .matched .kind) 2 k in
@@ -203,7 +205,7 @@ module _ (line matches : List ℕ) (c : Cursor) (z : Going line matches c) where
   pub going-room : c .matched .kind ≡ 2 → c .matched .number + 1 ≤ length matches
   going-room k = let e = eq-eqb (c .matched .kind) 2 k in let f : c .matched .number + 1 ≤ c .index = rw e at (z .sound .few) in omega (arith, z .sound .index)
 
-  pub going-on : (r : Cursor) → c .matched .kind ≡ 2 → Opened line matches (c .end) (c .matched .number + 1) c r → Moved line matches c r
+  pub going-on : (r : Cursor) → c .matched .kind ≡ 2 → OutsideBegun line matches (c .end) (c .matched .number + 1) c r → Advanced line matches c r
   unfolding behindStretch stretchesLeft
   going-on r k o =
       let e = eq-eqb (c .matched .kind) 2 k in
@@ -214,7 +216,7 @@ module _ (line matches : List ℕ) (c : Cursor) (z : Going line matches c) where
         count = o .count;
       }
 
-  pub going-outside : (c .matched .kind ≡ 2 → ⊥) → Waiting line matches c
+  pub going-outside : (c .matched .kind ≡ 2 → ⊥) → InsideReady line matches c
   going-outside k =
       let e = ne-eqb (c .matched .kind) 2 k in
       let t = and-T (leb (c .end) (c .place .at) || leb (length line) (c .place .at)) _ (true-T (z .spent)) in
@@ -252,25 +254,25 @@ settle-begins line matches c z = record { same = λ P. refl; sound = z; count = 
 
 module _ (line matches : List ℕ) (c d : Cursor) (z : SettleLoop line matches c d) where
   module _ (w : Bool) (e : w ≡ spent (length line) (length matches) d) where
-    pub settle-going : w ≡ true → Going line matches d
+    pub settle-going : w ≡ true → AdvanceReady line matches d
     settle-going f = record { sound = z .sound; spent = sym e ∙ f }
 
-    pub settle-more : (r : Cursor) → w ≡ true → Moved line matches d r → SettleLoop line matches c r
+    pub settle-more : (r : Cursor) → w ≡ true → Advanced line matches d r → SettleLoop line matches c r
     settle-more r f m = record { same = λ P. m .same P ∙ sym (spent-none P line matches d (sym e ∙ f)) ∙ z .same P; sound = m .sound; count = m .count ∙ z .count }
 
-    pub settle-falls : (r : Cursor) → w ≡ true → Moved line matches d r → stretchesLeft (length matches) r < stretchesLeft (length matches) d
+    pub settle-falls : (r : Cursor) → w ≡ true → Advanced line matches d r → stretchesLeft (length matches) r < stretchesLeft (length matches) d
     settle-falls r f m = m .falls
 
-    pub settle-ends : w ≡ false → Settled line matches c d
+    pub settle-ends : w ≡ false → SpentSkipped line matches c d
     settle-ends f = record { same = z .same; sound = z .sound; settled = sym e ∙ f; count = z .count }
 
-pub settled-here : (line matches : List ℕ) (c : Cursor) (w : Bool) → Sound line matches c → w ≡ spent (length line) (length matches) c → w ≡ false → Settled line matches c c
+pub settled-here : (line matches : List ℕ) (c : Cursor) (w : Bool) → Sound line matches c → w ≡ spent (length line) (length matches) c → w ≡ false → SpentSkipped line matches c c
 settled-here line matches c w z e f = settle-ends line matches c c (settle-begins line matches c z) w e f
 
 -- ---- `next_record`
 
 -- behind the last span nothing is left
-nothing-left : (line matches : List ℕ) (c d : Cursor) (s : Settled line matches c d) (end : ℕ) → end ≡ smallerOf (d .end) (length line) → (P : Profile) → end ≤ d .place .at → remaining P line matches d ≡ []
+nothing-left : (line matches : List ℕ) (c d : Cursor) (s : SpentSkipped line matches c d) (end : ℕ) → end ≡ smallerOf (d .end) (length line) → (P : Profile) → end ≤ d .place .at → remaining P line matches d ≡ []
 unfolding remaining behindStretch pending records
 nothing-left line matches c d s end e P h =
     let k : length (take (d .end) line) ≤ d .place .at = rw (stretch-length line (d .end), ← e) h in
@@ -283,7 +285,7 @@ nothing-left line matches c d s end e P h =
     let w : drop (d .index) matches ≡ [] = drop-of-length-le matches {i = d .index} (nltb→le _ _ (rw (v .1) tt)) in
     rw (no-records P (d .matched) (take (d .end) line) (d .place .at) k, v .0, w)
 
-module _ (line matches : List ℕ) (c d : Cursor) (z : Counting line matches c) (s : Settled line matches c d) (end : ℕ) (e : end ≡ smallerOf (d .end) (length line)) where
+module _ (line matches : List ℕ) (c d : Cursor) (z : NextRecordReady line matches c) (s : SpentSkipped line matches c d) (end : ℕ) (e : end ≡ smallerOf (d .end) (length line)) where
   end-fits : end ≤ length line
   end-fits = smaller-right (d .end) (length line) end e
 
@@ -293,7 +295,7 @@ module _ (line matches : List ℕ) (c d : Cursor) (z : Counting line matches c) 
       (λ f. let k : end ≡ d .end = e ∙ rw f in rw k)
       (λ f. let k : end ≡ length line = e ∙ rw f in rw k (take-all (length line) line (omega arith) ∙ sym (take-all (d .end) line (omega (arith, leb-false (d .end) (length line) f)))))
 
-  pub span-ready : d .place .at < end → Ready (take end line) (d .place)
+  pub span-ready : d .place .at < end → NextSpanReady (take end line) (d .place)
   span-ready h =
       let k : length (take end line) ≡ end = length-take-le end line end-fits in
       record { here = rw k h; small = rw k (omega (arith, end-fits, s .sound .small)); fresh = rw same-part (s .sound .fresh) }
@@ -305,8 +307,8 @@ module _ (line matches : List ℕ) (c d : Cursor) (z : Counting line matches c) 
     all-left : List Record → List Record
     all-left l = l ++ records (behindStretch P line (d .matched) (d .end) (drop (d .index) matches))
 
-    pub record-step : (n : NextSpan) → d .place .at < end → Stepped P (take end line) (d .matched) (d .place .at) n
-        → Nexted P line matches c (record { span = n .span; cursor = record { place = n .place; end = d .end; matched = d .matched; index = d .index; offsets = d .offsets; count = d .count + 1 } })
+    pub record-step : (n : NextSpan) → d .place .at < end → SpanStep P (take end line) (d .matched) (d .place .at) n
+        → RecordStep P line matches c (record { span = n .span; cursor = record { place = n .place; end = d .end; matched = d .matched; index = d .index; offsets = d .offsets; count = d .count + 1 } })
     unfolding remaining all-left firstRecord
     record-step n h m =
         let R : List Record = remaining P line matches (record { place = n .place; end = d .end; matched = d .matched; index = d .index; offsets = d .offsets; count = d .count + 1 }) in
@@ -326,7 +328,7 @@ module _ (line matches : List ℕ) (c d : Cursor) (z : Counting line matches c) 
           count = omega (arith, s .count, ap length k);
         }
 
-    pub record-none : (r : Record) → end ≤ d .place .at → r ≡ aRecord 0 0 0 0 → Nexted P line matches c (record { span = r; cursor = d })
+    pub record-none : (r : Record) → end ≤ d .place .at → r ≡ aRecord 0 0 0 0 → RecordStep P line matches c (record { span = r; cursor = d })
     unfolding remaining all-left firstRecord
     record-none r h f =
         let k : remaining P line matches c ≡ [] = sym (s .same P) ∙ nothing-left line matches c d s end e P h in
@@ -346,7 +348,7 @@ some-records P m t at h =
     let k : 0 < length (spansAt P (matchIn m) at (drop at t)) = rw d (step-some P (matchIn m) at (getD t at 0) (drop (suc at) t)) in
     rw (length-map (spansAt P (matchIn m) at (drop at t)) recordOf) k
 
-pub has-next-is : (line matches : List ℕ) (c d : Cursor) → Sound line matches c → Settled line matches c d → (end : ℕ) → end ≡ smallerOf (d .end) (length line) → HasNext line matches c (ltb (d .place .at) end)
+pub has-next-is : (line matches : List ℕ) (c d : Cursor) → Sound line matches c → SpentSkipped line matches c d → (end : ℕ) → end ≡ smallerOf (d .end) (length line) → HasNext line matches c (ltb (d .place .at) end)
 unfolding remaining
 has-next-is line matches c d z s end e P =
     cases (ltb (d .place .at) end)
@@ -359,11 +361,11 @@ has-next-is line matches c d z s end e P =
 
 -- ---- `begin`
 
-module _ (line matches : List ℕ) (z : Begun line matches) (n : ℕ) (e : n ≡ trimmed line) where
+module _ (line matches : List ℕ) (z : BeginReady line matches) (n : ℕ) (e : n ≡ trimmed line) where
   pub begin-small : length (take n line) ≤ 65536
   begin-small = rw (length-take-le n line (trimmed-part line n e)) (omega (arith, z .small, trimmed-part line n e))
 
-  pub begin-opens : (o : Offsets) (c : Cursor) → OffsetsFrom (take n line) 0 o → c .offsets ≡ o → c .index ≡ 0 → Opening line matches 0 c
+  pub begin-opens : (o : Offsets) (c : Cursor) → OffsetsFrom (take n line) 0 o → c .offsets ≡ o → c .index ≡ 0 → OutsideReady line matches 0 c
   begin-opens o c w f g = record { small = z .small; last = 0; from = rw (f, ← e) w; order = rw g (z .order); index = omega arith; few = omega arith }
 
 whole-line : (P : Profile) (matches line : List ℕ) → readMatches P (escapes line) 0 0 matches line ≡ read P matches line
@@ -371,7 +373,7 @@ unfolding readMatches readPart read spans
 whole-line P [] line = let k : length line - 0 ≡ length line = omega arith in ap (spansAt P none 0) (ap (λ (i : ℕ). take i line) k ∙ take-all (length line) line (omega arith))
 whole-line P (m ∷ ms) line = refl
 
-pub begin-done : (line matches : List ℕ) (c r : Cursor) → Opened line matches 0 0 c r → c .index ≡ 0 → c .count ≡ 0 → Started line matches r
+pub begin-done : (line matches : List ℕ) (c r : Cursor) → OutsideBegun line matches 0 0 c r → c .index ≡ 0 → c .count ≡ 0 → Begun line matches r
 begin-done line matches c r o g k =
     record {
       same = λ P. o .same P ∙ ap (λ (i : ℕ). records (readMatches P (escapes line) 0 0 (drop i matches) line)) g ∙ ap records (whole-line P matches line);
