@@ -20,7 +20,7 @@ use Rattle.spans.specs.Spans.{Span, Record, records}
 use Rattle.spans.specs.Spans.RecordSpans.{Held, spansIn-none, spansIn-records}
 use Rattle.spans.specs.Calls.{Read, noRecord, readCall}
 use Rattle.spans.specs.Calls.Contracts.{readAs}
-use Rattle.rows.specs.Contracts.{lineRoom}
+use Rattle.rows.specs.Calls.Contracts.{lineRoom}
 use Rattle.rows.specs.declared.wrap.Tally.{Tally}
 use Rattle.rows.specs.Calls.{modeAndWidth}
 use Rattle.rows.specs.Calls.Reading as reading

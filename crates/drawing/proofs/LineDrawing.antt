@@ -32,7 +32,6 @@ use Rattle.text.specs.Utf8.Laws.{bytes-cons, bytes-nil, bytes-one, scalar-bytes
 use Rattle.text.specs.Utf8.Ascii.{valid-low}
 use Rattle.drawing.specs.Marks.{replacements, lineDrawn}
 use Rattle.drawing.specs.Contracts.{packedBytes, Replaceable, hasReplacements, CopyRoom, CopyOf}
-use Rattle.text.specs.Code.FirstSequence.{ascii-first}
 
 -- ---- the table
 

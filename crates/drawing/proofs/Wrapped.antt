@@ -18,8 +18,9 @@ use Rattle.spans.specs.Spans.{Span, Record, records}
 use Rattle.spans.specs.Spans.RecordSpans.{Held, spansIn-held}
 use Rattle.rows.specs.Rows.{Row, rows}
 use Rattle.rows.specs.Calls.{modeOf}
-use Rattle.rows.specs.Contracts.{Kept, kept, lineRoom, SpansRoom, MadeWrap, beginning}
-use Rattle.rows.specs.Contracts.Laws.{rows-kept, keepAll, keeps-all, last-stays, first-stays, end-kept, start-kept}
+use Rattle.rows.specs.Wrap.{Kept, kept, SpansRoom, MadeWrap, beginning}
+use Rattle.rows.specs.Calls.Contracts.{lineRoom}
+use Rattle.rows.specs.Wrap.Laws.{rows-kept, keepAll, keeps-all, last-stays, first-stays, end-kept, start-kept}
 use Rattle.rows.specs.declared.wrap.Tally.{Tally}
 use Rattle.rows.specs.declared.wrap.WrapState.{WrapState}
 use Rattle.rows.specs.declared.wrap.Wrapping.{Wrapping}

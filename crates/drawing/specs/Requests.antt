@@ -12,7 +12,7 @@ use Rattle.text.specs.declared.Column.{Column}
 use Rattle.spans.specs.Spans.{Span, Record, records}
 use Rattle.spans.specs.Spans.RecordSpans.{spansIn}
 use Rattle.rows.specs.Calls.{modeOf, modeAndWidth}
-use Rattle.rows.specs.Contracts.{lineRoom}
+use Rattle.rows.specs.Calls.Contracts.{lineRoom}
 use Rattle.rows.specs.declared.wrap.Tally.{Tally}
 use Rattle.rows.specs.declared.wrap.Wrapping.{Wrapping}
 use Rattle.drawing.specs.Change.{Change, encode}

@@ -19,7 +19,7 @@ use Rattle.spans.specs.Spans.{Content, text, control, invalid, unprintable, esc
 use Rattle.spans.specs.Spans.ContentLaw.{textIn, contentIn, contentOf}
 use Rattle.rows.specs.Rows.{Row, row, Wrap, wrap, split, splits, splitText, lastRow, wrapped, rows}
 use Rattle.rows.specs.Calls.{modeOf, numbersOf}
-use Rattle.rows.specs.Contracts.{nextCount, tallied, pairAt, Kept, kept, keep, keeps, held, on, recordIn, spanOf, spansOf, lastKept, beginning}
+use Rattle.rows.specs.Wrap.{nextCount, tallied, pairAt, Kept, kept, keep, keeps, held, on, recordIn, spanOf, spansOf, lastKept, beginning}
 use Rattle.rows.specs.declared.wrap.Tally.{Tally}
 
 -- ---- what a record does is what its span does
