@@ -289,10 +289,10 @@ unfolding Told ifKnown
 known-told s [] n e = tt
 known-told s (o ∷ os) n e = e
 
-parse-told : (s : List ℕ) → Told s (parse s)
+told : (s : List ℕ) → Told s (parse s)
 unfolding parse csi erase charset osc closed Told
-parse-told [] = tt
-parse-told (a ∷ s) =
+told [] = tt
+told (a ∷ s) =
     let ps : List ℕ = parameters 0 s in
     let n : ℕ = leading parameterByte s in
     let i : ℕ = past idByte s 2 in
@@ -315,17 +315,17 @@ parse-told (a ∷ s) =
 -- the orders of a sequence are those of its parameters
 pub parse-orders : (s : List ℕ) (os : List Sgr) (n : ℕ) → parse s ≡ found (sgr os) n → os ≡ orders (parameters 0 (drop 1 s))
 unfolding Told
-parse-orders s os n e = rw e at (parse-told s)
+parse-orders s os n e = rw e at (told s)
 
 -- line drawing goes on where the byte behind `ESC (` is `0`
 pub parse-drawing : (s : List ℕ) (b : Bool) (n : ℕ) → parse s ≡ found (lineDrawing b) n → b ≡ eqb (getD s 1 0) 0x30
 unfolding Told
-parse-drawing s b n e = rw e at (parse-told s)
+parse-drawing s b n e = rw e at (told s)
 
 -- the URI of a hyperlink begins inside the sequence
 pub parse-link : (s : List ℕ) (a m n : ℕ) → parse s ≡ found (hyperlink a m) n → a ≤ n
 unfolding Told
-parse-link s a m n e = rw e at (parse-told s)
+parse-link s a m n e = rw e at (told s)
 
 -- a sequence is found only where there are bytes
 pub parse-some : (s : List ℕ) (q : Sequence) (n : ℕ) → parse s ≡ found q n → 1 ≤ length s
