@@ -12,12 +12,12 @@ pub data Sink : Type 0 where
   sink : List ℕ → ℕ → Sink
 
 -- the count after one more: n + 1 once the buffer of n is full
-unfoldable pub bump : ℕ → ℕ → ℕ
-bump n at = cond (ltb at n) (at + 1) (n + 1)
+unfoldable pub saturated : ℕ → ℕ → ℕ
+saturated n at = cond (ltb at n) (at + 1) (n + 1)
 
 -- one more
 unfoldable pub put : Sink → ℕ → Sink
-put (sink l at) b = sink (set l at b) (bump (length l) at)
+put (sink l at) b = sink (set l at b) (saturated (length l) at)
 
 -- more, in order
 unfoldable pub emit : Sink → List ℕ → Sink
@@ -25,8 +25,8 @@ emit s [] = s
 emit s (b ∷ bs) = emit (put s b) bs
 
 -- the buffer of n that holds xs, with zeros after, or zeros alone where xs does not fit
-unfoldable pub landed : ℕ → List ℕ → List ℕ
-landed n xs = cond (leb (length xs) n) (xs ++ replicate (n - length xs) 0) (replicate n 0)
+unfoldable pub writtenOrZero : ℕ → List ℕ → List ℕ
+writtenOrZero n xs = cond (leb (length xs) n) (xs ++ replicate (n - length xs) 0) (replicate n 0)
 
 -- what is kept of a buffer, and blanks after it
 abbrev pub cleared : {A : Type 0} → A → ℕ → List A → List A

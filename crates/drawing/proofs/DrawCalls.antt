@@ -21,7 +21,7 @@ use Rattle.spans.specs.Spans.RecordSpans.{Held, spansIn-none, spansIn-records}
 use Rattle.spans.specs.Calls.{Read, noRecord, readCall}
 use Rattle.spans.specs.Calls.Contracts.{readAs}
 use Rattle.rows.specs.Calls.Contracts.{lineRoom}
-use Rattle.rows.specs.declared.wrap.Tally.{Tally}
+use Rattle.rows.specs.declared.wrap.RowCounts.{RowCounts}
 use Rattle.rows.specs.Calls.{modeAndWidth}
 use Rattle.rows.specs.Calls.Reading as reading
 use Rattle.drawing.specs.Change.{Change, encode}
@@ -44,7 +44,7 @@ start-fits a b e = omega (arith, leb-true a 1048576 (is-true (leb a 1048576) (an
 pub wrapping-is : (q : Request) (conv n : ℕ) → n ≡ lineRoom conv → record { profile = record { version = 0 }; width = record { 0 = q .width }; mode = q .mode; len = n } ≡ wrappingOf q conv
 wrapping-is q conv n e = ap (λ (k : ℕ). record { profile = record { version = 0 }; width = record { 0 = q .width }; mode = q .mode; len = k }) e
 
-pub bounds-is : (y : Tally) (start end : Column) → end ≡ cond (ltb (y .last) (y .count)) (y .end) (y .ended) → start ≡ cond (ltb (y .first) (y .count)) (y .start) end → record { profile = record { version = 0 }; start = start; end = end } ≡ boundsOf y
+pub bounds-is : (y : RowCounts) (start end : Column) → end ≡ cond (ltb (y .last) (y .count)) (y .end) (y .ended) → start ≡ cond (ltb (y .first) (y .count)) (y .start) end → record { profile = record { version = 0 }; start = start; end = end } ≡ boundsOf y
 bounds-is y start end e f = rw (f, e)
 
 pub window-is : (q : Request) (len n : ℕ) → n ≡ cond (ltb 0 (q .start)) (q .start + 1) 0
@@ -57,7 +57,7 @@ area-fits q h =
     let a : q .width * q .count ≤ 65535 * q .count = mul-le-mul-right (q .count) (h .width) in
     omega (arith, a, h .count)
 
-pub rows-is : (q : Request) (y : Tally) (len : ℕ) (w : Window) (room : Column) → w ≡ boundsOf y → room .0 ≡ w .end .0 - w .start .0
+pub rows-is : (q : Request) (y : RowCounts) (len : ℕ) (w : Window) (room : Column) → w ≡ boundsOf y → room .0 ≡ w .end .0 - w .start .0
     → record { window = w; current = q .current; len = len; arrow = false; wrapped = true; room = ltb (room .0) (q .width * q .count) } ≡ rowsRendering q y len
 unfolding rowsRendering
 rows-is q y len w room e f = rw (f, e)

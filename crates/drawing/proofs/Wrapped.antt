@@ -18,10 +18,10 @@ use Rattle.spans.specs.Spans.{Span, Record, records}
 use Rattle.spans.specs.Spans.RecordSpans.{Held, spansIn-held}
 use Rattle.rows.specs.Rows.{Row, rows}
 use Rattle.rows.specs.Calls.{modeOf}
-use Rattle.rows.specs.Wrap.{Kept, kept, SpansRoom, MadeWrap, beginning}
+use Rattle.rows.specs.Wrap.{RowList, kept, SpansRoom, MadeWrap, beginning}
 use Rattle.rows.specs.Calls.Contracts.{lineRoom}
-use Rattle.rows.specs.Wrap.Laws.{rows-kept, keepAll, keeps-all, last-stays, first-stays, end-kept, start-kept}
-use Rattle.rows.specs.declared.wrap.Tally.{Tally}
+use Rattle.rows.specs.Wrap.Laws.{rows-kept, withAllRows, keeps-all, last-stays, first-stays, end-kept, start-kept}
+use Rattle.rows.specs.declared.wrap.RowCounts.{RowCounts}
 use Rattle.rows.specs.declared.wrap.WrapState.{WrapState}
 use Rattle.rows.specs.declared.wrap.Wrapping.{Wrapping}
 use Rattle.rows.specs.Calls.Reading.{line-room}
@@ -70,7 +70,7 @@ unfolding changesOf render windowRendering
 window-changes q len ss e zero h = rw (e, h, profile-is) refl
 window-changes q len ss e (suc n) h = let z : suc n + 1 ≡ suc (suc n) = omega arith in rw (e, h, lt-ltb 0 (suc n) (omega arith), z, profile-is) refl
 
-rows-changes : (q : Request) (y : Tally) (len : ℕ) (ss : List Span) → q .wrapped ≡ true
+rows-changes : (q : Request) (y : RowCounts) (len : ℕ) (ss : List Span) → q .wrapped ≡ true
     → boundsOf y .end .0 ≡ endOf 0 (q .first + q .count - 1) (rows profile01 (q .width) (modeOf (q .mode)) ss)
     → boundsOf y .start .0 ≡ startOf (boundsOf y .end .0) (q .first) (rows profile01 (q .width) (modeOf (q .mode)) ss) → Changes q (rowsRendering q y len) ss
 unfolding changesOf renderWrapped rowsRendering
@@ -88,16 +88,16 @@ module _ (rs : List Record) (line : List ℕ) (q : Request) (count : ℕ) (enoug
       let r = line-room line (w .len) len-is in
       rw e record { there = omega (arith, enough .there); few = omega (arith, enough .few); short = r .0; held = r .1; low = omega arith; near = omega arith; more = omega arith }
 
-  same-len : (y : Tally) (d : Rendering) → d ≡ renderingOf q y (w .len) → d .len ≡ w .len
+  same-len : (y : RowCounts) (d : Rendering) → d ≡ renderingOf q y (w .len) → d .len ≡ w .len
   unfolding renderingOf rowsRendering windowRendering
   same-len y d e = ap (λ (x : Rendering). x .len) e ∙ cases (q .wrapped) (λ b. rw b refl) (λ b. rw b refl)
 
-  pub render-room : (y : Tally) (d : Rendering) → d ≡ renderingOf q y (w .len) → (l l′ : List ℕ) (t : Stepped) → Opened d l l′ t → RenderRoom rs line d t count
+  pub render-room : (y : RowCounts) (d : Rendering) → d ≡ renderingOf q y (w .len) → (l l′ : List ℕ) (t : Stepped) → Opened d l l′ t → RenderRoom rs line d t count
   render-room y d e l l′ t o =
       let r = line-room line (d .len) (same-len y d e ∙ len-is) in
       record { there = enough .there; few = enough .few; short = r .0; held = r .1; near = rw (o .state) (omega arith) }
 
-  module _ (last : ℕ) (last-is : last ≡ q .first + q .count - 1) (t : WrapState) (t-is : t ≡ beginning (q .first) last) (n : ℕ) (n-is : n ≡ spansWrapped q count) (none : List ℕ) (y : Tally)
+  module _ (last : ℕ) (last-is : last ≡ q .first + q .count - 1) (t : WrapState) (t-is : t ≡ beginning (q .first) last) (n : ℕ) (n-is : n ≡ spansWrapped q count) (none : List ℕ) (y : RowCounts)
       (made : MadeWrap (profileOf (w .profile)) (w .width .0) (w .mode) (take (w .len) line) (take n rs) [] t none y)
       (d : Rendering) (d-is : d ≡ renderingOf q y (w .len)) where
     abbrev text : List ℕ
@@ -112,11 +112,11 @@ module _ (rs : List Record) (line : List ℕ) (q : Request) (count : ℕ) (enoug
     abbrev wanted : List Row
     wanted = rows profile01 (q .width) (modeOf (q .mode)) ss
 
-    abbrev nothing-yet : Kept
+    abbrev nothing-yet : RowList
     nothing-yet = kept [] (beginning (q .first) last .tally)
 
-    abbrev z : Tally
-    z = keepAll nothing-yet wanted .tally
+    abbrev z : RowCounts
+    z = withAllRows nothing-yet wanted .tally
 
     module _ (b : q .wrapped ≡ true) where
       made-is : MadeWrap profile01 (q .width) (q .mode) text (records ss) [] (beginning (q .first) last) none y
@@ -125,7 +125,7 @@ module _ (rs : List Record) (line : List ℕ) (q : Request) (count : ℕ) (enoug
           rw (enough .held, ← m, ← t-is) (rw (w-is, profile-is) at made)
 
       y-is : y ≡ z
-      y-is = ap (λ (k : Kept). k .tally) (made-is .same ∙ rows-kept profile01 (q .width) text [] (q .first) last ss (q .mode) (enough .limits .mode) held ∙ keeps-all nothing-yet wanted)
+      y-is = ap (λ (k : RowList). k .tally) (made-is .same ∙ rows-kept profile01 (q .width) text [] (q .first) last ss (q .mode) (enough .limits .mode) held ∙ keeps-all nothing-yet wanted)
 
       few-rows : z .count < 0xFFFF_FFFF_FFFF_FFFF
       few-rows = rw y-is at (made-is .more)
@@ -133,16 +133,16 @@ module _ (rs : List Record) (line : List ℕ) (q : Request) (count : ℕ) (enoug
       end-is : boundsOf y .end .0 ≡ endOf 0 (q .first + q .count - 1) wanted
       unfolding endOf
       end-is =
-          ap (λ (x : Tally). boundsOf x .end .0) y-is ∙ column-cond (ltb (z .last) (z .count)) _ _
+          ap (λ (x : RowCounts). boundsOf x .end .0) y-is ∙ column-cond (ltb (z .last) (z .count)) _ _
           ∙ ap (λ (i : ℕ). cond (ltb i (z .count)) (z .end .0) (z .ended .0)) (last-stays wanted nothing-yet)
           ∙ end-kept endOf (λ e i. refl) nothing-yet wanted few-rows refl (λ e r rs. refl) (λ e i r rs. refl) ∙ ap (λ (i : ℕ). endOf 0 i wanted) last-is
 
       start-is : boundsOf y .start .0 ≡ startOf (boundsOf y .end .0) (q .first) wanted
       unfolding startOf
       start-is =
-          ap (λ (x : Tally). boundsOf x .start .0) y-is ∙ column-cond (ltb (z .first) (z .count)) (z .start) (boundsEnd z)
+          ap (λ (x : RowCounts). boundsOf x .start .0) y-is ∙ column-cond (ltb (z .first) (z .count)) (z .start) (boundsEnd z)
           ∙ ap (λ (i : ℕ). cond (ltb i (z .count)) (z .start .0) (boundsEnd z .0)) (first-stays wanted nothing-yet)
-          ∙ start-kept startOf (λ e i. refl) nothing-yet wanted few-rows refl (λ e r rs. refl) (λ e i r rs. refl) (boundsEnd z .0) ∙ ap (λ (x : Tally). startOf (boundsEnd x .0) (q .first) wanted) (sym y-is)
+          ∙ start-kept startOf (λ e i. refl) nothing-yet wanted few-rows refl (λ e r rs. refl) (λ e i r rs. refl) (boundsEnd z .0) ∙ ap (λ (x : RowCounts). startOf (boundsEnd x .0) (q .first) wanted) (sym y-is)
 
     changes-are : Changes q d ss
     unfolding renderingOf

@@ -13,7 +13,7 @@ use Rattle.spans.specs.Spans.{Span, Record, records}
 use Rattle.spans.specs.Spans.RecordSpans.{spansIn}
 use Rattle.rows.specs.Calls.{modeOf, modeAndWidth}
 use Rattle.rows.specs.Calls.Contracts.{lineRoom}
-use Rattle.rows.specs.declared.wrap.Tally.{Tally}
+use Rattle.rows.specs.declared.wrap.RowCounts.{RowCounts}
 use Rattle.rows.specs.declared.wrap.Wrapping.{Wrapping}
 use Rattle.drawing.specs.Change.{Change, encode}
 use Rattle.drawing.specs.Change as change
@@ -57,10 +57,10 @@ abbrev pub wrappingOf : Request → ℕ → Wrapping
 wrappingOf q conv = record { profile = record { version = 0 }; width = record { 0 = q .width }; mode = q .mode; len = lineRoom conv }
 
 -- wrap_bounds_for_rows, of the rows that are asked for
-abbrev pub boundsEnd : Tally → Column
+abbrev pub boundsEnd : RowCounts → Column
 boundsEnd y = cond (ltb (y .last) (y .count)) (y .end) (y .ended)
 
-abbrev pub boundsOf : Tally → Window
+abbrev pub boundsOf : RowCounts → Window
 boundsOf y = record { profile = record { version = 0 }; start = cond (ltb (y .first) (y .count)) (y .start) (boundsEnd y); end = boundsEnd y }
 
 unfoldable pub windowRendering : Request → ℕ → Rendering
@@ -74,7 +74,7 @@ windowRendering q len =
       room = false;
     }
 
-unfoldable pub rowsRendering : Request → Tally → ℕ → Rendering
+unfoldable pub rowsRendering : Request → RowCounts → ℕ → Rendering
 rowsRendering q y len =
     record {
       window = boundsOf y;
@@ -85,7 +85,7 @@ rowsRendering q y len =
       room = ltb (boundsOf y .end .0 - boundsOf y .start .0) (q .width * q .count);
     }
 
-unfoldable pub renderingOf : Request → Tally → ℕ → Rendering
+unfoldable pub renderingOf : Request → RowCounts → ℕ → Rendering
 unfolding windowRendering rowsRendering
 renderingOf q y len = cond (q .wrapped) (rowsRendering q y len) (windowRendering q len)
 

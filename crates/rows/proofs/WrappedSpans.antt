@@ -16,10 +16,10 @@ use Rattle.spans.specs.Spans.{Record}
 use Rattle.spans.specs.Spans.ContentLaw.{textIn}
 use Rattle.spans.specs.Calls.{noRecord}
 use Rattle.rows.specs.Rows.{Wrap, tabbed}
-use Rattle.rows.specs.Rows.Laws.{Natural, unit-over, tabbed-over, splitText-over}
+use Rattle.rows.specs.Rows.Laws.{Natural, unbroken-over, tabbed-over, splitText-over}
 use Rattle.text.specs.TextParts.{textAt}
-use Rattle.rows.specs.Wrap.{held, on, Stepped, unitOf, textOf, recordIn, spanOf, spansOf, lastKept, LastRow, SpanRoom, SpansRoom, MadeWrap}
-use Rattle.rows.specs.declared.wrap.Tally.{Tally}
+use Rattle.rows.specs.Wrap.{held, on, Stepped, unbrokenOf, textOf, recordIn, spanOf, spansOf, lastRowList, LastRow, SpanRoom, SpansRoom, MadeWrap}
+use Rattle.rows.specs.declared.wrap.RowCounts.{RowCounts}
 use Rattle.rows.specs.declared.wrap.WrapState.{WrapState}
 use Rattle.rows.proofs.WrappedTexts.{renamed, on-id, turn, done}
 
@@ -65,13 +65,13 @@ module _ (P : Profile) (width mode : ℕ) (buffer : List ℕ) (len : ℕ) (r : R
         let n : length text ≤ len = rw (q, length-take, length-drop, length-take) (omega arith) in
         by-kind (textOf P width (eqb mode 2) (textAt text 0)) (2 * length text) (2 * length text) l′ t′ (λ w. rw (either (r .kind) 1 h k, q)) (omega arith) (omega arith) s
 
-    pub span-mark : (l′ : List ℕ) (t′ : WrapState) → 3 ≤ r .kind → r .kind ≤ 4 → Stepped l t (unitOf width 4) 4 1 l′ t′ → Stepped l t (spanOf P width mode line r) (2 * len + 8) (2 * len + 1) l′ t′
-    unfolding recordIn unitOf
-    span-mark l′ t′ h k s = by-kind (unitOf width 4) 4 1 l′ t′ (λ w. rw (neither (r .kind) 1 (λ x. omega arith) (λ x. omega arith), either (r .kind) 3 h k)) (omega arith) (omega arith) s
+    pub span-mark : (l′ : List ℕ) (t′ : WrapState) → 3 ≤ r .kind → r .kind ≤ 4 → Stepped l t (unbrokenOf width 4) 4 1 l′ t′ → Stepped l t (spanOf P width mode line r) (2 * len + 8) (2 * len + 1) l′ t′
+    unfolding recordIn unbrokenOf
+    span-mark l′ t′ h k s = by-kind (unbrokenOf width 4) 4 1 l′ t′ (λ w. rw (neither (r .kind) 1 (λ x. omega arith) (λ x. omega arith), either (r .kind) 3 h k)) (omega arith) (omega arith) s
 
-    pub span-long-mark : (l′ : List ℕ) (t′ : WrapState) → r .kind ≡ 5 → Stepped l t (unitOf width 8) 8 1 l′ t′ → Stepped l t (spanOf P width mode line r) (2 * len + 8) (2 * len + 1) l′ t′
-    unfolding recordIn unitOf
-    span-long-mark l′ t′ k s = by-kind (unitOf width 8) 8 1 l′ t′ (λ w. rw k) (omega arith) (omega arith) s
+    pub span-long-mark : (l′ : List ℕ) (t′ : WrapState) → r .kind ≡ 5 → Stepped l t (unbrokenOf width 8) 8 1 l′ t′ → Stepped l t (spanOf P width mode line r) (2 * len + 8) (2 * len + 1) l′ t′
+    unfolding recordIn unbrokenOf
+    span-long-mark l′ t′ k s = by-kind (unbrokenOf width 8) 8 1 l′ t′ (λ w. rw k) (omega arith) (omega arith) s
 
     pub span-tab : (l′ : List ℕ) (t′ : WrapState) → r .kind ≡ 10 → Stepped l t (tabbed width) 8 1 l′ t′ → Stepped l t (spanOf P width mode line r) (2 * len + 8) (2 * len + 1) l′ t′
     unfolding recordIn
@@ -91,8 +91,8 @@ module _ (P : Profile) (width mode : ℕ) (line : List ℕ) where
   spanOf-over r rs t =
       cases (eqb mode 0) (λ e. rw e)
       (λ e. cases (eqb (r .kind) 1 || eqb (r .kind) 2) (λ a. rw (e, a) (splitText-over P width (eqb mode 2) _ rs t))
-      (λ a. cases (eqb (r .kind) 3 || eqb (r .kind) 4) (λ b. rw (e, a, b) (unit-over width 4 rs t))
-      (λ b. cases (eqb (r .kind) 5) (λ c. rw (e, a, b, c) (unit-over width 8 rs t))
+      (λ a. cases (eqb (r .kind) 3 || eqb (r .kind) 4) (λ b. rw (e, a, b) (unbroken-over width 4 rs t))
+      (λ b. cases (eqb (r .kind) 5) (λ c. rw (e, a, b, c) (unbroken-over width 8 rs t))
       (λ c. cases (eqb (r .kind) 10) (λ d. rw (e, a, b, c, d) (tabbed-over width rs t)) (λ d. rw (e, a, b, c, d))))))
 
   spansOf-over : (xs : List Record) → Natural (spansOf P width mode line xs)
@@ -145,10 +145,10 @@ module _ (P : Profile) (width mode : ℕ) (buffer : List ℕ) (len : ℕ) (spans
           more = omega (arith, k .more, s .more, room .short);
         }
 
-    pub spans-end : (l′ : List ℕ) (r : Tally) → i ≡ n → LastRow l t mode l′ r → MadeWrap P width mode the-line (take n spans) l₀ t₀ l′ r
+    pub spans-end : (l′ : List ℕ) (r : RowCounts) → i ≡ n → LastRow l t mode l′ r → MadeWrap P width mode the-line (take n spans) l₀ t₀ l′ r
     spans-end l′ r e k =
         let z : drop i (take n spans) ≡ [] = drop-of-length-le (take n spans) {i = i} (rw (length-take-le n spans (room .there)) (omega arith)) in
         record {
-          same = k .same ∙ ap (lastKept mode) (done (spansOf P width mode the-line (drop i (take n spans))) (held l t) (s .work) (spansOf-none P width mode the-line (drop i (take n spans)) z));
+          same = k .same ∙ ap (lastRowList mode) (done (spansOf P width mode the-line (drop i (take n spans))) (held l t) (s .work) (spansOf-none P width mode the-line (drop i (take n spans)) z));
           more = omega (arith, k .more, s .more, room .more, room .few);
         }

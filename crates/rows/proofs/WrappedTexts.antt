@@ -28,10 +28,10 @@ use Rattle.text.specs.Segmentation.{NextClusterReady, NextCluster}
 use Rattle.text.specs.Scalar.Laws.{packed-inside, packed-none, first-some}
 use Rattle.rows.specs.Words.{Word, words}
 use Rattle.rows.specs.Words.Laws.{firstWord, restWords, first-word-all, first-word-some, words-first}
-use Rattle.rows.specs.Rows.{Row, Wrap, wrap, pushed, unit, byClusters, byWords, longWord, oneWord, splitText}
+use Rattle.rows.specs.Rows.{Row, Wrap, wrap, pushed, unbroken, byClusters, byWords, longWord, oneWord, splitText}
 use Rattle.rows.specs.Rows.Laws.{over, Natural, byClusters-over, longWord-over, byWords-over}
 use Rattle.rows.specs.Words.Contracts.{WordAt, bothOf}
-use Rattle.rows.specs.Wrap.{WordRoom, Kept, kept, keep, keeps, Held, held, on, Room, Stepped, advanced, unitOf, clustersOf, longWordOf, oneWordOf, wordsOf, textOf}
+use Rattle.rows.specs.Wrap.{WordRoom, RowList, kept, withRow, withRows, Held, held, on, Room, Stepped, advanced, unbrokenOf, clustersOf, longWordOf, oneWordOf, wordsOf, textOf}
 use Rattle.text.specs.declared.class.Profile as profile
 use Rattle.rows.specs.declared.wrap.WrapState.{WrapState}
 use Rattle.rows.proofs.WordClusters.{word-clusters}
@@ -39,17 +39,17 @@ use Rattle.rows.proofs.PushedRows.{stays}
 
 -- ---- one after the other
 
-keeps-append : (k : Kept) (a b : List Row) → keeps k (a ++ b) ≡ keeps (keeps k b) a
-unfolding keeps
+keeps-append : (k : RowList) (a b : List Row) → withRows k (a ++ b) ≡ withRows (withRows k b) a
+unfolding withRows
 keeps-append k [] b = refl
-keeps-append k (r ∷ a) b = ap (λ (x : Kept). keep x r) (keeps-append k a b)
+keeps-append k (r ∷ a) b = ap (λ (x : RowList). withRow x r) (keeps-append k a b)
 
-holding : Kept → Wrap → Held
-holding k t = record { kept = keeps k (t .rows); start = t .start; position = t .position }
+holding : RowList → Wrap → Held
+holding k t = record { kept = withRows k (t .rows); start = t .start; position = t .position }
 
-holding-over : (k : Kept) (rs : List Row) (t : Wrap) → holding k (over rs t) ≡ holding (keeps k rs) t
+holding-over : (k : RowList) (rs : List Row) (t : Wrap) → holding k (over rs t) ≡ holding (withRows k rs) t
 unfolding holding over
-holding-over k rs t = ap (λ (x : Kept). record { kept = x; start = t .start; position = t .position }) (keeps-append k (t .rows) rs)
+holding-over k rs t = ap (λ (x : RowList). record { kept = x; start = t .start; position = t .position }) (keeps-append k (t .rows) rs)
 
 on-at : (f g : Wrap → Wrap) (h : Held) → f (wrap [] (h .start) (h .position)) ≡ g (wrap [] (h .start) (h .position)) → on f h ≡ on g h
 unfolding on holding
@@ -62,7 +62,7 @@ on-then f g h n =
     sym (ap (holding (h .kept)) (n (t .rows) (wrap [] (t .start) (t .position))) ∙ holding-over (h .kept) (t .rows) (g (wrap [] (t .start) (t .position))))
 
 pub on-id : (f : Wrap → Wrap) (h : Held) → ((t : Wrap) → f t ≡ t) → on f h ≡ h
-unfolding on holding keeps
+unfolding on holding withRows
 on-id f h e = ap (holding (h .kept)) (e (wrap [] (h .start) (h .position)))
 
 -- what is left to do: a turn, and the end
@@ -101,8 +101,8 @@ module _ (P : Profile) (width : ℕ) where
   clusters-natural s = byClusters-over P width (clusters P s)
 
   clusters-more : (s rest : List Scalar) (n : ℕ) → clusters P s ≡ firstOf (clusters P s) ∷ clusters P rest → n ≡ widthOf P (firstOf (clusters P s))
-      → (t : Wrap) → clustersOf P width s t ≡ clustersOf P width rest (unitOf width n t)
-  unfolding clustersOf byClusters unitOf
+      → (t : Wrap) → clustersOf P width s t ≡ clustersOf P width rest (unbrokenOf width n t)
+  unfolding clustersOf byClusters unbrokenOf
   clusters-more s rest n e v t = rw v (ap (byClusters P width t) e)
 
 pub record Breaking (P : Profile) (width : ℕ) (text l₀ : List ℕ) (t₀ : WrapState) (p : BytePlace) (u : ℕ) (l : List ℕ) (t : WrapState) : Type 0 where
@@ -139,7 +139,7 @@ module _ (P : Profile) (width : ℕ) (text l₀ : List ℕ) (t₀ : WrapState) (
     pub break-less : (u ≢ 0) → length text - g .part .end .0 < length text - p .0
     break-less z = let h = break-further z in omega (arith, h, c .part .inside)
 
-    pub break-turn : (l′ : List ℕ) (t′ : WrapState) → (u ≢ 0) → Stepped l t (unitOf width (g .part .width .0)) (g .part .width .0) 1 l′ t′ → length l′ ≡ length l
+    pub break-turn : (l′ : List ℕ) (t′ : WrapState) → (u ≢ 0) → Stepped l t (unbrokenOf width (g .part .width .0)) (g .part .width .0) 1 l′ t′ → length l′ ≡ length l
         → Breaking P width text l₀ t₀ (g .part .end) (g .next) l′ t′
     break-turn l′ t′ z s k =
         let m = c .part in
@@ -151,7 +151,7 @@ module _ (P : Profile) (width : ℕ) (text l₀ : List ℕ) (t₀ : WrapState) (
             inside = m .inside;
             long = k ∙ b .so .long;
             work = ap (λ (x : List Scalar). on (clustersOf P width x) (held l′ t′)) r
-                ∙ turn (clustersOf P width now-text) (held l t) (b .so .work) (unitOf width (g .part .width .0)) (clustersOf P width (f .rest)) (held l′ t′) (clusters-more P width now-text (f .rest) (g .part .width .0) (f .clusters) (m .width)) (clusters-natural P width (f .rest)) (s .same);
+                ∙ turn (clustersOf P width now-text) (held l t) (b .so .work) (unbrokenOf width (g .part .width .0)) (clustersOf P width (f .rest)) (held l′ t′) (clusters-more P width now-text (f .rest) (g .part .width .0) (f .clusters) (m .width)) (clusters-natural P width (f .rest)) (s .same);
             low = s .low;
             near = omega (arith, s .near, b .so .near, m .small, m .end);
           };
@@ -212,7 +212,7 @@ module _ (P : Profile) (width : ℕ) (text : List ℕ) (at : BytePlace) (v : Tex
 clusters-append : (P : Profile) (width : ℕ) (gs hs : List (List Scalar)) (t : Wrap) → byClusters P width t (gs ++ hs) ≡ byClusters P width (byClusters P width t gs) hs
 unfolding byClusters
 clusters-append P width [] hs t = refl
-clusters-append P width (g ∷ gs) hs t = clusters-append P width gs hs (unit width t (widthOf P g))
+clusters-append P width (g ∷ gs) hs t = clusters-append P width gs hs (unbroken width t (widthOf P g))
 
 -- a word is broken with its separator
 module _ (f : profile.Profile) (width : ℕ) (text : List ℕ) (at : BytePlace) (v : TextPart) (t : WrapState) (w : WordRoom (profileOf f) text (at .0) v t) where

@@ -35,8 +35,8 @@ abbrev pub fitsRow : ℕ → Wrap → ℕ → Bool
 fitsRow width t end = leb (end - t .start) width
 
 -- n columns that are not broken: they fit within the row, or wrap to the next
-unfoldable pub unit : ℕ → Wrap → ℕ → Wrap
-unit width t n =
+unfoldable pub unbroken : ℕ → Wrap → ℕ → Wrap
+unbroken width t n =
     let end : ℕ = t .position + n in
     cond (fitsRow width t end) (wrap (t .rows) (t .start) end) (wrap (row (t .start) (t .position) ∷ t .rows) (t .position) end)
 
@@ -52,9 +52,9 @@ pushed t = cond (eqb (t .start) (t .position)) t (wrap (row (t .start) (t .posit
 
 module _ (P : Profile) (width : ℕ) where
   unfoldable pub byClusters : Wrap → List (List Scalar) → Wrap
-  unfolding unit widthOf
+  unfolding unbroken widthOf
   byClusters t [] = t
-  byClusters t (g ∷ gs) = byClusters (unit width t (widthOf P g)) gs
+  byClusters t (g ∷ gs) = byClusters (unbroken width t (widthOf P g)) gs
 
   abbrev pub wordEnd : Wrap → Word → ℕ
   wordEnd t v = t .position + widthOf P (v .word) + widthOf P (v .sep)
@@ -84,11 +84,11 @@ module _ (P : Profile) (width : ℕ) where
   splitText false t s = byClusters t (clusters P s)
 
   unfoldable pub split : Bool → Wrap → Content → Wrap
-  unfolding splitText tabbed unit
+  unfolding splitText tabbed unbroken
   split w t (text m s) = splitText w t s
-  split w t (control b) = unit width t 4
-  split w t (invalid b) = unit width t 4
-  split w t (unprintable s) = unit width t 8
+  split w t (control b) = unbroken width t 4
+  split w t (invalid b) = unbroken width t 4
+  split w t (unprintable s) = unbroken width t 8
   split w t (escape e) = t
   split w t tab = tabbed width t
   split w t crlf = t

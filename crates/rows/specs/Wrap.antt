@@ -13,8 +13,8 @@ use Rattle.text.specs.Cluster.{clusters}
 use Rattle.spans.specs.Spans.{Record}
 use Rattle.spans.specs.Spans.ContentLaw.{textIn}
 use Rattle.rows.specs.Words.{Word, words}
-use Rattle.rows.specs.Rows.{Row, row, Wrap, wrap, unit, byClusters, longWord, oneWord, byWords, splitText, tabbed}
-use Rattle.rows.specs.declared.wrap.Tally.{Tally}
+use Rattle.rows.specs.Rows.{Row, row, Wrap, wrap, unbroken, byClusters, longWord, oneWord, byWords, splitText, tabbed}
+use Rattle.rows.specs.declared.wrap.RowCounts.{RowCounts}
 use Rattle.rows.specs.declared.wrap.WrapState.{WrapState}
 use Rattle.rows.specs.Words.Contracts.{WordAt}
 pub mod Laws
@@ -25,9 +25,9 @@ pub mod Laws
 unfoldable pub nextCount : ℕ → ℕ
 nextCount n = cond (ltb n 0xFFFF_FFFF_FFFF_FFFF) (n + 1) n
 
-unfoldable pub tallied : Tally → Row → Tally
+unfoldable pub countedRow : RowCounts → Row → RowCounts
 unfolding nextCount
-tallied t r =
+countedRow t r =
     record {
       count = nextCount (t .count);
       first = t .first;
@@ -41,30 +41,30 @@ tallied t r =
 unfoldable pub pairAt : List ℕ → ℕ → Row → List ℕ
 pairAt l n r = cond (ltb n (length l / 2)) (set (set l (2 * n) (r .start)) (2 * n + 1) (r .end)) l
 
--- the lent row list and the tally
-pub record Kept : Type 0 where
+-- the lent row list and the counts of rows
+pub record RowList : Type 0 where
   pub numbers : List ℕ
-  pub tally : Tally
+  pub tally : RowCounts
 
-abbrev pub kept : List ℕ → Tally → Kept
+abbrev pub kept : List ℕ → RowCounts → RowList
 kept l t = record { numbers = l; tally = t }
 
 -- one more row
-unfoldable pub keep : Kept → Row → Kept
-unfolding pairAt tallied
-keep k r = kept (pairAt (k .numbers) (k .tally .count) r) (tallied (k .tally) r)
+unfoldable pub withRow : RowList → Row → RowList
+unfolding pairAt countedRow
+withRow k r = kept (pairAt (k .numbers) (k .tally .count) r) (countedRow (k .tally) r)
 
 -- more rows, the last one first
-unfoldable pub keeps : Kept → List Row → Kept
-unfolding keep
-keeps k [] = k
-keeps k (r ∷ rs) = keep (keeps k rs) r
+unfoldable pub withRows : RowList → List Row → RowList
+unfolding withRow
+withRows k [] = k
+withRows k (r ∷ rs) = withRow (withRows k rs) r
 
 -- ---- a step of wrapping
 
 -- what is kept, where the present row starts, and the position
 pub record Held : Type 0 where
-  pub kept : Kept
+  pub kept : RowList
   pub start : ℕ
   pub position : ℕ
 
@@ -73,15 +73,15 @@ held l t = record { kept = kept l (t .tally); start = t .start .0; position = t 
 
 -- wrapping goes on: the rows that it pushes are kept behind those kept before
 unfoldable pub on : (Wrap → Wrap) → Held → Held
-unfolding keeps
+unfolding withRows
 on f h =
     let t : Wrap = f (wrap [] (h .start) (h .position)) in
-    record { kept = keeps (h .kept) (t .rows); start = t .start; position = t .position }
+    record { kept = withRows (h .kept) (t .rows); start = t .start; position = t .position }
 
 -- the steps, with the state last
-unfoldable pub unitOf : ℕ → ℕ → Wrap → Wrap
-unfolding unit
-unitOf width n t = unit width t n
+unfoldable pub unbrokenOf : ℕ → ℕ → Wrap → Wrap
+unfolding unbroken
+unbrokenOf width n t = unbroken width t n
 
 module _ (P : Profile) (width : ℕ) where
   unfoldable pub clustersOf : List Scalar → Wrap → Wrap
@@ -135,11 +135,11 @@ pub record SpanRoom (buffer : List ℕ) (len : ℕ) (t : WrapState) : Type 0 whe
 module _ (P : Profile) (width : ℕ) where
   -- what a record of the line does
   unfoldable pub recordIn : Bool → List ℕ → Record → Wrap → Wrap
-  unfolding splitText unit tabbed textIn
+  unfolding splitText unbroken tabbed textIn
   recordIn w line r t =
       cond (eqb (r .kind) 1 || eqb (r .kind) 2) (splitText P width w t (textIn (r .len) (drop (r .place .0) line)))
-      (cond (eqb (r .kind) 3 || eqb (r .kind) 4) (unit width t 4)
-      (cond (eqb (r .kind) 5) (unit width t 8)
+      (cond (eqb (r .kind) 3 || eqb (r .kind) 4) (unbroken width t 4)
+      (cond (eqb (r .kind) 5) (unbroken width t 8)
       (cond (eqb (r .kind) 10) (tabbed width t) t)))
 
   -- the same by the mode's number
@@ -153,15 +153,15 @@ module _ (P : Profile) (width : ℕ) where
   spansOf mode line (r ∷ rs) t = spansOf mode line rs (spanOf mode line r t)
 
 -- the last row, unless it is empty and not the only one
-unfoldable pub lastKept : ℕ → Held → Kept
-unfolding keep
-lastKept mode h =
-    cond (eqb mode 0) (keep (h .kept) (row 0 0xFFFF_FFFF_FFFF_FFFF))
-    (cond (ltb (h .start) (h .position)) (keep (h .kept) (row (h .start) (h .position)))
-    (cond (eqb (h .kept .tally .count) 0) (keep (h .kept) (row (h .start) (h .position))) (h .kept)))
+unfoldable pub lastRowList : ℕ → Held → RowList
+unfolding withRow
+lastRowList mode h =
+    cond (eqb mode 0) (withRow (h .kept) (row 0 0xFFFF_FFFF_FFFF_FFFF))
+    (cond (ltb (h .start) (h .position)) (withRow (h .kept) (row (h .start) (h .position)))
+    (cond (eqb (h .kept .tally .count) 0) (withRow (h .kept) (row (h .start) (h .position))) (h .kept)))
 
-pub record LastRow (l : List ℕ) (t : WrapState) (mode : ℕ) (l′ : List ℕ) (r : Tally) : Type 0 where
-  pub same : kept l′ r ≡ lastKept mode (held l t)
+pub record LastRow (l : List ℕ) (t : WrapState) (mode : ℕ) (l′ : List ℕ) (r : RowCounts) : Type 0 where
+  pub same : kept l′ r ≡ lastRowList mode (held l t)
   pub more : r .count ≤ t .tally .count + 1
 
 -- ---- all spans
@@ -185,6 +185,6 @@ pub record SpansRoom (spans : List Record) (buffer : List ℕ) (len : ℕ) (t : 
   pub near : t .position .0 ≤ 4294967296
   pub more : t .tally .count ≤ 4294967296
 
-pub record MadeWrap (P : Profile) (width mode : ℕ) (line : List ℕ) (rs : List Record) (l : List ℕ) (t : WrapState) (l′ : List ℕ) (r : Tally) : Type 0 where
-  pub same : kept l′ r ≡ lastKept mode (on (spansOf P width mode line rs) (held l t))
+pub record MadeWrap (P : Profile) (width mode : ℕ) (line : List ℕ) (rs : List Record) (l : List ℕ) (t : WrapState) (l′ : List ℕ) (r : RowCounts) : Type 0 where
+  pub same : kept l′ r ≡ lastRowList mode (on (spansOf P width mode line rs) (held l t))
   pub more : r .count < 0xFFFF_FFFF_FFFF_FFFF

@@ -7,7 +7,7 @@ use spans::clear_spans;
 use text::Answer;
 use text::Column;
 use text::class::Profile;
-use wrap::Tally;
+use wrap::RowCounts;
 use wrap::Wrapping;
 use wrap::begin;
 use wrap::make_wrap;
@@ -83,7 +83,7 @@ fn decide(request: Request, read: usize, rows: usize, numbers: usize) -> usize
 }
 
 // What is kept: all and the pairs of the rows, or nothing where the call is refused.
-fn outcome_of(request: Request, read: Answer, tally: Tally, numbers: usize) -> Outcome
+fn outcome_of(request: Request, read: Answer, tally: RowCounts, numbers: usize) -> Outcome
     ensures { λ r. ⌜ r ≡ outcomeOf (decided request (read .number) (tally .count) numbers) (tally .count) numbers ⌝ }
 {
     let number = decide(request, read.number, tally.count, numbers);

@@ -16,10 +16,10 @@ ghost use Rattle.text.specs.TextParts.{textAt};
 ghost use Rattle.rows.specs.Words.Laws.{firstWord};
 ghost use mathlib.Core.Bool.{cond};
 ghost use Rattle.rows.specs.Rows.{row, tabbed, pushed};
-ghost use Rattle.rows.specs.Wrap.{kept, keep, nextCount, tallied, Room, Stepped, advanced, unitOf, WordRoom, clustersOf, longWordOf, oneWordOf, wordsOf, textOf, spanOf, LastRow, beginning, SpanRoom, SpansRoom, MadeWrap};
+ghost use Rattle.rows.specs.Wrap.{kept, withRow, nextCount, countedRow, Room, Stepped, advanced, unbrokenOf, WordRoom, clustersOf, longWordOf, oneWordOf, wordsOf, textOf, spanOf, LastRow, beginning, SpanRoom, SpansRoom, MadeWrap};
 
 // What is kept of the rows pushed: their number, the start of the row `first`, the end of the row `last`, the end of the row pushed last.
-pub struct Tally {
+pub struct RowCounts {
     pub count: usize,
     pub first: usize,
     pub last: usize,
@@ -32,7 +32,7 @@ pub struct Tally {
 pub struct WrapState {
     pub start: Column,
     pub position: Column,
-    pub tally: Tally,
+    pub tally: RowCounts,
 }
 
 // How to wrap: the text profile, the width, the mode (0 Unwrapped, 1 GraphemeBoundary, 2 WordBoundary), and the length of the line in the
@@ -57,13 +57,13 @@ fn next_count(n: usize) -> usize
 }
 
 // The tally with one more row.
-fn tally_row(t: Tally, start: Column, end: Column) -> Tally
-    ensures { λ r. ⌜ r ≡ tallied t (row (start .0) (end .0)) ⌝ }
+fn count_row(t: RowCounts, start: Column, end: Column) -> RowCounts
+    ensures { λ r. ⌜ r ≡ countedRow t (row (start .0) (end .0)) ⌝ }
 {
     let count = next_count(t.count);
     let from = choose(t.count == t.first, start, t.start);
     let to = choose(t.count == t.last, end, t.end);
-    Tally {
+    RowCounts {
         count: count,
         first: t.first,
         last: t.last,
@@ -74,16 +74,16 @@ fn tally_row(t: Tally, start: Column, end: Column) -> Tally
 }
 
 // Pushes a row: its pair is written where it fits.
-fn push_row(rows: &mut [usize], tally: Tally, start: Column, end: Column) -> Tally
-    ensures { λ r. ⌜ kept (now (rows .exit)) r ≡ keep (kept (now (rows .entry)) tally) (row (start .0) (end .0)) ⌝ }
+fn push_row(rows: &mut [usize], tally: RowCounts, start: Column, end: Column) -> RowCounts
+    ensures { λ r. ⌜ kept (now (rows .exit)) r ≡ withRow (kept (now (rows .entry)) tally) (row (start .0) (end .0)) ⌝ }
 {
     let n = tally.count;
     if n < rows.len() / 2 {
         rows[2 * n] = start.0;
         rows[2 * n + 1] = end.0;
-        return tally_row(tally, start, end);
+        return count_row(tally, start, end);
     }
-    tally_row(tally, start, end)
+    count_row(tally, start, end)
 }
 
 // Do so many more columns fit within the present row?
@@ -112,9 +112,9 @@ fn advance(state: WrapState, columns: Column) -> WrapState
 }
 
 // Columns that are not broken.
-fn unit(rows: &mut [usize], width: Column, state: WrapState, columns: Column) -> WrapState
+fn unbroken(rows: &mut [usize], width: Column, state: WrapState, columns: Column) -> WrapState
     requires { ⌜ Room state (columns .0) ⌝ }
-    ensures { λ r. ⌜ Stepped (now (rows .entry)) state (unitOf (width .0) (columns .0)) (columns .0) 1 (now (rows .exit)) r ⌝ }
+    ensures { λ r. ⌜ Stepped (now (rows .entry)) state (unbrokenOf (width .0) (columns .0)) (columns .0) 1 (now (rows .exit)) r ⌝ }
 {
     let start = state.start;
     let position = state.position;
@@ -186,7 +186,7 @@ fn by_clusters(text: &[u8], rows: &mut [usize], wrapping: Wrapping, state: WrapS
     while scalar != 0 {
         let step = next_cluster(profile, text, p, scalar);
         let part = step.part;
-        t = unit(rows, width, t, part.width);
+        t = unbroken(rows, width, t, part.width);
         p = part.end;
         scalar = step.next;
     }
@@ -307,15 +307,15 @@ pub(crate) fn split_span(
             wrapping,
             state,
         ),
-        3 | 4 => unit(rows, width, state, Column(4)),
-        5 => unit(rows, width, state, Column(8)),
+        3 | 4 => unbroken(rows, width, state, Column(4)),
+        5 => unbroken(rows, width, state, Column(8)),
         10 => tab(rows, width, state),
         _ => state,
     }
 }
 
 // The last row, unless it is empty and not the only one.
-pub(crate) fn last_row(rows: &mut [usize], wrapping: Wrapping, state: WrapState) -> Tally
+pub(crate) fn last_row(rows: &mut [usize], wrapping: Wrapping, state: WrapState) -> RowCounts
     ensures { λ r. ⌜ LastRow (now (rows .entry)) state (wrapping .mode) (now (rows .exit)) r ⌝ }
 {
     let start = state.start;
@@ -340,7 +340,7 @@ pub fn begin(first: usize, last: usize) -> WrapState
     WrapState {
         start: Column(0),
         position: Column(0),
-        tally: Tally {
+        tally: RowCounts {
             count: 0,
             first: first,
             last: last,
@@ -359,7 +359,7 @@ pub fn make_wrap(
     wrapping: Wrapping,
     state: WrapState,
     count: usize,
-) -> Tally
+) -> RowCounts
     requires { ⌜ SpansRoom (now spans) (now line) (wrapping .len) state count ⌝ }
     ensures { λ r. ⌜ MadeWrap (profileOf (wrapping .profile)) (wrapping .width .0) (wrapping .mode) (take (wrapping .len) (now (line .entry))) (take count (now (spans .entry))) (now (rows .entry)) state (now (rows .exit)) r ⌝ }
 {

@@ -33,7 +33,7 @@ use denote.Ref.{RefT}
 use denote.Slice.{sliceVal, MutSlice, Room}
 use denote.Signature.{plain}
 use denote.Steps.{owned, heard}
-use Rattle.buffer.specs.Sink.{landed}
+use Rattle.buffer.specs.Sink.{writtenOrZero}
 use Rattle.lending.specs.Spelling.{Spelling, a-number, nothing-more, a-struct, an-array}
 use Rattle.lending.specs.Locals.{Held, value, valueAt, takes, setAt, Locals}
 use Rattle.lending.specs.Signatures.{number, shared, lent, last}
@@ -83,11 +83,11 @@ module _ {M : Type 1} (𝓤 : URA M) (H : Heap 𝓤) (𝓜 : Model 𝓤 H) (𝓖
 
     pub written : {s o i : ℕ} (ys : List Span) (l : ℕ) (x : RefT (List ℕ)) {κ : Lft} {p : Share} → Room S.the-row (length ys) → 4 * length ys ≤ length (x .now) → γ write-numbers-def.name ≡ write-numbers-def.routine
         → valueAt E hs s ≡ some (sliceVal (l, 0) (length ys)) → valueAt E hs o ≡ some (sliceVal (x .ptr) (length (x .now))) → T (takes E hs i vunit)
-        → ((os : List ℕ) → os ≡ landed (length (x .now)) (numbersOfAll ys) → Seq K given (Locals E (setAt i (value vunit) hs) ∷ ‵ (cells (mem S.the-row) ys l 0) ∷ ‵ (flft κ p) ∷ ‵ (last usize x os) ∷ Γ) (runs calls Λ E rest q))
+        → ((os : List ℕ) → os ≡ writtenOrZero (length (x .now)) (numbersOfAll ys) → Seq K given (Locals E (setAt i (value vunit) hs) ∷ ‵ (cells (mem S.the-row) ys l 0) ∷ ‵ (flft κ p) ∷ ‵ (last usize x os) ∷ Γ) (runs calls Λ E rest q))
         → Seq K given (Locals E hs ∷ ‵ (cells (mem S.the-row) ys l 0) ∷ ‵ (flft κ p) ∷ ‵ (MutSlice (named 1) κ usize .own x (sliceVal (x .ptr) (length (x .now)) ∷ [])) ∷ Γ)
         (runs calls Λ E (seq (call write-numbers-def.name (copy (place s []) ∷ copy (place o []) ∷ []) (place i [])) rest) q)
     written ys l x {κ} {p} fit wide means e e′ z k = move t (1 ∷ []) $ shares t S.the-row tt ys l (named 0) fit (λ ν δ. move t (0 ∷ 4 ∷ 1 ∷ 5 ∷ 3 ∷ []) $
         asks 𝓤 H 𝓜 𝓖 𝓡 γ 2 (shared 0 tt S.the-row ∷ lent 1 tt usize ∷ []) (plain (λ _. Nothing)) (write-numbers.clauses 𝓤 H (𝓖 .A) (𝓜 .mem) (𝓡 .run)) write-numbers-def.name write-numbers-def.routine means (write-numbers-thm.met 𝓤 H 𝓜 𝓖 𝓡)
         (ν ∷ [], (κ, tt)) (fullShare, (p, tt)) (slice-at S.the-row l δ ys, (x, tt)) t tt (factI 𝓤 (4 * length ys ≤ length (x .now)) (emp 𝓤) wide) (gives t e (gives t e′ (no-more t))) (nothing-more given) (λ r ty. (z, tt)) (λ r is ws.
         -- [the tokens; what is left in the numbers; the locals; what is said; …; the lender's part; …]
-        move t (4 ∷ []) $ heard t (ws .1 .0 ≡ landed (length (x .now)) (numbersOfAll ys)) (λ f. move t (0 ∷ 5 ∷ []) $ shared-back t S.the-row tt ys l $ move t (3 ∷ 0 ∷ 1 ∷ 2 ∷ 4 ∷ []) $ move t (4 ∷ []) $ drop t $ k (ws .1 .0) f)))
+        move t (4 ∷ []) $ heard t (ws .1 .0 ≡ writtenOrZero (length (x .now)) (numbersOfAll ys)) (λ f. move t (0 ∷ 5 ∷ []) $ shared-back t S.the-row tt ys l $ move t (3 ∷ 0 ∷ 1 ∷ 2 ∷ 4 ∷ []) $ move t (4 ∷ []) $ drop t $ k (ws .1 .0) f)))

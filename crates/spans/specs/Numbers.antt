@@ -3,7 +3,7 @@ use mathlib.Core.Path.{_≡_}
 use Prim.Native.Nat.{ℕ, _/_}
 use mathlib.Core.List.{List, [], _∷_, _++_}
 use Rattle.buffer.specs.Numbers.{smallerOf}
-use Rattle.buffer.specs.Sink.{landed}
+use Rattle.buffer.specs.Sink.{writtenOrZero}
 use Rattle.text.specs.declared.Answer.{Answer}
 use Rattle.spans.specs.Spans.{Record}
 use Rattle.spans.specs.Calls.{Read}
@@ -25,4 +25,4 @@ pub record ReadNumbers (c : Read) (n : ℕ) (a : Answer) (conv numbers : List �
   pub number : a .number ≡ c .number
   pub count : a .count ≡ c .count
   pub bytes : conv ≡ c .conv
-  pub records : numbers ≡ landed n (numbersOfAll (c .spans))
+  pub records : numbers ≡ writtenOrZero n (numbersOfAll (c .spans))

@@ -10,7 +10,7 @@ use text::BytePlace;
 ghost use mathlib.Core.Path.{_≡_};
 ghost use Prim.Native.Nat.{_≤_, _*_};
 ghost use lib.ListN.{length, replicate};
-ghost use Rattle.buffer.specs.Sink.{sink, emit, landed};
+ghost use Rattle.buffer.specs.Sink.{sink, emit, writtenOrZero};
 ghost use Rattle.text.specs.Width.{profile01};
 ghost use Rattle.spans.specs.Calls.{noRecord, readCall};
 ghost use Rattle.spans.specs.Numbers.{numbersOf, numbersOfAll, placesIn, ReadNumbers};
@@ -47,7 +47,7 @@ fn push_span(numbers: &mut [usize], at: usize, s: Span) -> usize
 // All records of the list, and zeros after them.
 pub fn write_numbers(spans: &[Span], numbers: &mut [usize])
     requires { ⌜ 4 * length (now spans) ≤ length (now numbers) ⌝ }
-    ensures { λ _. ⌜ now (numbers .exit) ≡ landed (length (now (numbers .entry))) (numbersOfAll (now (spans .entry))) ⌝ }
+    ensures { λ _. ⌜ now (numbers .exit) ≡ writtenOrZero (length (now (numbers .entry))) (numbersOfAll (now (spans .entry))) ⌝ }
 {
     let mut at = 0;
     let mut i = 0;

@@ -34,7 +34,7 @@ flip true b = not b
 flip false b = b
 
 -- at the place i of t: whether an odd number of regional indicators was passed, and whether an odd number ends where the passing began
-pub record Left (P : Profile) (t : List ℕ) (i : ℕ) (odd total : Bool) : Type 0 where
+pub record OddLoop (P : Profile) (t : List ℕ) (i : ℕ) (odd total : Bool) : Type 0 where
   pub rest : List Scalar
   pub es : List Scalar
   pub parts : runOf (decode t) ≡ reverseAux rest es
@@ -99,7 +99,7 @@ module _ (P : Profile) where
   pub code-of : (t : List ℕ) (j : ℕ) (d : Scalar) (rest es : List Scalar) → runOf (decode t) ≡ reverseAux rest (d ∷ es) → j ≡ size rest → firstSequence (decode (drop j t)) .code ≡ d .code
   code-of t j d rest es e p = ap (λ (i : ℕ). firstSequence (decode (drop i t)) .code) p ∙ run-head (drop (size rest) t) d es (run-drop rest (d ∷ es) t e) .coded
 
-  pub odd-begin : (t : List ℕ) (q : ℕ) → ScalarStart t q → Left P t q false (oddTo P t q)
+  pub odd-begin : (t : List ℕ) (q : ℕ) → ScalarStart t q → OddLoop P t q false (oddTo P t q)
   unfolding flip
   odd-begin t q a = record { rest = a .rest; es = a .c ∷ a .es; parts = a .parts; place = a .place; parity = ap (λ (x : List Scalar). context P x .odd) (front-is t q (a .rest) (a .c ∷ a .es) (a .parts) (a .place)) }
 
@@ -112,7 +112,7 @@ module _ (P : Profile) where
   odd-other d rest e = rw (ne-eqb (number (P .class (d .code))) 10 e) refl
 
   module _ (t : List ℕ) (i : ℕ) (odd total : Bool) (j k : ℕ) (pos : 0 < i) (e : j ≡ back t i) (f : k ≡ packedAt P t j / 8 % 16) where
-    on-by : (rest es : List Scalar) → runOf (decode t) ≡ reverseAux rest es → size rest ≡ i → total ≡ flip odd (context P rest .odd) → k ≡ 10 → Left P t j (not odd) total
+    on-by : (rest es : List Scalar) → runOf (decode t) ≡ reverseAux rest es → size rest ≡ i → total ≡ flip odd (context P rest .odd) → k ≡ 10 → OddLoop P t j (not odd) total
     unfolding size
     on-by [] es p q w z = absurd (omega arith)
     on-by (d ∷ rest) es p q w z =
@@ -120,7 +120,7 @@ module _ (P : Profile) where
         let r : number (P .class (d .code)) ≡ 10 = sym (class-of t j k d rest es p b f) ∙ z in
         record { rest = rest; es = d ∷ es; parts = p; place = sym b; parity = w ∙ ap (flip odd) (odd-ri d rest r) ∙ flip-not odd (context P rest .odd) }
 
-    pub odd-on : k ≡ 10 → Left P t i odd total → Left P t j (not odd) total
+    pub odd-on : k ≡ 10 → OddLoop P t i odd total → OddLoop P t j (not odd) total
     odd-on z l = on-by (l .rest) (l .es) (l .parts) (l .place) (l .parity) z
 
   -- ---- a boundary

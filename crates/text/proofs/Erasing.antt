@@ -10,7 +10,7 @@ use lib.Dec.{eqb, leb, ltb}
 use lib.ListN.{drop, getD, length, length-set, set, take}
 use lib.Seq.{length-take-le, take-all, take-length, take-suc-set, take-take}
 use borrow.Author.Tests.{eq-eqb, eqb-true, le-ltb, lt-ltb, ltb-false, ne-eqb}
-use Rattle.text.specs.Backward.{Erased, ParityPlace, Kept, back, backward, betweenIndicators, endsInPair, parityAfter, parityBefore, indicatorAt, withoutLast}
+use Rattle.text.specs.Backward.{Erased, ParityPlace, ErasedTo, back, backward, betweenIndicators, endsInPair, parityAfter, parityBefore, indicatorAt, withoutLast}
 use Rattle.text.specs.Class.{Profile, isControl, number}
 use Rattle.text.specs.Cluster.{Context, context, joins}
 use Rattle.text.specs.Code.{firstSequence, profileOf, sequenceOf, size, whole}
@@ -73,7 +73,7 @@ module _ (P : Profile) (t : List ℕ) (w : whole t) (some : length t ≢ 0) (q :
     says : r ≡ isControl (at .c .code)
     says = test ∙ ap isControl coded
 
-    pub kept-control : r ≡ true → Kept P t (length t)
+    pub kept-control : r ≡ true → ErasedTo P t (length t)
     unfolding backward backspace
     kept-control z = record {
       inside = omega arith;
@@ -81,7 +81,7 @@ module _ (P : Profile) (t : List ℕ) (w : whole t) (some : length t ≢ 0) (q :
       added = λ h. sym (rw (sym says ∙ z) at (at .erased));
     }
 
-    pub kept-place : r ≡ false → Kept P t q
+    pub kept-place : r ≡ false → ErasedTo P t q
     unfolding backward backspace
     kept-place z =
         let rest = withoutLast P (reverse (runOf (decode t))) in
@@ -220,7 +220,7 @@ pair-erased v t i a r n w some e ea en nn f z =
     let x : runOf (decode (take (length t - 8) t)) ≡ reverse (k .left) = pair-front v t (n .rest) (length t - 8) rev k in
     record { kept = c; place = rw (ne-eqb (length t - 8) (length t) (λ y. omega (arith, p .long, y)), ← ea, sym en ∙ nn, sym f ∙ z) refl; parity = record { rest = k .left; es = []; parts = x; place = k .place; parity = λ u. ap (λ (y : Context). y .odd) (same-context u v (k .left)) ∙ k .before } }
 
-pub kept-empty : (P : Profile) (t : List ℕ) → length t ≡ 0 → Kept P t 0
+pub kept-empty : (P : Profile) (t : List ℕ) → length t ≡ 0 → ErasedTo P t 0
 unfolding backward backspace eraseFrom runOf decode decodeFrom
 kept-empty P [] h = record { inside = omega arith; erased = λ h. absurd (omega arith); added = λ h. refl }
 kept-empty P (b ∷ t) h = absurd (omega arith)

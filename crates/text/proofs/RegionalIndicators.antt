@@ -20,7 +20,7 @@ use Rattle.text.specs.Scalar.Laws.{NoScalar, PackedScalar, packed-inside
 use Rattle.text.specs.Tests.{cases, in-range, every, every-one}
 use Rattle.text.specs.TextParts.{textAt}
 use Rattle.text.specs.Utf8.{Scalar, bytesOf, decode, runOf, sequence, to, within}
-use Rattle.text.proofs.BackwardWalk.{Left, class-of, flip, flip-false, front-is, headOf, joined-indicators, odd-on, odd-other, odd-ri}
+use Rattle.text.proofs.BackwardWalk.{OddLoop, class-of, flip, flip-false, front-is, headOf, joined-indicators, odd-on, odd-other, odd-ri}
 use Rattle.text.proofs.LeadBytes.{high-len}
 use Rattle.text.proofs.PackedScalars.{indicator}
 use Rattle.text.proofs.Runs.{Head, back-scalar, run-drop, run-head, run-inside, size-reverse}
@@ -127,7 +127,7 @@ module _ (v : code.Profile) (t : List ℕ) (d : Scalar) (rest es : List Scalar) 
 
 -- ---- an odd number that ends at a place
 
-module _ (v : code.Profile) (t : List ℕ) (i : ℕ) (odd total : Bool) (l : Left (profileOf v) t i odd total) where
+module _ (v : code.Profile) (t : List ℕ) (i : ℕ) (odd total : Bool) (l : OddLoop (profileOf v) t i odd total) where
   -- the scalar before is none
   odd-last : ((d : Scalar) (rest : List Scalar) → runOf (decode t) ≡ reverseAux (d ∷ rest) (l .es) → size (d ∷ rest) ≡ i → number (profileOf v .class (d .code)) ≢ 10) → odd ≡ total
   odd-last f = go (l .rest) (l .parts) (l .place) (l .parity)
@@ -147,7 +147,7 @@ module _ (v : code.Profile) (t : List ℕ) (i : ℕ) (odd total : Bool) (l : Lef
         let n : size rest ≡ i - 4 = omega (arith, s, indicator-size v t d rest (l .es) p k) in
         true≢false (sym (rw n at (indicator-there v t d rest (l .es) p k)) ∙ sym f ∙ z))
 
-    pub odd-turns : r ≡ true → Left (profileOf v) t (i - 4) (not odd) total
+    pub odd-turns : r ≡ true → OddLoop (profileOf v) t (i - 4) (not odd) total
     odd-turns z =
         let e : indicatorAt (profileOf v) t (i - 4) ≡ true = sym f ∙ z in
         odd-on (profileOf v) t i odd total (i - 4) 10 (omega (arith, h)) (sym (indicator-back (profileOf v) t (i - 4) e i h refl)) (ap (λ (n : ℕ). n / 8 % 16) (reads (profileOf v) t (i - 4) e)) refl l
@@ -191,7 +191,7 @@ parity-front t q i h w =
 
 -- ---- counting up to an parity place
 
-pub odd-even : (v : code.Profile) (t : List ℕ) (i : ℕ) (odd total : Bool) (parity : ℕ) → ParityPlace t parity → i ≡ parity → Left (profileOf v) t i odd total → odd ≡ total
+pub odd-even : (v : code.Profile) (t : List ℕ) (i : ℕ) (odd total : Bool) (parity : ℕ) → ParityPlace t parity → i ≡ parity → OddLoop (profileOf v) t i odd total → odd ≡ total
 odd-even v t i odd total parity e z l =
     let same : l .rest ≡ e .rest = sym (front-is t parity (l .rest) (l .es) (l .parts) (l .place ∙ z)) ∙ front-is t parity (e .rest) (e .es) (e .parts) (e .place) in
     let o : context (profileOf v) (l .rest) .odd ≡ false = ap (λ (x : List Scalar). context (profileOf v) x .odd) same ∙ e .parity v in

@@ -87,13 +87,13 @@ module _ (P : Profile) where
 -- ---- erasing
 
 -- the place r that a backspace goes back to in t; the end of t where a backspace is added instead
-pub record Kept (P : Profile) (t : List ℕ) (r : ℕ) : Type 0 where
+pub record ErasedTo (P : Profile) (t : List ℕ) (r : ℕ) : Type 0 where
   pub inside : r ≤ length t
   pub erased : r < length t → (backward (take r t) ≡ backspace P (backward t)) × whole (take r t)
   pub added : length t ≤ r → ascii 0x08 ∷ backward t ≡ backspace P (backward t)
 
 -- r is the place that a backspace goes back to in t, with the parity place before it
 pub record Erased (P : Profile) (t : List ℕ) (i : ℕ) (r : Erasure) : Type 0 where
-  pub kept : Kept P t (r .at)
+  pub kept : ErasedTo P t (r .at)
   pub place : r .parity ≡ parityAfter P t i (r .at)
   pub parity : ParityPlace (take (r .at) t) (r .parity)

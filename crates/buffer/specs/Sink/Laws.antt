@@ -9,7 +9,7 @@ use native.Mathlib.Omega.{arith}
 use lib.ListN.{length, set, take, drop, getD, replicate, drop-of-length-le, length-set, length-replicate, getD-replicate}
 use lib.Seq.{take-at, set-out, drop-cons, sets, sets-eq, paste, paste-zero, paste-suc, take-all, take-length}
 use borrow.Author.Tests.{lt-ltb, le-ltb}
-use Rattle.buffer.specs.Sink.{Sink, sink, bump, put, emit, written, cleared, Copied}
+use Rattle.buffer.specs.Sink.{Sink, sink, saturated, put, emit, written, cleared, Copied}
 
 abbrev countOf : Sink → ℕ
 countOf (sink l r) = r
@@ -25,11 +25,11 @@ le-or-lt (suc a) (suc b) = ⊎-elim (λ (p : a ≤ b). inl (omega arith)) (λ (q
 -- ---- one more
 
 pub put-in : (l : List ℕ) (at b : ℕ) → at < length l → sink (set l at b) (at + 1) ≡ put (sink l at) b
-unfolding put bump
+unfolding put saturated
 put-in l at b h = rw (lt-ltb at (length l) h)
 
 pub put-past : (l : List ℕ) (at b : ℕ) → length l ≤ at → sink l (length l + 1) ≡ put (sink l at) b
-unfolding put bump
+unfolding put saturated
 put-past l at b h = rw (le-ltb at (length l) h, set-out l at b h)
 
 -- ---- writers one after the other

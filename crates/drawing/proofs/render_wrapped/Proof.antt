@@ -29,8 +29,8 @@ use Rattle.lending.specs.Functions.{W, asks, answers, walks}
 use Rattle.lending.specs.LocalArrays.{lends-none}
 use Rattle.spans.proofs.Span as T
 use Rattle.rows.specs.Wrap.{SpansRoom}
-use Rattle.rows.proofs.wrap.Tally as Y
-use Rattle.rows.proofs.wrap.Tally.Laws as Y′
+use Rattle.rows.proofs.wrap.RowCounts as Y
+use Rattle.rows.proofs.wrap.RowCounts.Laws as Y′
 use Rattle.rows.proofs.wrap.WrapState as S
 use Rattle.rows.proofs.wrap.WrapState.Laws as S′
 use Rattle.rows.proofs.wrap.Wrapping as G

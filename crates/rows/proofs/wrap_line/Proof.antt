@@ -36,8 +36,8 @@ use Rattle.rows.proofs.Request as Q
 use Rattle.rows.proofs.Request.Laws as Q′
 use Rattle.rows.proofs.Outcome as O
 use Rattle.rows.proofs.Outcome.Laws as O′
-use Rattle.rows.proofs.wrap.Tally as Y
-use Rattle.rows.proofs.wrap.Tally.Laws as Y′
+use Rattle.rows.proofs.wrap.RowCounts as Y
+use Rattle.rows.proofs.wrap.RowCounts.Laws as Y′
 use Rattle.rows.proofs.wrap.WrapState as S
 use Rattle.rows.proofs.wrap.WrapState.Laws as S′
 use Rattle.rows.proofs.wrap.Wrapping as G

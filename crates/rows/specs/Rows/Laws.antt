@@ -9,7 +9,7 @@ use Rattle.text.specs.Class.{Profile}
 use Rattle.text.specs.Width.{widthOf}
 use Rattle.text.specs.Cluster.{clusters}
 use Rattle.rows.specs.Words.{Word, words}
-use Rattle.rows.specs.Rows.{Row, Wrap, wrap, fitsRow, unit, tabbed, pushed, byClusters, wordEnd, longWord, oneWord, byWords, splitText}
+use Rattle.rows.specs.Rows.{Row, Wrap, wrap, fitsRow, unbroken, tabbed, pushed, byClusters, wordEnd, longWord, oneWord, byWords, splitText}
 
 -- rows pushed before
 unfoldable pub over : List Row → Wrap → Wrap
@@ -23,9 +23,9 @@ cond-over : (rs : List Row) (b : Bool) (x y : Wrap) → cond b (over rs x) (over
 cond-over rs true x y = refl
 cond-over rs false x y = refl
 
-pub unit-over : (width n : ℕ) → Natural (λ (t : Wrap). unit width t n)
-unfolding unit over
-unit-over width n rs t = cond-over rs (fitsRow width t (t .position + n)) _ _
+pub unbroken-over : (width n : ℕ) → Natural (λ (t : Wrap). unbroken width t n)
+unfolding unbroken over
+unbroken-over width n rs t = cond-over rs (fitsRow width t (t .position + n)) _ _
 
 pub tabbed-over : (width : ℕ) → Natural (tabbed width)
 unfolding tabbed over
@@ -39,7 +39,7 @@ module _ (P : Profile) (width : ℕ) where
   pub byClusters-over : (gs : List (List Scalar)) → Natural (λ (t : Wrap). byClusters P width t gs)
   unfolding byClusters
   byClusters-over [] rs t = refl
-  byClusters-over (g ∷ gs) rs t = ap (λ (x : Wrap). byClusters P width x gs) (unit-over width (widthOf P g) rs t) ∙ byClusters-over gs rs (unit width t (widthOf P g))
+  byClusters-over (g ∷ gs) rs t = ap (λ (x : Wrap). byClusters P width x gs) (unbroken-over width (widthOf P g) rs t) ∙ byClusters-over gs rs (unbroken width t (widthOf P g))
 
   pub longWord-over : (v : Word) → Natural (λ (t : Wrap). longWord P width t v)
   unfolding longWord over

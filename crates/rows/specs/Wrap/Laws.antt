@@ -19,8 +19,8 @@ use Rattle.spans.specs.Spans.{Content, text, control, invalid, unprintable, esc
 use Rattle.spans.specs.Spans.ContentLaw.{textIn, contentIn, contentOf}
 use Rattle.rows.specs.Rows.{Row, row, Wrap, wrap, split, splits, splitText, lastRow, wrapped, rows}
 use Rattle.rows.specs.Calls.{modeOf, numbersOf}
-use Rattle.rows.specs.Wrap.{nextCount, tallied, pairAt, Kept, kept, keep, keeps, held, on, recordIn, spanOf, spansOf, lastKept, beginning}
-use Rattle.rows.specs.declared.wrap.Tally.{Tally}
+use Rattle.rows.specs.Wrap.{nextCount, countedRow, pairAt, RowList, kept, withRow, withRows, held, on, recordIn, spanOf, spansOf, lastRowList, beginning}
+use Rattle.rows.specs.declared.wrap.RowCounts.{RowCounts}
 
 -- ---- what a record does is what its span does
 
@@ -60,50 +60,50 @@ module _ (P : Profile) (width mode : ℕ) (line : List ℕ) where
 
 -- ---- counts
 
-count-some : (k : Kept) (r : Row) → (keep k r .tally .count ≢ 0)
-unfolding keep tallied nextCount
+count-some : (k : RowList) (r : Row) → (withRow k r .tally .count ≢ 0)
+unfolding withRow countedRow nextCount
 count-some k r e =
     cases (ltb (k .tally .count) 0xFFFF_FFFF_FFFF_FFFF)
     (λ h. let z = rw h at e in omega arith)
     (λ h. let z = rw h at e in let b = ltb-false (k .tally .count) 0xFFFF_FFFF_FFFF_FFFF h in omega arith)
 
 -- a count that has not reached the largest usize is the number of the rows
-pub keeps-count : (k : Kept) → k .tally .count ≡ 0 → (rs : List Row) → keeps k rs .tally .count < 0xFFFF_FFFF_FFFF_FFFF → keeps k rs .tally .count ≡ length rs
-unfolding keeps keep tallied nextCount
+pub keeps-count : (k : RowList) → k .tally .count ≡ 0 → (rs : List Row) → withRows k rs .tally .count < 0xFFFF_FFFF_FFFF_FFFF → withRows k rs .tally .count ≡ length rs
+unfolding withRows withRow countedRow nextCount
 keeps-count k z [] h = z
 keeps-count k z (r ∷ rs) h =
-    cases (ltb (keeps k rs .tally .count) 0xFFFF_FFFF_FFFF_FFFF)
+    cases (ltb (withRows k rs .tally .count) 0xFFFF_FFFF_FFFF_FFFF)
     (λ e. rw e (ap (λ (n : ℕ). n + 1) (keeps-count k z rs (ltb-true _ _ e)) ∙ add-one (length rs)))
-    (λ e. let b = ltb-false (keeps k rs .tally .count) 0xFFFF_FFFF_FFFF_FFFF e in let c = rw e at h in absurd (omega arith))
+    (λ e. let b = ltb-false (withRows k rs .tally .count) 0xFFFF_FFFF_FFFF_FFFF e in let c = rw e at h in absurd (omega arith))
 
 -- ---- the rows of a line
 
-last-kept : (k : Kept) → k .tally .count ≡ 0 → (mode : ℕ) → (mode ≢ 0) → (s p : ℕ) (rs : List Row)
-    → lastKept mode (record { kept = keeps k rs; start = s; position = p }) ≡ keeps k (lastRow s p rs)
-unfolding lastKept lastRow keeps
+last-kept : (k : RowList) → k .tally .count ≡ 0 → (mode : ℕ) → (mode ≢ 0) → (s p : ℕ) (rs : List Row)
+    → lastRowList mode (record { kept = withRows k rs; start = s; position = p }) ≡ withRows k (lastRow s p rs)
+unfolding lastRowList lastRow withRows
 last-kept k z mode h s p [] = cases (ltb s p) (λ e. rw (ne-eqb mode 0 h, e)) (λ e. rw (ne-eqb mode 0 h, e, eq-eqb (k .tally .count) 0 z))
 last-kept k z mode h s p (r ∷ rs) =
-    cases (ltb s p) (λ e. rw (ne-eqb mode 0 h, e)) (λ e. rw (ne-eqb mode 0 h, e, ne-eqb (keep (keeps k rs) r .tally .count) 0 (count-some (keeps k rs) r)))
+    cases (ltb s p) (λ e. rw (ne-eqb mode 0 h, e)) (λ e. rw (ne-eqb mode 0 h, e, ne-eqb (withRow (withRows k rs) r .tally .count) 0 (count-some (withRows k rs) r)))
 
-abbrev none-yet : List ℕ → ℕ → ℕ → Kept
+abbrev none-yet : List ℕ → ℕ → ℕ → RowList
 none-yet l first last = kept l (beginning first last .tally)
 
 module _ (P : Profile) (width : ℕ) (line l : List ℕ) (first last : ℕ) (ss : List Span) where
   wrapped-kept : (mode : ℕ) → (mode ≢ 0) → Held-in P width mode line ss
-      → lastKept mode (on (spansOf P width mode line (records ss)) (held l (beginning first last))) ≡ keeps (none-yet l first last) (reverse (wrapped P width (eqb mode 2) ss))
+      → lastRowList mode (on (spansOf P width mode line (records ss)) (held l (beginning first last))) ≡ withRows (none-yet l first last) (reverse (wrapped P width (eqb mode 2) ss))
   unfolding on wrapped
   wrapped-kept mode z a =
       let t : Wrap = splits P width (eqb mode 2) (wrap [] 0 0) ss in
-      ap (λ (x : Wrap). lastKept mode (record { kept = keeps (none-yet l first last) (x .rows); start = x .start; position = x .position })) (records-split P width mode line z a (wrap [] 0 0))
+      ap (λ (x : Wrap). lastRowList mode (record { kept = withRows (none-yet l first last) (x .rows); start = x .start; position = x .position })) (records-split P width mode line z a (wrap [] 0 0))
       ∙ last-kept (none-yet l first last) refl mode z (t .start) (t .position) (t .rows)
-      ∙ ap (keeps (none-yet l first last)) (sym (reverse-reverse (lastRow (t .start) (t .position) (t .rows))))
+      ∙ ap (withRows (none-yet l first last)) (sym (reverse-reverse (lastRow (t .start) (t .position) (t .rows))))
 
   -- what is kept of the spans of a line is kept of its rows
   pub rows-kept : (mode : ℕ) → mode ≤ 2 → Held-in P width mode line ss
-      → lastKept mode (on (spansOf P width mode line (records ss)) (held l (beginning first last))) ≡ keeps (none-yet l first last) (reverse (rows P width (modeOf mode) ss))
-  unfolding rows modeOf on lastKept keeps
+      → lastRowList mode (on (spansOf P width mode line (records ss)) (held l (beginning first last))) ≡ withRows (none-yet l first last) (reverse (rows P width (modeOf mode) ss))
+  unfolding rows modeOf on lastRowList withRows
   rows-kept zero h a =
-      ap (λ (x : Wrap). lastKept 0 (record { kept = keeps (none-yet l first last) (x .rows); start = x .start; position = x .position })) (records-unwrapped P width 0 line refl (records ss) (wrap [] 0 0))
+      ap (λ (x : Wrap). lastRowList 0 (record { kept = withRows (none-yet l first last) (x .rows); start = x .start; position = x .position })) (records-unwrapped P width 0 line refl (records ss) (wrap [] 0 0))
   rows-kept (suc zero) h a = wrapped-kept 1 (λ e. omega arith) a
   rows-kept (suc (suc zero)) h a = wrapped-kept 2 (λ e. omega arith) a
   rows-kept (suc (suc (suc n))) h a = absurd (omega arith)
@@ -131,117 +131,117 @@ two-set a z n u v x y e =
 two-more : (l : List ℕ) (i : ℕ) → 2 + i ≤ length l → drop i l ≡ getD l i 0 ∷ getD l (suc i) 0 ∷ drop (suc (suc i)) l
 two-more l i h = drop-cons l i 0 (omega arith) ∙ ap (λ (x : List ℕ). getD l i 0 ∷ x) (drop-cons l (suc i) 0 (omega arith))
 
-module _ (l : List ℕ) (t : Tally) (z : t .count ≡ 0) where
-  abbrev nothing-yet : Kept
+module _ (l : List ℕ) (t : RowCounts) (z : t .count ≡ 0) where
+  abbrev nothing-yet : RowList
   nothing-yet = kept l t
 
-  fewer : (r : Row) (rs : List Row) → keeps nothing-yet (r ∷ rs) .tally .count < 0xFFFF_FFFF_FFFF_FFFF → keeps nothing-yet rs .tally .count < 0xFFFF_FFFF_FFFF_FFFF
-  unfolding keeps keep tallied nextCount
-  fewer r rs h = cases (ltb (keeps nothing-yet rs .tally .count) 0xFFFF_FFFF_FFFF_FFFF) (λ e. ltb-true _ _ e) (λ e. rw e at h)
+  fewer : (r : Row) (rs : List Row) → withRows nothing-yet (r ∷ rs) .tally .count < 0xFFFF_FFFF_FFFF_FFFF → withRows nothing-yet rs .tally .count < 0xFFFF_FFFF_FFFF_FFFF
+  unfolding withRows withRow countedRow nextCount
+  fewer r rs h = cases (ltb (withRows nothing-yet rs .tally .count) 0xFFFF_FFFF_FFFF_FFFF) (λ e. ltb-true _ _ e) (λ e. rw e at h)
 
-  pairs : (r : Row) (rs : List Row) (u v : ℕ) (y : List ℕ) → keeps nothing-yet rs .tally .count ≡ length rs → keeps nothing-yet rs .numbers ≡ numbersOf (reverse rs) ++ u ∷ v ∷ y
-      → length (keeps nothing-yet rs .numbers) ≡ length l → length rs < length l / 2 → length (numbersOf (reverse rs)) ≡ 2 * length rs
-      → keeps nothing-yet (r ∷ rs) .numbers ≡ (numbersOf (reverse rs) ++ r .start ∷ r .end ∷ []) ++ y
-  unfolding keeps keep pairAt
+  pairs : (r : Row) (rs : List Row) (u v : ℕ) (y : List ℕ) → withRows nothing-yet rs .tally .count ≡ length rs → withRows nothing-yet rs .numbers ≡ numbersOf (reverse rs) ++ u ∷ v ∷ y
+      → length (withRows nothing-yet rs .numbers) ≡ length l → length rs < length l / 2 → length (numbersOf (reverse rs)) ≡ 2 * length rs
+      → withRows nothing-yet (r ∷ rs) .numbers ≡ (numbersOf (reverse rs) ++ r .start ∷ r .end ∷ []) ++ y
+  unfolding withRows withRow pairAt
   pairs r rs u v y k f g lt a =
       rw (k, g, lt-ltb (length rs) (length l / 2) lt, f) (two-set (numbersOf (reverse rs)) y (2 * length rs) u v (r .start) (r .end) a ∙ sym (append-assoc (numbersOf (reverse rs)) (r .start ∷ r .end ∷ []) y))
 
   -- the pairs of the rows, in their order, and what stood behind them
-  pub keeps-numbers : (rs : List Row) → 2 * length rs ≤ length l → keeps nothing-yet rs .tally .count < 0xFFFF_FFFF_FFFF_FFFF
-      → keeps nothing-yet rs .numbers ≡ numbersOf (reverse rs) ++ drop (2 * length rs) l
-  unfolding keeps keep pairAt numbersOf
+  pub keeps-numbers : (rs : List Row) → 2 * length rs ≤ length l → withRows nothing-yet rs .tally .count < 0xFFFF_FFFF_FFFF_FFFF
+      → withRows nothing-yet rs .numbers ≡ numbersOf (reverse rs) ++ drop (2 * length rs) l
+  unfolding withRows withRow pairAt numbersOf
   keeps-numbers [] h c = refl
   keeps-numbers (r ∷ rs) h c =
       let d = fewer r rs c in
       let i : ℕ = 2 * length rs in
-      let k : keeps nothing-yet rs .tally .count ≡ length rs = keeps-count nothing-yet z rs d in
-      let m : keeps nothing-yet rs .numbers ≡ numbersOf (reverse rs) ++ drop i l = keeps-numbers rs (omega arith) d in
+      let k : withRows nothing-yet rs .tally .count ≡ length rs = keeps-count nothing-yet z rs d in
+      let m : withRows nothing-yet rs .numbers ≡ numbersOf (reverse rs) ++ drop i l = keeps-numbers rs (omega arith) d in
       let a : length (numbersOf (reverse rs)) ≡ i = numbersOf-length (reverse rs) ∙ ap (λ (n : ℕ). 2 * n) (length-reverse rs) in
       let e : drop i l ≡ getD l i 0 ∷ getD l (suc i) 0 ∷ drop (2 * suc (length rs)) l =
       two-more l i (omega arith) ∙ ap (λ (n : ℕ). getD l i 0 ∷ getD l (suc i) 0 ∷ drop n l) (let q : suc (suc i) ≡ 2 * suc (length rs) = omega arith in q) in
-      let f : keeps nothing-yet rs .numbers ≡ numbersOf (reverse rs) ++ getD l i 0 ∷ getD l (suc i) 0 ∷ drop (2 * suc (length rs)) l = m ∙ ap (λ (x : List ℕ). numbersOf (reverse rs) ++ x) e in
-      let g : length (keeps nothing-yet rs .numbers) ≡ length l = ap length m ∙ (rw (length-append, a, length-drop i l) (omega arith)) in
+      let f : withRows nothing-yet rs .numbers ≡ numbersOf (reverse rs) ++ getD l i 0 ∷ getD l (suc i) 0 ∷ drop (2 * suc (length rs)) l = m ∙ ap (λ (x : List ℕ). numbersOf (reverse rs) ++ x) e in
+      let g : length (withRows nothing-yet rs .numbers) ≡ length l = ap length m ∙ (rw (length-append, a, length-drop i l) (omega arith)) in
       let lt : length rs < length l / 2 = omega arith in
       pairs r rs (getD l i 0) (getD l (suc i) 0) (drop (2 * suc (length rs)) l) k f g lt a ∙ ap (λ (x : List ℕ). x ++ drop (2 * suc (length rs)) l) (sym (ap numbersOf (reverse-cons r rs) ∙ numbersOf-append (reverse rs) (r ∷ [])))
 
 -- ---- rows in their order
 
 -- more rows, the first one first
-unfoldable pub keepAll : Kept → List Row → Kept
-unfolding keep
-keepAll k [] = k
-keepAll k (r ∷ rs) = keepAll (keep k r) rs
+unfoldable pub withAllRows : RowList → List Row → RowList
+unfolding withRow
+withAllRows k [] = k
+withAllRows k (r ∷ rs) = withAllRows (withRow k r) rs
 
-keeps-last : (k : Kept) (rs : List Row) (r : Row) → keeps k (rs ++ r ∷ []) ≡ keeps (keep k r) rs
-unfolding keeps
+keeps-last : (k : RowList) (rs : List Row) (r : Row) → withRows k (rs ++ r ∷ []) ≡ withRows (withRow k r) rs
+unfolding withRows
 keeps-last k [] r = refl
-keeps-last k (x ∷ rs) r = ap (λ (y : Kept). keep y x) (keeps-last k rs r)
+keeps-last k (x ∷ rs) r = ap (λ (y : RowList). withRow y x) (keeps-last k rs r)
 
 -- what is kept of the rows pushed, the last one first, is kept of them in their order
-pub keeps-all : (k : Kept) (rs : List Row) → keeps k (reverse rs) ≡ keepAll k rs
-unfolding keeps keepAll
+pub keeps-all : (k : RowList) (rs : List Row) → withRows k (reverse rs) ≡ withAllRows k rs
+unfolding withRows withAllRows
 keeps-all k [] = refl
-keeps-all k (r ∷ rs) = ap (keeps k) (reverse-cons r rs) ∙ keeps-last k (reverse rs) r ∙ keeps-all (keep k r) rs
+keeps-all k (r ∷ rs) = ap (withRows k) (reverse-cons r rs) ∙ keeps-last k (reverse rs) r ∙ keeps-all (withRow k r) rs
 
-keep-counts : (k : Kept) (r : Row) → k .tally .count ≤ keep k r .tally .count
-unfolding keep tallied nextCount
+keep-counts : (k : RowList) (r : Row) → k .tally .count ≤ withRow k r .tally .count
+unfolding withRow countedRow nextCount
 keep-counts k r = cases (ltb (k .tally .count) 0xFFFF_FFFF_FFFF_FFFF) (λ e. rw e (omega arith)) (λ e. rw e (omega arith))
 
-keep-counted : (k : Kept) (r : Row) → k .tally .count < 0xFFFF_FFFF_FFFF_FFFF → keep k r .tally .count ≡ k .tally .count + 1
-unfolding keep tallied nextCount
+keep-counted : (k : RowList) (r : Row) → k .tally .count < 0xFFFF_FFFF_FFFF_FFFF → withRow k r .tally .count ≡ k .tally .count + 1
+unfolding withRow countedRow nextCount
 keep-counted k r h = rw (lt-ltb (k .tally .count) 0xFFFF_FFFF_FFFF_FFFF h)
 
-keepAll-counts : (rs : List Row) (k : Kept) → k .tally .count ≤ keepAll k rs .tally .count
-unfolding keepAll
+keepAll-counts : (rs : List Row) (k : RowList) → k .tally .count ≤ withAllRows k rs .tally .count
+unfolding withAllRows
 keepAll-counts [] k = omega arith
-keepAll-counts (r ∷ rs) k = omega (arith, keep-counts k r, keepAll-counts rs (keep k r))
+keepAll-counts (r ∷ rs) k = omega (arith, keep-counts k r, keepAll-counts rs (withRow k r))
 
 -- A bound that the tally keeps: the value of the row at an index, or a fallback where there is none. `g` is what a definition says of the rows.
-module _ (value index fallback : Kept → ℕ) (of : Row → ℕ) (g : ℕ → ℕ → List Row → ℕ)
-    (same-index : (k : Kept) (r : Row) → index (keep k r) ≡ index k)
-    (next-value : (k : Kept) (r : Row) → value (keep k r) ≡ cond (eqb (k .tally .count) (index k)) (of r) (value k))
-    (g-none : (k : Kept) (i : ℕ) → g (fallback k) i [] ≡ fallback k)
-    (g-here : (k : Kept) (r : Row) (rs : List Row) → g (fallback k) 0 (r ∷ rs) ≡ of r)
-    (g-on : (k : Kept) (i : ℕ) (r : Row) (rs : List Row) → g (fallback k) (suc i) (r ∷ rs) ≡ g (fallback (keep k r)) i rs) where
-  value-stays : (rs : List Row) (k : Kept) → index k < k .tally .count → value (keepAll k rs) ≡ value k
-  unfolding keepAll
+module _ (value index fallback : RowList → ℕ) (of : Row → ℕ) (g : ℕ → ℕ → List Row → ℕ)
+    (same-index : (k : RowList) (r : Row) → index (withRow k r) ≡ index k)
+    (next-value : (k : RowList) (r : Row) → value (withRow k r) ≡ cond (eqb (k .tally .count) (index k)) (of r) (value k))
+    (g-none : (k : RowList) (i : ℕ) → g (fallback k) i [] ≡ fallback k)
+    (g-here : (k : RowList) (r : Row) (rs : List Row) → g (fallback k) 0 (r ∷ rs) ≡ of r)
+    (g-on : (k : RowList) (i : ℕ) (r : Row) (rs : List Row) → g (fallback k) (suc i) (r ∷ rs) ≡ g (fallback (withRow k r)) i rs) where
+  value-stays : (rs : List Row) (k : RowList) → index k < k .tally .count → value (withAllRows k rs) ≡ value k
+  unfolding withAllRows
   value-stays [] k h = refl
   value-stays (r ∷ rs) k h =
-      value-stays rs (keep k r) (omega (arith, same-index k r, keep-counts k r))
+      value-stays rs (withRow k r) (omega (arith, same-index k r, keep-counts k r))
       ∙ next-value k r ∙ rw (ne-eqb (k .tally .count) (index k) (λ e. omega arith))
 
-  pub value-kept : (rs : List Row) (k : Kept) (i : ℕ) → i + k .tally .count ≡ index k → keepAll k rs .tally .count < 0xFFFF_FFFF_FFFF_FFFF
-      → cond (ltb (index k) (keepAll k rs .tally .count)) (value (keepAll k rs)) (fallback (keepAll k rs)) ≡ g (fallback k) i rs
-  unfolding keepAll
+  pub value-kept : (rs : List Row) (k : RowList) (i : ℕ) → i + k .tally .count ≡ index k → withAllRows k rs .tally .count < 0xFFFF_FFFF_FFFF_FFFF
+      → cond (ltb (index k) (withAllRows k rs .tally .count)) (value (withAllRows k rs)) (fallback (withAllRows k rs)) ≡ g (fallback k) i rs
+  unfolding withAllRows
   value-kept [] k i e h = rw (le-ltb (index k) (k .tally .count) (omega arith)) (sym (g-none k i))
   value-kept (r ∷ rs) k zero e h =
-      let c : keep k r .tally .count ≡ k .tally .count + 1 = keep-counted k r (omega (arith, keep-counts k r, keepAll-counts rs (keep k r))) in
-      let v : value (keepAll (keep k r) rs) ≡ of r = value-stays rs (keep k r) (omega (arith, same-index k r)) ∙ next-value k r ∙ rw (eq-eqb (k .tally .count) (index k) (omega arith)) in
-      rw (lt-ltb (index k) (keepAll (keep k r) rs .tally .count) (omega (arith, keepAll-counts rs (keep k r))), v) (sym (g-here k r rs))
+      let c : withRow k r .tally .count ≡ k .tally .count + 1 = keep-counted k r (omega (arith, keep-counts k r, keepAll-counts rs (withRow k r))) in
+      let v : value (withAllRows (withRow k r) rs) ≡ of r = value-stays rs (withRow k r) (omega (arith, same-index k r)) ∙ next-value k r ∙ rw (eq-eqb (k .tally .count) (index k) (omega arith)) in
+      rw (lt-ltb (index k) (withAllRows (withRow k r) rs .tally .count) (omega (arith, keepAll-counts rs (withRow k r))), v) (sym (g-here k r rs))
   value-kept (r ∷ rs) k (suc i) e h =
-      let c : keep k r .tally .count ≡ k .tally .count + 1 = keep-counted k r (omega (arith, keep-counts k r, keepAll-counts rs (keep k r))) in
-      rw (← same-index k r) (value-kept rs (keep k r) i (omega (arith, same-index k r)) h) ∙ sym (g-on k i r rs)
+      let c : withRow k r .tally .count ≡ k .tally .count + 1 = keep-counted k r (omega (arith, keep-counts k r, keepAll-counts rs (withRow k r))) in
+      rw (← same-index k r) (value-kept rs (withRow k r) i (omega (arith, same-index k r)) h) ∙ sym (g-on k i r rs)
 
 -- ---- the bounds that the tally keeps
 
-pub last-stays : (rs : List Row) (k : Kept) → keepAll k rs .tally .last ≡ k .tally .last
-unfolding keepAll keep tallied
+pub last-stays : (rs : List Row) (k : RowList) → withAllRows k rs .tally .last ≡ k .tally .last
+unfolding withAllRows withRow countedRow
 last-stays [] k = refl
-last-stays (r ∷ rs) k = last-stays rs (keep k r)
+last-stays (r ∷ rs) k = last-stays rs (withRow k r)
 
-pub first-stays : (rs : List Row) (k : Kept) → keepAll k rs .tally .first ≡ k .tally .first
-unfolding keepAll keep tallied
+pub first-stays : (rs : List Row) (k : RowList) → withAllRows k rs .tally .first ≡ k .tally .first
+unfolding withAllRows withRow countedRow
 first-stays [] k = refl
-first-stays (r ∷ rs) k = first-stays rs (keep k r)
+first-stays (r ∷ rs) k = first-stays rs (withRow k r)
 
-module _ (g : ℕ → ℕ → List Row → ℕ) (none : (e i : ℕ) → g e i [] ≡ e) (k : Kept) (rs : List Row) (few : keepAll k rs .tally .count < 0xFFFF_FFFF_FFFF_FFFF) (new : k .tally .count ≡ 0) where
-  abbrev y : Tally
-  y = keepAll k rs .tally
+module _ (g : ℕ → ℕ → List Row → ℕ) (none : (e i : ℕ) → g e i [] ≡ e) (k : RowList) (rs : List Row) (few : withAllRows k rs .tally .count < 0xFFFF_FFFF_FFFF_FFFF) (new : k .tally .count ≡ 0) where
+  abbrev y : RowCounts
+  y = withAllRows k rs .tally
 
   -- the end of a row, or of the last one
   pub end-kept : ((e : ℕ) (r : Row) (rs : List Row) → g e 0 (r ∷ rs) ≡ r .end) → ((e i : ℕ) (r : Row) (rs : List Row) → g e (suc i) (r ∷ rs) ≡ g (r .end) i rs)
       → cond (ltb (k .tally .last) (y .count)) (y .end .0) (y .ended .0) ≡ g (k .tally .ended .0) (k .tally .last) rs
-  unfolding keep tallied
+  unfolding withRow countedRow
   end-kept here on =
       value-kept (λ x. x .tally .end .0) (λ x. x .tally .last) (λ x. x .tally .ended .0) (λ r. r .end) g (λ x r. refl)
       (λ x r. cases (eqb (x .tally .count) (x .tally .last)) (λ e. rw e refl) (λ e. rw e refl)) (λ x i. none _ i) (λ x r rs. here _ r rs) (λ x i r rs. on _ i r rs) rs k (k .tally .last) (omega arith) few
@@ -249,7 +249,7 @@ module _ (g : ℕ → ℕ → List Row → ℕ) (none : (e i : ℕ) → g e i []
   -- the start of a row, or else a column
   pub start-kept : ((e : ℕ) (r : Row) (rs : List Row) → g e 0 (r ∷ rs) ≡ r .start) → ((e i : ℕ) (r : Row) (rs : List Row) → g e (suc i) (r ∷ rs) ≡ g e i rs)
       → (e : ℕ) → cond (ltb (k .tally .first) (y .count)) (y .start .0) e ≡ g e (k .tally .first) rs
-  unfolding keep tallied
+  unfolding withRow countedRow
   start-kept here on e =
       value-kept (λ x. x .tally .start .0) (λ x. x .tally .first) (λ x. e) (λ r. r .start) g (λ x r. refl)
       (λ x r. cases (eqb (x .tally .count) (x .tally .first)) (λ f. rw f refl) (λ f. rw f refl)) (λ x i. none e i) (λ x r rs. here e r rs) (λ x i r rs. on e i r rs) rs k (k .tally .first) (omega arith) few

@@ -11,7 +11,7 @@ use lib.Dec.{leb}
 use borrow.Author.Tests.{le-leb}
 use borrow.Table.Elements.{length-take-le}
 use Rattle.buffer.specs.Numbers.Laws.{smaller-left, smaller-right}
-use Rattle.buffer.specs.Sink.{Sink, sink, put, emit, landed, written}
+use Rattle.buffer.specs.Sink.{Sink, sink, put, emit, writtenOrZero, written}
 use Rattle.buffer.specs.Sink.Laws.{emit-none, emit-append, emit-room}
 use Rattle.text.specs.declared.Answer.{Answer}
 use Rattle.spans.specs.Spans.{Record}
@@ -48,8 +48,8 @@ abbrev countOf : Sink → ℕ
 countOf (sink l n) = n
 
 pub numbers-end : (before pushed : List ℕ) (rs : List Record) (i n : ℕ) {after : List ℕ} → 4 * length rs ≤ length before → length pushed ≡ length before → length rs ≤ i → emit (sink pushed n) (numbersOfAll (drop i rs)) ≡ emit (sink before 0) (numbersOfAll rs)
-    → after ≡ take n pushed ++ replicate (length pushed - n) 0 → after ≡ landed (length before) (numbersOfAll rs)
-unfolding landed
+    → after ≡ take n pushed ++ replicate (length pushed - n) 0 → after ≡ writtenOrZero (length before) (numbersOfAll rs)
+unfolding writtenOrZero
 numbers-end before pushed rs i n h k past p f =
     let xs : List ℕ = numbersOfAll rs in
     let w : sink pushed n ≡ sink (written before 0 xs) (0 + length xs) = push-end rs i (sink pushed n) past p ∙ emit-room before xs 0 (omega (arith, numbers-length rs)) in
@@ -72,7 +72,7 @@ places-wide m rs len = omega (arith, places-many m rs len, smaller-left (m / 4) 
 
 -- ---- a call that was lent those places
 
-pub read-told : (call : ℕ → Read) (m : ℕ) (rs : List Record) → length rs ≡ 2048 → {a : Answer} {conv numbers : List ℕ} {ys : List Record} → readAs a conv ys ≡ call (length (take (placesIn m) rs)) → numbers ≡ landed m (numbersOfAll ys)
+pub read-told : (call : ℕ → Read) (m : ℕ) (rs : List Record) → length rs ≡ 2048 → {a : Answer} {conv numbers : List ℕ} {ys : List Record} → readAs a conv ys ≡ call (length (take (placesIn m) rs)) → numbers ≡ writtenOrZero m (numbersOfAll ys)
     → ReadNumbers (call (placesIn m)) m a conv numbers
 read-told call m rs len e f =
     let p = e ∙ ap call (places-many m rs len) in
@@ -80,5 +80,5 @@ read-told call m rs len e f =
       number = ap (λ (x : Read). x .number) p;
       count = ap (λ (x : Read). x .count) p;
       bytes = ap (λ (x : Read). x .conv) p;
-      records = f ∙ ap (λ (x : Read). landed m (numbersOfAll (x .spans))) p;
+      records = f ∙ ap (λ (x : Read). writtenOrZero m (numbersOfAll (x .spans))) p;
     }

@@ -21,7 +21,7 @@ use Rattle.lending.specs.Signatures.{Kind, number, shared, lent}
 use Rattle.lending.specs.Statements.{copies, counts, lends-on, lends-part, gives}
 use Rattle.lending.specs.Functions.{W, asks, answers, walks}
 use Rattle.lending.specs.LocalArrays.{slice-at, opens, shuts, lends, gets-back}
-use Rattle.buffer.specs.Sink.{landed}
+use Rattle.buffer.specs.Sink.{writtenOrZero}
 use Rattle.text.specs.Width.{profile01}
 use Rattle.text.specs.declared.Answer.{Answer}
 use Rattle.spans.specs.declared.Span.{Span}
@@ -42,7 +42,7 @@ use Rattle.rows.proofs.numbers.rows_numbers as f
 use Rattle.rows.proofs.numbers.rows_numbers.Statement as stated
 use Rattle.rows.proofs.numbers.rows_numbers.Code as code
 
-rows-told : (call : ℕ → Wrapped) (m : ℕ) (xs : List Span) → length xs ≡ 2048 → {r : Answer} {conv numbers rows : List ℕ} {zs : List Span} → wrappedAs r conv zs rows ≡ call (length (take (placesIn m) xs)) → numbers ≡ landed m (numbersOfAll zs)
+rows-told : (call : ℕ → Wrapped) (m : ℕ) (xs : List Span) → length xs ≡ 2048 → {r : Answer} {conv numbers rows : List ℕ} {zs : List Span} → wrappedAs r conv zs rows ≡ call (length (take (placesIn m) xs)) → numbers ≡ writtenOrZero m (numbersOfAll zs)
     → RowsNumbers (call (placesIn m)) m r conv numbers rows
 rows-told call m xs len e f = record { read = read-told (λ k. readOf (call k)) m xs len (ap readOf e) f; pairs = ap (λ (x : Wrapped). x .rows) (e ∙ ap call (places-many m xs len)) }
 

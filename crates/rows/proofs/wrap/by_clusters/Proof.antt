@@ -24,8 +24,8 @@ loop-holds c = search break-begin
 next-cluster-requires : tie.Need-next-cluster-requires Inv-loop μ-loop
 next-cluster-requires c κs = search break-ready
 
-unit-requires : tie.Need-unit-requires Inv-loop μ-loop
-unit-requires c κs = search needs
+unbroken-requires : tie.Need-unbroken-requires Inv-loop μ-loop
+unbroken-requires c κs = search needs
 
 loop-less : tie.Need-loop-less Inv-loop μ-loop
 loop-less c = search break-less
@@ -49,7 +49,7 @@ by-clusters-spec =
     scalar-at-requires
     loop-holds
     next-cluster-requires
-    unit-requires
+    unbroken-requires
     loop-less
     loop-again
     same-length

@@ -57,13 +57,13 @@ use Rattle.spans.specs.Calls.{noRecord}
 use Rattle.spans.proofs.Span as T
 use Rattle.spans.proofs.Span.Laws as T′
 use Rattle.rows.specs.Wrap.{Stepped, spanOf, LastRow, SpanRoom, SpansRoom, MadeWrap}
-use Rattle.rows.specs.declared.wrap.Tally.{Tally}
+use Rattle.rows.specs.declared.wrap.RowCounts.{RowCounts}
 use Rattle.rows.specs.declared.wrap.WrapState.{WrapState}
 use Rattle.rows.specs.declared.wrap.Wrapping.{Wrapping}
 use Rattle.lending.specs.Reborrow.{LentAgain, lends-again, comes-back}
 use Rattle.rows.proofs.WrappedSpans.{Spanning, spans-begin, turn-room, spans-turn, spans-end}
-use Rattle.rows.proofs.wrap.Tally as R
-use Rattle.rows.proofs.wrap.Tally.Laws as R′
+use Rattle.rows.proofs.wrap.RowCounts as R
+use Rattle.rows.proofs.wrap.RowCounts.Laws as R′
 use Rattle.rows.proofs.wrap.WrapState as S
 use Rattle.rows.proofs.wrap.WrapState.Laws as S′
 use Rattle.rows.proofs.wrap.Wrapping as G
@@ -109,10 +109,10 @@ smach x = LL.tuple-val S.the-type S′.the-laws (S.the-type .to x)
 abbrev vmach : Wrapping → Val
 vmach x = LL.tuple-val G.the-type G′.the-laws (G.the-type .to x)
 
-abbrev rvals : Tally → List Val
+abbrev rvals : RowCounts → List Val
 rvals = LL.vals R.the-type R′.the-laws
 
-abbrev rmach : Tally → Val
+abbrev rmach : RowCounts → Val
 rmach x = LL.tuple-val R.the-type R′.the-laws (R.the-type .to x)
 
 abbrev word : Ty
@@ -186,7 +186,7 @@ module _ {M : Type 1} (𝓤 : URA M) (H : Heap 𝓤) (A : Atoms 𝓤) (W : Given
   abbrev OutOwn : List ℕ → ℕ → Item 𝓤
   OutOwn zs k = ‵ (MutSlice (named 2) κ″ usize .own (x γ″ zs) (ov k ∷ []))
 
-  r-typed : (y : Tally) → Is R.the-row y (rvals y) → Holds (hasTy R′.mir (rmach y)) × WT (rmach y)
+  r-typed : (y : RowCounts) → Is R.the-row y (rvals y) → Holds (hasTy R′.mir (rmach y)) × WT (rmach y)
   r-typed y is = LL.lawful R.the-type R′.the-laws 𝓤 H A W .typed y _ is .0
 
   s-typed : (y : WrapState) → Is S.the-row y (svals y) → Holds (hasTy S′.mir (smach y)) × WT (smach y)
@@ -201,7 +201,7 @@ module _ {M : Type 1} (𝓤 : URA M) (H : Heap 𝓤) (A : Atoms 𝓤) (W : Given
   abbrev So : ℕ → List ℕ → WrapState → Type 0
   So i l t = Spanning (profileOf (w₀ .profile)) (w₀ .width .0) (w₀ .mode) (take (w₀ .len) (line .now)) ys cnt bs p₀ i l t
 
-  exits : (r : Tally) (zs : List ℕ) → MadeWrap (profileOf (w₀ .profile)) (w₀ .width .0) (w₀ .mode) (take (w₀ .len) (line .now)) (take cnt ys) bs p₀ zs r → length zs ≡ m → Is R.the-row r (rvals r)
+  exits : (r : RowCounts) (zs : List ℕ) → MadeWrap (profileOf (w₀ .profile)) (w₀ .width .0) (w₀ .mode) (take (w₀ .len) (line .now)) (take cnt ys) bs p₀ zs r → length zs ≡ m → Is R.the-row r (rvals r)
       → ent 𝓤 (⋆ 𝓤 H A (‵ (flft κ q) ∷ SpansOwn ∷ ‵ (flft κ′ q′) ∷ LineOwn ∷ ‵ (flft κ″ q″) ∷ OutOwn zs m ∷ [])) (Post (rmach r))
   exits r zs e len is =
       qed W (‵ (flft κ q) ∷ SpansOwn ∷ ‵ (flft κ′ q′) ∷ LineOwn ∷ ‵ (flft κ″ q″) ∷ OutOwn zs m ∷ []) ∵
@@ -369,7 +369,7 @@ module _ {M : Type 1} (𝓤 : URA M) (H : Heap 𝓤) (A : Atoms 𝓤) (W : Given
           -- [the new slice; the lender's part; ν's token; spans' token; what spans owns; line's token; what line owns; _16; …]
           move ! (2 ∷ 0 ∷ []) $ use2 W (raw (LastC 𝓤 H A mem run .pre (to-last ν δ (t .2) (t .1)))) (goes-last ν δ (t .2) (t .1) (t .4)) $
           calls-at ! fm (LastC 𝓤 H A mem run) known-last (to-last ν δ (t .2) (t .1)) (and-then ! (load ! (from ! (stop !)) (look ! 6 refl)) (and-then ! (load ! (from ! (stop !)) (look ! 30 refl)) (and-then ! (load ! (from ! (stop !)) (look ! 24 refl)) (no-more !)))) (λ v.
-          use1 W (later (some (λ (r : Tally). ((‵ (flft (ν ∷ []) fullShare) ⊛ ‵ ftrue) ⊛ ‵ (R.the-row .own r (v ∷ []))) ⊛ raw (ensured 𝓤 H A last.ended (last.clauses 𝓤 H A mem run) (ν ∷ [], tt) (x δ (t .2), (w₀, (t .1, tt))) tt r)))) (id⊢ 𝓤 _) $ await ! tt $ pick ! (λ r.
+          use1 W (later (some (λ (r : RowCounts). ((‵ (flft (ν ∷ []) fullShare) ⊛ ‵ ftrue) ⊛ ‵ (R.the-row .own r (v ∷ []))) ⊛ raw (ensured 𝓤 H A last.ended (last.clauses 𝓤 H A mem run) (ν ∷ [], tt) (x δ (t .2), (w₀, (t .1, tt))) tt r)))) (id⊢ 𝓤 _) $ await ! tt $ pick ! (λ r.
           split ! $ move ! (1 ∷ []) $ use1 W (some (λ (zs : List ℕ × (Unit {0} × (Unit {0} × Unit {0}))). ‵ (lasts last.ended (ν ∷ [], tt) (x δ (t .2), (w₀, (t .1, tt))) zs) ⊛ raw (fact 𝓤 (LastRow (t .2) (t .1) (w₀ .mode) (zs .0) r)))) (id⊢ 𝓤 _) $ pick ! (λ zs.
           split ! $ move ! (1 ∷ []) $ heard ! (LastRow (t .2) (t .1) (w₀ .mode) (zs .0) r) (λ e. fsplit ! $ fsplit ! $ move ! (1 ∷ []) $ feqL ! (λ l.
           -- [the last numbers; …; the token and the result; the lender's part; spans' token; what spans owns; line's token; what line owns; _16; …]

@@ -26,8 +26,8 @@ mul-rows-4 c = search needs
 slice-write-rows-2 : tie.Need-slice-write-rows-2
 slice-write-rows-2 c = rw length-set (omega arith)
 
-tally-row-requires : tie.Need-tally-row-requires
-tally-row-requires c κs = search needs
+count-row-requires : tie.Need-count-row-requires
+count-row-requires c κs = search needs
 
 same-length : tie.Need-same-length
 same-length c = search needs
@@ -35,8 +35,8 @@ same-length c = search needs
 returns : tie.Need-returns
 returns c = search row-written
 
-tally-row-requires-2 : tie.Need-tally-row-requires-2
-tally-row-requires-2 c κs = search needs
+count-row-requires-2 : tie.Need-count-row-requires-2
+count-row-requires-2 c κs = search needs
 
 returns-2 : tie.Need-returns-2
 returns-2 c = search row-counted
@@ -52,8 +52,8 @@ push-row-spec =
     add-rows
     mul-rows-4
     slice-write-rows-2
-    tally-row-requires
+    count-row-requires
     same-length
     returns
-    tally-row-requires-2
+    count-row-requires-2
     returns-2)

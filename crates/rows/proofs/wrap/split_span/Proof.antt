@@ -10,8 +10,8 @@ use mathlib.Core.Path.{sym}
 returns : tie.Need-returns
 returns c = search span-unwrapped
 
-unit-requires : tie.Need-unit-requires
-unit-requires c κs = search needs
+unbroken-requires : tie.Need-unbroken-requires
+unbroken-requires c κs = search needs
 
 tab-requires : tie.Need-tab-requires
 tab-requires c κs = search needs
@@ -25,8 +25,8 @@ text-of-requires c κs = search needs
 split-text-requires : tie.Need-split-text-requires
 split-text-requires c κs = record { low = c .before .before .before .before .before .before .before .before .before .before .before .before .pre .room .low; room = rw (c .before .text-of .ensures, length-take, length-drop, length-take) (omega (arith, c .before .before .before .before .before .before .before .before .before .before .before .before .pre .room .room)) }
 
-unit-requires-2 : tie.Need-unit-requires-2
-unit-requires-2 c κs = search needs
+unbroken-requires-2 : tie.Need-unbroken-requires-2
+unbroken-requires-2 c κs = search needs
 
 same-length : tie.Need-same-length
 same-length c = search needs
@@ -50,7 +50,7 @@ same-length-4 : tie.Need-same-length-4
 same-length-4 c = search needs
 
 returns-5 : tie.Need-returns-5
-returns-5 c = span-mark _ _ _ _ _ _ _ _ (c .before .before .before .before .before .before .before .before .before .before .before .before .before .before .pre) (c .before .before .before .before .before .before .before .before .if1 .left) _ _ (omega arith) (omega arith) (c .before .before .unit2 .ensures)
+returns-5 c = span-mark _ _ _ _ _ _ _ _ (c .before .before .before .before .before .before .before .before .before .before .before .before .before .before .pre) (c .before .before .before .before .before .before .before .before .if1 .left) _ _ (omega arith) (omega arith) (c .before .before .unbroken2 .ensures)
 
 returns-6 : tie.Need-returns-6
 returns-6 c = span-none _ _ _ _ _ _ _ _ (c .before .before .before .before .before .before .before .before .pre) (c .before .before .if1 .left) (λ e. omega arith) (λ e. omega arith) (λ e. omega arith) (λ e. omega arith) (λ e. omega arith) (λ e. omega arith)
@@ -63,12 +63,12 @@ split-span-spec =
     tie.close
     (tie.spec
     returns
-    unit-requires
+    unbroken-requires
     tab-requires
     slice-aggregate-text-of
     text-of-requires
     split-text-requires
-    unit-requires-2
+    unbroken-requires-2
     same-length
     returns-2
     same-length-2

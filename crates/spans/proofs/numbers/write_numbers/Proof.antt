@@ -31,7 +31,7 @@ use denote.Index.{place-is, elem-out, elem-back, looks-slice, shuts-slice}
 use denote.Signature.{Slot, plain}
 use denote.Steps.{owned, heard}
 use denote.Struct.Laws as LL
-use Rattle.buffer.specs.Sink.{sink, emit, landed}
+use Rattle.buffer.specs.Sink.{sink, emit, writtenOrZero}
 use Rattle.lending.specs.Reborrow.{relends, regains}
 use Rattle.lending.specs.Spelling.{a-number, nothing-more}
 use Rattle.lending.specs.Locals.{room, value, Blocks, envOf, Locals, local-part, stored, revalue, forgets, ends}
@@ -68,7 +68,7 @@ tvals = LL.vals S.the-type S′.the-laws
 
 module _ {M : Type 1} (𝓤 : URA M) (H : Heap 𝓤) (𝓜 : Model 𝓤 H) (𝓖 : GhostRules 𝓤 H) (𝓡 : Running 𝓤 H 𝓜) (κ κ″ : Lft) (q q″ : Share) (spans : RefT (List Span)) (numbers : RefT (List ℕ)) (bs : Blocks (code.function .locals))
     (spans-room : Room S.the-row (length (spans .now))) (room′ : Room usize (length (numbers .now))) (wide : 4 * length (spans .now) ≤ length (numbers .now)) (Post : Val → SProp 𝓤)
-    (finish : (os : List ℕ) → os ≡ landed (length (numbers .now)) (numbersOfAll (spans .now)) → Sq (W 𝓤 H 𝓜 𝓖 𝓡 code.env) (‵ (flft κ q) ∷ ‵ (flft κ″ q″) ∷ ‵ (last usize numbers os) ∷ ‵ (Nothing .own tt (vunit ∷ [])) ∷ []) (prop (Post vunit))) where
+    (finish : (os : List ℕ) → os ≡ writtenOrZero (length (numbers .now)) (numbersOfAll (spans .now)) → Sq (W 𝓤 H 𝓜 𝓖 𝓡 code.env) (‵ (flft κ q) ∷ ‵ (flft κ″ q″) ∷ ‵ (last usize numbers os) ∷ ‵ (Nothing .own tt (vunit ∷ [])) ∷ []) (prop (Post vunit))) where
   abbrev n : ℕ
   n = length (spans .now)
 

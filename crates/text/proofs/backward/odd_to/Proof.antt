@@ -2,14 +2,14 @@ use Prim.Native.Nat.{_≤_}
 use lib.ListN.{length}
 use Rattle.text.specs.Backward.{oddTo}
 use Rattle.text.specs.Code.{profileOf}
-use Rattle.text.proofs.BackwardWalk.{Left, odd-begin}
+use Rattle.text.proofs.BackwardWalk.{OddLoop, odd-begin}
 use Rattle.text.proofs.RegionalIndicators.{odd-even, odd-few, odd-stops, odd-turns}
 use borrow.Author.Needs.{needs}
 use Rattle.text.proofs.backward.odd_to.Statement.{statement}
 use Rattle.text.proofs.backward.odd_to.Tie as tie
 
 abbrev Inv-loop : tie.InvT-loop
-Inv-loop profile t q parity odd₀ i₀ odd i = (i ≤ length t) × Left (profileOf profile) t i odd (oddTo (profileOf profile) t q)
+Inv-loop profile t q parity odd₀ i₀ odd i = (i ≤ length t) × OddLoop (profileOf profile) t i odd (oddTo (profileOf profile) t q)
 
 abbrev μ-loop : tie.MeasureT-loop
 μ-loop profile t q parity odd₀ i₀ odd i = i

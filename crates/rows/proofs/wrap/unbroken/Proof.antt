@@ -1,7 +1,7 @@
 use borrow.Author.Needs.{needs}
-use Rattle.rows.proofs.wrap.unit.Statement.{statement}
-use Rattle.rows.proofs.wrap.unit.Tie as tie
-use Rattle.rows.proofs.PushedRows.{unit-stays, unit-wraps}
+use Rattle.rows.proofs.wrap.unbroken.Statement.{statement}
+use Rattle.rows.proofs.wrap.unbroken.Tie as tie
+use Rattle.rows.proofs.PushedRows.{unbroken-stays, unbroken-wraps}
 
 fits-requires : tie.Need-fits-requires
 fits-requires c κs = search needs
@@ -10,7 +10,7 @@ advance-requires : tie.Need-advance-requires
 advance-requires c κs = search needs
 
 returns : tie.Need-returns
-returns c = search unit-stays
+returns c = search unbroken-stays
 
 push-row-requires : tie.Need-push-row-requires
 push-row-requires c κs = search needs
@@ -22,10 +22,10 @@ same-length : tie.Need-same-length
 same-length c = search needs
 
 returns-2 : tie.Need-returns-2
-returns-2 c = search unit-wraps
+returns-2 c = search unbroken-wraps
 
-pub unit-spec : {M : Type 1} → statement M
-unit-spec =
+pub unbroken-spec : {M : Type 1} → statement M
+unbroken-spec =
     tie.close
     (tie.spec
     fits-requires

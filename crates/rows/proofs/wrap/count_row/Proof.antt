@@ -1,6 +1,6 @@
 use borrow.Author.Needs.{needs}
-use Rattle.rows.proofs.wrap.tally_row.Statement.{statement}
-use Rattle.rows.proofs.wrap.tally_row.Tie as tie
+use Rattle.rows.proofs.wrap.count_row.Statement.{statement}
+use Rattle.rows.proofs.wrap.count_row.Tie as tie
 use Rattle.rows.proofs.PushedRows.{tally-is}
 
 next-count-requires : tie.Need-next-count-requires
@@ -15,5 +15,5 @@ choose-requires-2 c κs = search needs
 returns : tie.Need-returns
 returns c = search tally-is
 
-pub tally-row-spec : {M : Type 1} → statement M
-tally-row-spec = tie.close (tie.spec next-count-requires choose-requires choose-requires-2 returns)
+pub count-row-spec : {M : Type 1} → statement M
+count-row-spec = tie.close (tie.spec next-count-requires choose-requires choose-requires-2 returns)
