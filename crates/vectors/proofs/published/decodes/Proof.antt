@@ -20,6 +20,15 @@ abbrev μ-loop : tie.MeasureT-loop
 loop-holds : tie.Need-loop-holds Inv-loop μ-loop
 loop-holds c = search needs
 
+sub-first-sequence : tie.Need-sub-first-sequence Inv-loop μ-loop
+sub-first-sequence c = search needs
+
+part-first-sequence-start : tie.Need-part-first-sequence-start Inv-loop μ-loop
+part-first-sequence-start c = search needs
+
+part-first-sequence-end : tie.Need-part-first-sequence-end Inv-loop μ-loop
+part-first-sequence-end c = search needs
+
 first-sequence-requires : tie.Need-first-sequence-requires Inv-loop μ-loop
 first-sequence-requires c κs = search needs
 
@@ -63,6 +72,9 @@ decodes-spec =
     Inv-loop
     μ-loop
     loop-holds
+    sub-first-sequence
+    part-first-sequence-start
+    part-first-sequence-end
     first-sequence-requires
     past-requires
     is-listed-requires
