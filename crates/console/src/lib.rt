@@ -7,7 +7,7 @@ ghost use Rattle.text.specs.Code.{converted};
 ghost use Rattle.spans.specs.Calls.{readCall};
 ghost use Rattle.spans.specs.Calls.Contracts.{readAs};
 ghost use Rattle.rows.specs.Calls.{rowsCall, heightCall};
-ghost use Rattle.rows.specs.Contracts.{wrappedAs};
+ghost use Rattle.rows.specs.Calls.Contracts.{wrappedAs};
 ghost use Rattle.drawing.specs.Calls.{windowCall, rowCall};
 ghost use Rattle.drawing.specs.Rendering.{currentOf};
 ghost use Rattle.drawing.specs.Requests.{drawnAs};

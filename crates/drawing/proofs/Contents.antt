@@ -19,7 +19,8 @@ use Rattle.spans.specs.Sequence.{Sequence, sgr, eraseToEnd, ignored, hyperlink,
 use Rattle.spans.specs.Sequence.Laws.{parse-orders, parse-drawing, parse-some}
 use Rattle.spans.specs.Spans.{Content, text, control, invalid, unprintable, escape, tab, crlf, lf, Span, Record, aRecord, kindOf, matchOf, recordOf, records}
 use Rattle.spans.specs.Spans.ContentLaw.{sequenceIn, textIn, contentIn, contentOf}
-use Rattle.spans.specs.Sgr.Contracts.{parametersAt, ordersAt}
+use Rattle.spans.specs.Spans.RecordSpans.{sequenceIn-found}
+use Rattle.spans.specs.Sgr.Contracts.{ordersAt, orders-from}
 use Rattle.spans.specs.declared.sgr.Sgr.{Sgr}
 use Rattle.drawing.specs.Attributes as attributes
 use Rattle.drawing.specs.Attributes.{Style, file, match, currentMatch}
@@ -29,6 +30,7 @@ use Rattle.drawing.specs.Marks.{lineDrawn}
 use Rattle.drawing.specs.Contracts.{styleOf, shownText, composedStyle, composedText}
 use Rattle.drawing.specs.Rendering.{largest, currentOf, recordStyle, linkIn, recordSequence, renderRecord, renderRecords}
 use Rattle.drawing.specs.declared.render.Rendering.{Rendering}
+use Rattle.drawing.proofs.Sequences.{record-here}
 
 -- ---- styles
 
@@ -52,20 +54,10 @@ module _ (line : List ℕ) (p : ℕ) where
   behind-is : behind ≡ drop (p + 1) line
   behind-is = drop-drop 1 p line
 
-  found-by : (f : Found) (e : Sequence) → sequenceIn f ≡ escape e → parse behind ≡ f → (n : ℕ) × (parse behind ≡ found e n)
-  unfolding sequenceIn
-  found-by missing e h g = absurd (let w : _≡_ {A = ℕ} 0 1 = cc in omega arith)
-  found-by (found x n) e h g = (n, cc)
-
   inside : (e : Sequence) (n : ℕ) → parse behind ≡ found e n → p < length line
   inside e n h = omega (arith, parse-some behind e n h, length-drop 1 (drop p line), length-drop p line)
 
   -- ---- the sequence of a record
-
-  here : (kind : ℕ) → p < length line → recordSequence line kind p
-      ≡ cond (eqb kind 6) (sgr (ordersAt line (record { at = p + 2; further = true }))) (cond (eqb kind 7) (linkIn (parse (drop (p + 1) line))) (cond (eqb kind 8) (lineDrawing (eqb (getD line (p + 2) 0) 0x30)) (cond (eqb kind 13) eraseToEnd ignored)))
-  unfolding recordSequence
-  here kind h = rw (lt-leb (length line) p h) refl
 
   none-of : (kind : ℕ) → eqb kind 6 ≡ false → eqb kind 7 ≡ false → eqb kind 8 ≡ false → eqb kind 13 ≡ false → recordSequence line kind p ≡ ignored
   unfolding recordSequence
@@ -75,8 +67,7 @@ module _ (line : List ℕ) (p : ℕ) where
   two-behind = let z : p + 1 + 1 ≡ p + 2 = omega arith in ap (drop 1) behind-is ∙ drop-drop 1 (p + 1) line ∙ ap (λ (k : ℕ). drop k line) z
 
   orders-at : orders (parameters 0 (drop 1 behind)) ≡ ordersAt line (record { at = p + 2; further = true })
-  unfolding ordersAt parametersAt
-  orders-at = ap (λ (l : List ℕ). orders (parameters 0 l)) two-behind
+  orders-at = ap (λ (l : List ℕ). orders (parameters 0 l)) two-behind ∙ sym (orders-from line (p + 2))
 
   byte-at : getD behind 1 0 ≡ getD line (p + 2) 0
   byte-at = let z : p + 1 + 1 ≡ p + 2 = omega arith in ap (λ (l : List ℕ). getD l 1 0) behind-is ∙ getD-drop (p + 1) line 1 0 ∙ ap (λ (k : ℕ). getD line k 0) z
@@ -84,15 +75,15 @@ module _ (line : List ℕ) (p : ℕ) where
   sequence-is : (e : Sequence) → sequenceIn (parse behind) ≡ escape e → recordSequence line (kindOf (escape e)) p ≡ e
   unfolding kindOf linkIn
   sequence-is (sgr os) h =
-      let f = found-by (parse behind) (sgr os) h refl in
-      here 6 (inside (sgr os) (f .0) (f .1)) ∙ ap sgr (sym (parse-orders behind os (f .0) (f .1) ∙ orders-at))
+      let f = sequenceIn-found (parse behind) (sgr os) h in
+      record-here line 6 p (inside (sgr os) (f .0) (f .1)) ∙ ap sgr (sym (parse-orders behind os (f .0) (f .1) ∙ orders-at))
   sequence-is (hyperlink a m) h =
-      let f = found-by (parse behind) (hyperlink a m) h refl in
-      here 7 (inside (hyperlink a m) (f .0) (f .1)) ∙ ap linkIn (ap parse (sym behind-is) ∙ f .1)
+      let f = sequenceIn-found (parse behind) (hyperlink a m) h in
+      record-here line 7 p (inside (hyperlink a m) (f .0) (f .1)) ∙ ap linkIn (ap parse (sym behind-is) ∙ f .1)
   sequence-is (lineDrawing b) h =
-      let f = found-by (parse behind) (lineDrawing b) h refl in
-      here 8 (inside (lineDrawing b) (f .0) (f .1)) ∙ ap lineDrawing (sym (parse-drawing behind b (f .0) (f .1) ∙ ap (λ (x : ℕ). eqb x 0x30) byte-at))
-  sequence-is eraseToEnd h = let f = found-by (parse behind) eraseToEnd h refl in here 13 (inside eraseToEnd (f .0) (f .1))
+      let f = sequenceIn-found (parse behind) (lineDrawing b) h in
+      record-here line 8 p (inside (lineDrawing b) (f .0) (f .1)) ∙ ap lineDrawing (sym (parse-drawing behind b (f .0) (f .1) ∙ ap (λ (x : ℕ). eqb x 0x30) byte-at))
+  sequence-is eraseToEnd h = let f = sequenceIn-found (parse behind) eraseToEnd h in record-here line 13 p (inside eraseToEnd (f .0) (f .1))
   sequence-is ignored h = none-of 9 refl refl refl refl
 
   first-byte : getD (drop p line) 0 0 ≡ getD line p 0

@@ -9,26 +9,29 @@ use mathlib.Core.List.{List, [], _∷_, _++_, map, append-nil}
 use lib.ListN.{length, take, drop, getD, List·getD-map, length-append, drop-of-length-le, take-append-drop}
 use lib.Seq.{take-append-seam, length-take-le, drop-cons}
 use lib.Dec.{T, eqb, leb, ltb, eqb→eq, leb→le}
-use borrow.Author.Tests.{le-leb, lt-leb, leb-true, leb-false, lt-ltb, le-ltb}
-use Rattle.buffer.specs.Sink.{Sink, sink, put, emit, written}
-use Rattle.buffer.specs.Sink.Laws.{emit-append, emit-none, emit-room}
-use Rattle.text.specs.Tests.{cases, and-T, true-T, is-true}
+use borrow.Author.Tests.{le-leb, lt-leb, ltb-true, ltb-false, lt-ltb, le-ltb}
+use Rattle.buffer.specs.Sink.{Sink, sink, put, emit}
+use Rattle.buffer.specs.Sink.Laws.{emit-append, emit-none, fitted, emit-put, then-put}
+use Rattle.text.specs.Tests.{cases, and-T, in-range, is-true, or-false, true-T}
 use Rattle.text.specs.Each.{All, all-nil, all-cons}
 use Rattle.text.specs.Utf8.{Scalar, wellFormed, scalar, to, within, decode, bytesOf}
 use Rattle.text.specs.Utf8.Valid.{Valid, run-text}
 use Rattle.text.specs.Class.{Profile}
-use Rattle.text.specs.Width.{width01, widthOf, profile01}
+use Rattle.text.specs.Width.{widthOf}
 use Rattle.text.specs.Cluster.Walk.{size-is}
-use Rattle.text.specs.Code.{runOf, size, profileOf, sequenceOf, firstSequence, isTail, twoBytes, threeBytes, fourBytes}
-use Rattle.text.specs.Code.Laws.{ScalarAt, scalar-at, none-at, none-past, run-valid, run-front, run-fits, plain-width}
-use Rattle.text.proofs.LeadBytes.{two-is, three-is, four-is}
-use Rattle.text.proofs.Texts.{whole-prefix}
+use Rattle.text.specs.Code.{runOf, size, profileOf, printable, firstSequence}
+use Rattle.text.specs.Code.Laws.{ScalarAt, scalar-at, none-at, none-past, run-valid, run-fits, front-bytes, size-cons, size-nil, width-cons}
+use Rattle.text.specs.Class.Ascii.{printable-columns}
+use Rattle.text.specs.Code.Profile01.{ascii-classes}
+use Rattle.text.specs.Utf8.FirstByte.{high-code}
+use Rattle.text.specs.Width.Symbols.{symbol, symbol-columns}
 use Rattle.text.specs.TextParts.{textAt}
 use Rattle.text.specs.declared.class.Profile as code
 use Rattle.text.specs.declared.utf8.Sequence.{Sequence}
+use Rattle.text.specs.Utf8.Laws.{bytes-cons, bytes-nil, bytes-one, scalar-bytes}
+use Rattle.text.specs.Utf8.Ascii.{valid-low}
 use Rattle.drawing.specs.Marks.{replacements, lineDrawn}
 use Rattle.drawing.specs.Contracts.{packedBytes, Replaceable, hasReplacements, CopyRoom, CopyOf}
-use Rattle.text.specs.Code.FirstSequence.{ascii-first}
 
 -- ---- the table
 
@@ -56,12 +59,13 @@ table-at i h =
     ∙ getD-any replacements i (packedBytes 0) [] (omega (arith, replacements-length))
 
 pub packed-two : (s s₁ s₂ : Sink) (n : ℕ) → n < 0x10000 → s₁ ≡ put s (n / 256 % 256) → s₂ ≡ put s₁ (n % 256) → s₂ ≡ emit s (packedBytes n)
-unfolding packedBytes emit
-packed-two s s₁ s₂ n h p q = rw (lt-ltb n 0x10000 h, q, p) refl
+unfolding packedBytes
+packed-two s s₁ s₂ n h p q = rw (lt-ltb n 0x10000 h) (then-put s s₁ s₂ (n / 256 % 256 ∷ []) (n % 256) (emit-put s s₁ _ p) q)
 
 pub packed-three : (s s₁ s₂ s₃ : Sink) (n : ℕ) → 0x10000 ≤ n → s₁ ≡ put s (n / 65536 % 256) → s₂ ≡ put s₁ (n / 256 % 256) → s₃ ≡ put s₂ (n % 256) → s₃ ≡ emit s (packedBytes n)
-unfolding packedBytes emit
-packed-three s s₁ s₂ s₃ n h p q r = rw (le-ltb n 0x10000 h, r, q, p) refl
+unfolding packedBytes
+packed-three s s₁ s₂ s₃ n h p q r =
+    rw (le-ltb n 0x10000 h) (then-put s s₂ s₃ (n / 65536 % 256 ∷ n / 256 % 256 ∷ []) (n % 256) (then-put s s₁ s₂ (n / 65536 % 256 ∷ []) (n / 256 % 256) (emit-put s s₁ _ p) q) r)
 
 pub replaced : (s s′ : Sink) (c i : ℕ) → Replaceable c → i ≡ c - 0x5F → s′ ≡ emit s (packedBytes (getD table i 0)) → s′ ≡ emit s (getD replacements (c - 0x5F) [])
 replaced s s′ c i r e p = p ∙ ap (emit s) (table-at i (omega (arith, r .low, r .high)) ∙ ap (λ (k : ℕ). getD replacements k []) e)
@@ -85,8 +89,8 @@ all-at (all-cons q a) zero d h = q
 all-at (all-cons q a) (suc i) d h = all-at a i d (omega arith)
 
 unfoldable fine : List ℕ → Bool
-unfolding width01 scalar
-fine r = eqb (width01 (scalar r .code)) 1 && leb (length r) 3
+unfolding scalar
+fine r = symbol (scalar r .code) && leb (length r) 3
 
 unfoldable allFine : List (List ℕ) → Bool
 unfolding fine
@@ -114,18 +118,15 @@ module _ (i : ℕ) (h : i < 32) where
   new-valid : Valid new
   new-valid = subst Valid (List·getD-map scalar replacements i []) (all-at valid-all i (scalar []) (omega (arith, mapped)))
 
-  new-fine : T (eqb (width01 (new .code)) 1) × T (leb (length (getD replacements i [])) 3)
+  new-fine : T (symbol (new .code)) × T (leb (length (getD replacements i [])) 3)
   unfolding fine
-  new-fine = and-T (eqb (width01 (new .code)) 1) (leb (length (getD replacements i [])) 3) (fine-at replacements i fine-all (omega (arith, replacements-length)))
+  new-fine = and-T (symbol (new .code)) (leb (length (getD replacements i [])) 3) (fine-at replacements i fine-all (omega (arith, replacements-length)))
 
-  new-width : width01 (new .code) ≡ 1
-  new-width = eqb→eq (width01 (new .code)) 1 (new-fine .0)
+  new-symbol : symbol (new .code) ≡ true
+  new-symbol = is-true (symbol (new .code)) (new-fine .0)
 
   new-length : length (getD replacements i []) ≤ 3
   new-length = leb→le (length (getD replacements i [])) 3 (new-fine .1)
-
-in-range : (v : ℕ) → within (to 0x5F 0x7E) v ≡ true → (0x5F ≤ v) × (v ≤ 0x7E)
-in-range v e = let w = and-T (leb 0x5F v) (leb v 0x7E) (true-T e) in (leb→le 0x5F v (w .0), leb→le v 0x7E (w .1))
 
 -- ---- what is shown is valid text, as wide as the text, and at most three times as long
 
@@ -134,25 +135,32 @@ unfolding lineDrawn
 lineDrawn-valid all-nil = all-nil
 lineDrawn-valid (all-cons {a = c} {s = s} v a) =
     cases (within (to 0x5F 0x7E) (c .code))
-    (λ e. let r = in-range (c .code) e in rw e (all-cons (new-valid (c .code - 0x5F) (omega (arith, r .0, r .1))) (lineDrawn-valid a)))
+    (λ e. let r = in-range 0x5F 0x7E (c .code) e in rw e (all-cons (new-valid (c .code - 0x5F) (omega (arith, r .0, r .1))) (lineDrawn-valid a)))
     (λ e. rw e (all-cons v (lineDrawn-valid a)))
 
 pub lineDrawn-width : (f : code.Profile) (x : List Scalar) → widthOf (profileOf f) (lineDrawn x) ≡ widthOf (profileOf f) x
-unfolding lineDrawn widthOf profileOf profile01
+unfolding lineDrawn
 lineDrawn-width f [] = refl
 lineDrawn-width f (c ∷ s) =
-    cases (within (to 0x5F 0x7E) (c .code))
-    (λ e. let r = in-range (c .code) e in
-    rw e (ap₂ (λ (a b : ℕ). a + b) (new-width (c .code - 0x5F) (omega (arith, r .0, r .1)) ∙ sym (plain-width (c .code) (omega (arith, r .0)) (r .1))) (lineDrawn-width f s)))
-    (λ e. rw e (ap (λ (n : ℕ). width01 (c .code) + n) (lineDrawn-width f s)))
+    width-cons (profileOf f) _ (lineDrawn s) ∙ ap₂ (λ (a b : ℕ). a + b) first (lineDrawn-width f s) ∙ sym (width-cons (profileOf f) c s)
+  where
+    first : profileOf f .width (cond (within (to 0x5F 0x7E) (c .code)) (scalar (getD replacements (c .code - 0x5F) [])) c .code) ≡ profileOf f .width (c .code)
+    first =
+        cases (within (to 0x5F 0x7E) (c .code))
+        (λ e. let r = in-range 0x5F 0x7E (c .code) e in
+        let p : printable (c .code) ≡ true = rw (le-leb 0x20 (c .code) (omega (arith, r .0)), le-leb (c .code) 0x7E (r .1)) refl in
+        rw e (symbol-columns f .one _ (new-symbol (c .code - 0x5F) (omega (arith, r .0, r .1))) ∙ sym (printable-columns (profileOf f) (ascii-classes f) (c .code) p)))
+        (λ e. rw e refl)
 
 lineDrawn-size : {x : List Scalar} → All Valid x → size (lineDrawn x) ≤ 3 * size x
-unfolding lineDrawn size scalar
-lineDrawn-size all-nil = omega arith
+unfolding lineDrawn
+lineDrawn-size all-nil = omega (arith, size-nil)
 lineDrawn-size (all-cons {a = c} {s = s} v a) =
     cases (within (to 0x5F 0x7E) (c .code))
-    (λ e. let r = in-range (c .code) e in rw e (omega (arith, new-length (c .code - 0x5F) (omega (arith, r .0, r .1)), lineDrawn-size a, v .some)))
-    (λ e. rw e (omega (arith, lineDrawn-size a)))
+    (λ e. let r = in-range 0x5F 0x7E (c .code) e in
+    rw (e, size-cons c s, size-cons (scalar (getD replacements (c .code - 0x5F) [])) (lineDrawn s), scalar-bytes (getD replacements (c .code - 0x5F) []))
+    (omega (arith, new-length (c .code - 0x5F) (omega (arith, r .0, r .1)), lineDrawn-size a, v .some)))
+    (λ e. rw (e, size-cons c s, size-cons c (lineDrawn s)) (omega (arith, lineDrawn-size a)))
 
 -- ---- the loop
 
@@ -165,8 +173,8 @@ convert-begin s l = record { inside = omega arith; work = refl }
 
 module _ {s l₀ l : List ℕ} {p a : ℕ} (k : Converting s l₀ p a l) where
   convert-done : textAt s p ≡ [] → sink l a ≡ emit (sink l₀ 0) (bytesOf (lineDrawn (textAt s 0)))
-  unfolding lineDrawn bytesOf emit
-  convert-done e = rw e at (k .work)
+  unfolding lineDrawn
+  convert-done e = rw (e, bytes-nil, emit-none) at (k .work)
 
   pub convert-past : length s ≤ p → sink l a ≡ emit (sink l₀ 0) (bytesOf (lineDrawn (textAt s 0)))
   convert-past h = convert-done (none-past s p h)
@@ -188,25 +196,20 @@ module _ {s l₀ l : List ℕ} {p a : ℕ} (k : Converting s l₀ p a l) where
       -- what the scalar is shown as
       first-shown : (x : Scalar) → cond (within (to 0x5F 0x7E) (c .code)) (scalar (getD replacements (c .code - 0x5F) [])) c ≡ x
           → emit (emit (sink l a) (x .bytes)) (bytesOf (lineDrawn (textAt s (p + u .len)))) ≡ emit (sink l₀ 0) (bytesOf (lineDrawn (textAt s 0)))
-      unfolding lineDrawn bytesOf
-      first-shown x e = sym (emit-append (sink l a) (x .bytes) (bytesOf (lineDrawn (textAt s (p + u .len))))) ∙ (rw (scalar-at s p u here read z .run, e) at (k .work))
+      unfolding lineDrawn
+      first-shown x e = sym (emit-append (sink l a) (x .bytes) (bytesOf (lineDrawn (textAt s (p + u .len))))) ∙ (rw (scalar-at s p u here read z .run, e, bytes-cons) at (k .work))
 
       pub convert-replaced : (l′ : List ℕ) (r : ℕ) → (leb 0x5F (u .code) && leb (u .code) 0x7E) ≡ true → sink l′ r ≡ emit (sink l a) (getD replacements (u .code - 0x5F) []) → Converting s l₀ (p + u .len) r l′
-      unfolding scalar
       convert-replaced l′ r t e =
           let q : c .code ≡ u .code = scalar-at s p u here read z .code in
-          record {
-            inside = convert-fits;
-            work = rw (e, ← q) (first-shown (scalar (getD replacements (c .code - 0x5F) [])) (rw (rw (← q) at t) refl));
-          }
+          let w = first-shown (scalar (getD replacements (c .code - 0x5F) [])) (rw (rw (← q) at t) refl) in
+          record { inside = convert-fits; work = rw (e, ← q) (rw scalar-bytes at w) }
 
       first-bytes : take (p + u .len - p) (drop p s) ≡ c .bytes
-      unfolding size bytesOf
       first-bytes =
           let a = scalar-at s p u here read z in
-          let n : p + u .len - p ≡ size (c ∷ []) = omega (arith, a .len) in
-          let w = whole-prefix (c ∷ []) (textAt s (p + u .len)) (drop p s) (a .run) in
-          ap (λ (m : ℕ). take m (drop p s)) n ∙ sym w ∙ ap bytesOf (run-front (drop p s) (c ∷ []) (textAt s (p + u .len)) (a .run)) ∙ append-nil (c .bytes)
+          let n : p + u .len - p ≡ size (c ∷ []) = omega (arith, a .len, size-cons c [], size-nil) in
+          ap (λ (m : ℕ). take m (drop p s)) n ∙ front-bytes (drop p s) (c ∷ []) (textAt s (p + u .len)) (a .run) ∙ bytes-one c
 
       pub convert-kept : (l′ : List ℕ) (r : ℕ) → (leb 0x5F (u .code) && leb (u .code) 0x7E) ≡ false → sink l′ r ≡ emit (sink l a) (take (p + u .len - p) (drop p s)) → Converting s l₀ (p + u .len) r l′
       convert-kept l′ r f g =
@@ -214,7 +217,7 @@ module _ {s l₀ l : List ℕ} {p a : ℕ} (k : Converting s l₀ p a l) where
           record { inside = convert-fits; work = rw (g, first-bytes) (first-shown c (rw n refl)) }
 
 pub replaceable : (c : ℕ) → (leb 0x5F c && leb c 0x7E) ≡ true → Replaceable c
-replaceable c e = let r = in-range c e in record { low = r .0; high = r .1 }
+replaceable c e = let r = in-range 0x5F 0x7E c e in record { low = r .0; high = r .1 }
 
 -- ---- the bytes that are replaced
 
@@ -231,77 +234,40 @@ pub replacements-end : (s : List ℕ) (i : ℕ) → length s ≤ i → hasReplac
 unfolding hasReplacements
 replacements-end s i h k = rw (drop-of-length-le s h) at k
 
-neither : (a b : Bool) → (a || b) ≡ false → (a ≡ false) × (b ≡ false)
-neither true b e = absurd (true≢false e)
-neither false b e = (refl, e)
-
 has-append : (a b : List ℕ) → hasReplacements (a ++ b) ≡ false → (hasReplacements a ≡ false) × (hasReplacements b ≡ false)
 unfolding hasReplacements
 has-append [] b e = (refl, e)
 has-append (x ∷ a) b e =
-    let w = neither (within (to 0x5F 0x7E) x) (hasReplacements (a ++ b)) e in
+    let w = or-false (within (to 0x5F 0x7E) x) (hasReplacements (a ++ b)) e in
     let r = has-append a b (w .1) in
     (rw (w .0, r .0) refl, r .1)
 
 -- ---- a text without them is shown as it is
 
-kept-code : (t : Bool) (x n : ℕ) → (T t → 0x80 ≤ x) → within (to 0x5F 0x7E) (cond t (sequenceOf x n) (sequenceOf 0 0) .code) ≡ false
-kept-code true x n h = rw (lt-leb x 0x7E (omega (arith, h tt))) (and-false (leb 0x5F x))
-kept-code false x n h = refl
-
--- a byte that is kept begins no scalar that is replaced
-first-kept : (s : List ℕ) (p : ℕ) → p < length s → within (to 0x5F 0x7E) (getD s p 0) ≡ false → within (to 0x5F 0x7E) (firstSequence (decode (drop p s)) .code) ≡ false
-first-kept s p here e =
-    let a : ℕ = getD s p 0 in
-    let b : ℕ = getD s (p + 1) 0 in
-    let c : ℕ = getD s (p + 2) 0 in
-    let d : ℕ = getD s (p + 3) 0 in
-    let three : ℕ = (a % 16 * 64 + b % 64) * 64 + c % 64 in
-    let four : ℕ = ((a % 8 * 64 + b % 64) * 64 + c % 64) * 64 + d % 64 in
-    cases (leb a 0x7F)
-    (λ l. rw (← ascii-first s p a here refl (leb-true a 0x7F l)) e)
-    (λ l. let lo : 0x7F < a = leb-false a 0x7F l in
-    cases (leb a 0xDF)
-    (λ m.
-    let hi : a ≤ 0xDF = leb-true a 0xDF m in
-    rw (← two-is s p a b c here refl refl refl lo hi)
-    (kept-code (leb 0xC2 a && isTail b) (a % 32 * 64 + b % 64) 2 (λ t. let k : 0xC2 ≤ a = leb→le _ _ (and-T (leb 0xC2 a) (isTail b) t .0) in omega (arith, k, hi))))
-    (λ m. let mid : 0xDF < a = leb-false a 0xDF m in
-    cases (leb a 0xEF)
-    (λ n.
-    rw (← three-is s p a b c here refl refl refl mid (leb-true a 0xEF n))
-    (kept-code ((isTail b && isTail c) && (leb 0x800 three && (ltb three 0xD800 || ltb 0xDFFF three))) three 3
-    (λ t. let k : 0x800 ≤ three = leb→le _ _ (and-T (leb 0x800 three) _ (and-T (isTail b && isTail c) _ t .1) .0) in omega (arith, k))))
-    (λ n.
-    rw (← four-is s p a b c here refl refl refl d refl (leb-false a 0xEF n))
-    (kept-code ((leb a 0xF4 && (isTail b && (isTail c && isTail d))) && (leb 0x10000 four && leb four 0x10FFFF)) four 4
-    (λ t. let k : 0x10000 ≤ four = leb→le _ _ (and-T (leb 0x10000 four) _ (and-T (leb a 0xF4 && (isTail b && (isTail c && isTail d))) _ t .1) .0) in omega (arith, k))))))
-
 byte-kept : (s : List ℕ) → 1 ≤ length s → hasReplacements s ≡ false → within (to 0x5F 0x7E) (getD s 0 0) ≡ false
 unfolding hasReplacements
 byte-kept [] h e = absurd (omega arith)
-byte-kept (b ∷ s) h e = neither (within (to 0x5F 0x7E) b) (hasReplacements s) e .0
+byte-kept (b ∷ s) h e = or-false (within (to 0x5F 0x7E) b) (hasReplacements s) e .0
 
+-- a byte that is kept begins no scalar that is replaced
 scalar-kept : (c : Scalar) → Valid c → hasReplacements (c .bytes) ≡ false → within (to 0x5F 0x7E) (c .code) ≡ false
-unfolding firstSequence
 scalar-kept c v e =
-    let d : decode (c .bytes) ≡ wellFormed c ∷ decode [] = rw append-nil at (v .decodes []) in
-    rw d at (first-kept (c .bytes) 0 (v .some) (byte-kept (c .bytes) (v .some) e))
+    cases (ltb (getD (c .bytes) 0 0) 0x80)
+    (λ l. rw (valid-low c v (ltb-true _ _ l)) (byte-kept (c .bytes) (v .some) e))
+    (λ l. rw (lt-leb (c .code) 0x7E (omega (arith, high-code c v (ltb-false _ _ l)))) (and-false (leb 0x5F (c .code))))
 
 kept-same : {x : List Scalar} → All Valid x → hasReplacements (bytesOf x) ≡ false → lineDrawn x ≡ x
-unfolding lineDrawn bytesOf
+unfolding lineDrawn
 kept-same all-nil e = refl
 kept-same (all-cons {a = c} {s = s} v a) e =
-    let w = has-append (c .bytes) (bytesOf s) e in
+    let w = has-append (c .bytes) (bytesOf s) (rw bytes-cons at e) in
     rw (scalar-kept c v (w .0)) (ap (λ (l : List Scalar). c ∷ l) (kept-same a (w .1)))
 
 pub lineDrawn-kept : (s : List ℕ) → hasReplacements s ≡ false → lineDrawn (textAt s 0) ≡ textAt s 0
 lineDrawn-kept s e =
     let t : List Scalar = textAt s 0 in
-    let a : t ≡ t ++ [] = sym (append-nil t) in
-    let b : bytesOf t ≡ take (size t) s = ap bytesOf (sym (run-front (drop 0 s) t [] a)) ∙ whole-prefix t [] (drop 0 s) a in
     let f : hasReplacements (take (size t) s ++ drop (size t) s) ≡ false = rw (take-append-drop (size t) s) e in
-    kept-same (run-valid s) (rw b (has-append (take (size t) s) (drop (size t) s) f .0))
+    kept-same (run-valid s) (rw (← front-bytes s t [] (sym (append-nil t))) (has-append (take (size t) s) (drop (size t) s) f .0))
 
 -- ---- the copy
 
@@ -311,17 +277,9 @@ copy-made s copy copy′ d n room on e =
     let xs : List ℕ = bytesOf (lineDrawn t) in
     let v : All Valid t = run-valid s in
     let f : size t + size [] ≤ length s = run-fits s t [] (sym (append-nil t)) in
-    let z : length xs ≤ length copy = omega (arith, size-is (lineDrawn t), lineDrawn-size v, room on) in
-    let g : sink copy′ n ≡ sink (written copy 0 xs) (0 + length xs) = e ∙ emit-room copy xs 0 (omega arith) in
-    let m : n ≡ length xs = omega (arith, ap countOf g) in
-    let b : take n copy′ ≡ xs = rw (m, ap listOf g) (take-append-seam xs (drop (0 + length xs) copy)) in
-    record { fits = rw (ap listOf g, length-append xs (drop (0 + length xs) copy)) (omega (arith, m)); same = λ h. ap (λ (l : List ℕ). runOf (decode l)) b ∙ run-text (lineDrawn-valid v) }
-  where
-    countOf : Sink → ℕ
-    countOf (sink l r) = r
-
-    listOf : Sink → List ℕ
-    listOf (sink l r) = l
+    let w = fitted copy xs copy′ n e (omega (arith, size-is (lineDrawn t), lineDrawn-size v, room on)) in
+    let b : take n copy′ ≡ xs = rw (w .0, w .1) (take-append-seam xs (drop (length xs) copy)) in
+    record { fits = rw (w .1, length-append xs (drop (length xs) copy)) (omega (arith, w .0)); same = λ h. ap (λ (l : List ℕ). runOf (decode l)) b ∙ run-text (lineDrawn-valid v) }
 
 pub copy-none : (s copy : List ℕ) (d : Bool) → d ≡ false → CopyOf copy s d 0
 copy-none s copy d off = record { fits = omega arith; same = λ h. absurd (true-T (sym off ∙ h)) }

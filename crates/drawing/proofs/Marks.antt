@@ -10,11 +10,13 @@ use lib.Seq.{take-append-seam, length-take-le}
 use lib.Dec.{eqb, ltb}
 use borrow.Author.Tests.{eq-eqb, ne-eqb, eqb-true, eqb-false, lt-ltb, le-ltb, ltb-true, ltb-false, le-leb}
 use Rattle.buffer.specs.Numbers as numbers
-use Rattle.buffer.specs.Sink.{Sink, sink, put, emit, written}
-use Rattle.buffer.specs.Sink.Laws.{emit-none, emit-append, then-emit, emit-room}
+use Rattle.buffer.specs.Sink.{Sink, sink, put, emit}
+use Rattle.buffer.specs.Sink.Laws.{emit-none, then-emit, fitted, emit-put, then-put}
 use Rattle.text.specs.Tests.{cases}
 use Rattle.text.specs.Utf8.{Scalar, ascii, asciis, decode, bytesOf}
-use Rattle.text.specs.Utf8.Laws.{bytesOf-append}
+use Rattle.text.specs.Utf8.AsciiTexts.{asciis-append, asciis-bytes, asciis-cons, asciis-nil, asciis-replicate}
+use Rattle.text.specs.Cluster.Printable.{printable-width, run-printable}
+use Rattle.text.specs.Code.Profile01.{ascii-classes}
 use Rattle.text.specs.Width.{widthOf}
 use Rattle.text.specs.Code.{runOf, size, profileOf, firstSequence, printable}
 use Rattle.text.specs.Code.Laws.{ScalarAt, scalar-at, none-at, none-past}
@@ -31,12 +33,8 @@ use Rattle.drawing.specs.declared.attributes.Style.the-variants.{File, C
 use Rattle.drawing.specs.declared.state.AttributeState.{AttributeState}
 use Rattle.drawing.specs.declared.state.Stepped.{Stepped}
 use Rattle.drawing.specs.declared.write.Window.{Window}
-use Rattle.drawing.proofs.Columns.{run-printable, asciis-bytes, printable-width, columns-width}
-use Rattle.drawing.proofs.Writing.{wrote-then, wrote-none, written-position, drawn-out}
-
-emit-one : (s : Sink) (b : ℕ) → emit s (b ∷ []) ≡ put s b
-unfolding emit
-emit-one s b = refl
+use Rattle.drawing.proofs.Columns.{all-printable, columns-width}
+use Rattle.drawing.proofs.WindowTexts.{wrote-then, wrote-none, written-position, drawn-out}
 
 -- ---- digits
 
@@ -55,8 +53,7 @@ abbrev digit : ℕ → ℕ
 digit n = numbers.hexDigit (n % 16)
 
 pub digit-pushed : (s s′ : Sink) (b n : ℕ) → b ≡ numbers.hexDigit (n % 16) → s′ ≡ put s b → s′ ≡ emit s (numbers.hexDigit (n % 16) ∷ [])
-unfolding emit
-digit-pushed s s′ b n e p = rw (← e) p
+digit-pushed s s′ b n e p = rw (← e) (emit-put s s′ b p)
 
 -- ---- the mark of a scalar
 
@@ -69,49 +66,45 @@ lowerBytes v = digit (v / 0x1000) ∷ digit (v / 0x100) ∷ digit (v / 0x10) ∷
 unfoldable markBytes : ℕ → List ℕ
 markBytes v = 0x3C ∷ 0x55 ∷ 0x2B ∷ (upperBytes v ++ (lowerBytes v ++ 0x3E ∷ []))
 
-asciis-append : (a b : List ℕ) → asciis (a ++ b) ≡ asciis a ++ asciis b
-unfolding asciis
-asciis-append [] b = refl
-asciis-append (x ∷ a) b = ap (λ (l : List Scalar). ascii x ∷ l) (asciis-append a b)
-
 upper-is : (v : ℕ) → upperDigits v ≡ asciis (upperBytes v)
-unfolding upperDigits upperBytes asciis
+unfolding upperDigits upperBytes
 upper-is v =
-    cases (ltb v 0x10000) (λ e. rw e refl)
-    (λ e. cases (ltb v 0x100000) (λ f. rw (e, f, digit-is (v / 0x10000 % 16)) refl) (λ f. rw (e, f, digit-is (v / 0x100000 % 16), digit-is (v / 0x10000 % 16)) refl))
+    cases (ltb v 0x10000) (λ e. rw e (sym asciis-nil))
+    (λ e. cases (ltb v 0x100000) (λ f. rw (e, f) (simp (digit-is, asciis-cons, asciis-nil))) (λ f. rw (e, f) (simp (digit-is, asciis-cons, asciis-nil))))
 
 mark-is : (v : ℕ) → scalarMark v ≡ asciis (markBytes v)
-unfolding scalarMark markBytes lowerBytes asciis
-mark-is v =
-    rw (upper-is v, asciis-append (upperBytes v) (lowerBytes v ++ 0x3E ∷ []), digit-is (v / 0x1000 % 16), digit-is (v / 0x100 % 16), digit-is (v / 0x10 % 16), digit-is (v % 16)) refl
+unfolding scalarMark markBytes lowerBytes
+mark-is v = rw (upper-is v) (simp (digit-is, asciis-cons, asciis-append, asciis-nil))
+
+mark-bytes : (v : ℕ) → bytesOf (scalarMark v) ≡ markBytes v
+mark-bytes v = ap bytesOf (mark-is v) ∙ asciis-bytes (markBytes v)
+
+upper-bytes : (v : ℕ) → bytesOf (upperDigits v) ≡ upperBytes v
+upper-bytes v = ap bytesOf (upper-is v) ∙ asciis-bytes (upperBytes v)
 
 pub upper-none : (s : Sink) (v : ℕ) → v < 0x10000 → s ≡ emit s (bytesOf (upperDigits v))
-unfolding upperDigits bytesOf emit
-upper-none s v h = rw (lt-ltb v 0x10000 h) refl
+unfolding upperBytes
+upper-none s v h = rw (upper-bytes v, lt-ltb v 0x10000 h) (sym (emit-none s))
 
 pub upper-one : (s s′ : Sink) (v : ℕ) → 0x10000 ≤ v → v < 0x100000 → s′ ≡ emit s (digit (v / 0x10000) ∷ []) → s′ ≡ emit s (bytesOf (upperDigits v))
 unfolding upperBytes
-upper-one s s′ v h k p = p ∙ ap (emit s) (sym (ap bytesOf (upper-is v) ∙ asciis-bytes (upperBytes v) ∙ rw (le-ltb v 0x10000 h, lt-ltb v 0x100000 k) refl))
+upper-one s s′ v h k p = rw (upper-bytes v, le-ltb v 0x10000 h, lt-ltb v 0x100000 k) p
 
 pub upper-two : (s s₁ s₂ : Sink) (v : ℕ) → 0x10000 ≤ v → 0x100000 ≤ v → s₁ ≡ emit s (digit (v / 0x100000) ∷ []) → s₂ ≡ emit s₁ (digit (v / 0x10000) ∷ []) → s₂ ≡ emit s (bytesOf (upperDigits v))
 unfolding upperBytes
-upper-two s s₁ s₂ v h k p q =
-    then-emit s s₁ s₂ (digit (v / 0x100000) ∷ []) (digit (v / 0x10000) ∷ []) p q
-    ∙ ap (emit s) (sym (ap bytesOf (upper-is v) ∙ asciis-bytes (upperBytes v) ∙ rw (le-ltb v 0x10000 h, le-ltb v 0x100000 k) refl))
+upper-two s s₁ s₂ v h k p q = rw (upper-bytes v, le-ltb v 0x10000 h, le-ltb v 0x100000 k) (then-emit s s₁ s₂ (digit (v / 0x100000) ∷ []) (digit (v / 0x10000) ∷ []) p q)
 
 pub lower-pushed : (s s₁ s₂ s₃ s₄ : Sink) (v : ℕ) → s₁ ≡ emit s (digit (v / 0x1000) ∷ []) → s₂ ≡ emit s₁ (digit (v / 0x100) ∷ []) → s₃ ≡ emit s₂ (digit (v / 0x10) ∷ []) → s₄ ≡ emit s₃ (digit v ∷ [])
     → s₄ ≡ emit s (digit (v / 0x1000) ∷ digit (v / 0x100) ∷ digit (v / 0x10) ∷ digit v ∷ [])
-unfolding emit
-lower-pushed s s₁ s₂ s₃ s₄ v p q r t = rw (t, r, q, p) refl
+lower-pushed s s₁ s₂ s₃ s₄ v p q r t = then-emit s s₁ s₄ _ _ p (then-emit s₁ s₂ s₄ _ _ q (then-emit s₂ s₃ s₄ _ _ r t))
 
 pub mark-pushed : (s s₁ s₂ s₃ s₄ : Sink) (v : ℕ) → s₁ ≡ emit s (0x3C ∷ 0x55 ∷ 0x2B ∷ []) → s₂ ≡ emit s₁ (bytesOf (upperDigits v))
     → s₃ ≡ emit s₂ (digit (v / 0x1000) ∷ digit (v / 0x100) ∷ digit (v / 0x10) ∷ digit v ∷ []) → s₄ ≡ put s₃ 0x3E → s₄ ≡ emit s (bytesOf (scalarMark v))
 unfolding markBytes lowerBytes
 mark-pushed s s₁ s₂ s₃ s₄ v p q r t =
-    let u : s₂ ≡ emit s₁ (upperBytes v) = q ∙ ap (emit s₁) (ap bytesOf (upper-is v) ∙ asciis-bytes (upperBytes v)) in
-    let w : s₄ ≡ emit s₂ (lowerBytes v ++ 0x3E ∷ []) = then-emit s₂ s₃ s₄ (lowerBytes v) (0x3E ∷ []) r (t ∙ sym (emit-one s₃ 0x3E)) in
-    then-emit s s₁ s₄ (0x3C ∷ 0x55 ∷ 0x2B ∷ []) (upperBytes v ++ (lowerBytes v ++ 0x3E ∷ [])) p (then-emit s₁ s₂ s₄ (upperBytes v) (lowerBytes v ++ 0x3E ∷ []) u w)
-    ∙ ap (emit s) (sym (ap bytesOf (mark-is v) ∙ asciis-bytes (markBytes v)))
+    let u : s₂ ≡ emit s₁ (upperBytes v) = q ∙ ap (emit s₁) (upper-bytes v) in
+    let w : s₄ ≡ emit s₂ (lowerBytes v ++ 0x3E ∷ []) = then-put s₂ s₃ s₄ (lowerBytes v) 0x3E r t in
+    rw (mark-bytes v) (then-emit s s₁ s₄ (0x3C ∷ 0x55 ∷ 0x2B ∷ []) (upperBytes v ++ (lowerBytes v ++ 0x3E ∷ [])) p (then-emit s₁ s₂ s₄ (upperBytes v) (lowerBytes v ++ 0x3E ∷ []) u w))
 
 -- ---- its bytes are printable, and at most ten
 
@@ -140,33 +133,21 @@ mark-length v = rw (length-append (upperBytes v) (lowerBytes v ++ 0x3E ∷ [])) 
 
 -- ---- a mark that was composed in ten zeros
 
-abbrev countOf : Sink → ℕ
-countOf (sink l r) = r
-
-abbrev listOf : Sink → List ℕ
-listOf (sink l r) = l
-
 module _ (mark : List ℕ) (n v : ℕ) (e : sink mark n ≡ emit (sink (replicate 10 0) 0) (bytesOf (scalarMark v))) where
-  mark-sink : sink mark n ≡ sink (written (replicate 10 0) 0 (markBytes v)) (0 + length (markBytes v))
-  mark-sink = e ∙ ap (emit (sink (replicate 10 0) 0)) (ap bytesOf (mark-is v) ∙ asciis-bytes (markBytes v)) ∙ emit-room (replicate 10 0) (markBytes v) 0 (omega (arith, mark-length v))
-
-  mark-count : n ≡ length (markBytes v)
-  mark-count = omega (arith, ap countOf mark-sink)
+  mark-fitted : (n ≡ length (markBytes v)) × (mark ≡ markBytes v ++ drop (length (markBytes v)) (replicate 10 0))
+  mark-fitted = fitted (replicate 10 0) (markBytes v) mark n (e ∙ ap (emit (sink (replicate 10 0) 0)) (mark-bytes v)) (mark-length v)
 
   mark-front : take n mark ≡ markBytes v
-  mark-front = rw (mark-count, ap listOf mark-sink) (take-append-seam (markBytes v) (drop (0 + length (markBytes v)) (replicate 10 0)))
+  mark-front = rw (mark-fitted .0, mark-fitted .1) (take-append-seam (markBytes v) (drop (length (markBytes v)) (replicate 10 0)))
 
   pub mark-inside : n ≤ length mark
-  mark-inside = rw (ap listOf mark-sink, length-append (markBytes v) (drop (0 + length (markBytes v)) (replicate 10 0))) (omega (arith, mark-count))
-
-  mark-fits : n ≤ 10
-  mark-fits = omega (arith, mark-count, mark-length v)
+  mark-inside = rw (mark-fitted .1, length-append (markBytes v) (drop (length (markBytes v)) (replicate 10 0))) (omega (arith, mark-fitted .0))
 
   pub mark-slice : n ≡ length (take n mark)
   mark-slice = sym (length-take-le n mark mark-inside)
 
   mark-text : textAt (take n mark) 0 ≡ scalarMark v
-  mark-text = ap (λ (l : List ℕ). runOf (decode l)) mark-front ∙ run-printable (markBytes v) (mark-printable v) ∙ sym (mark-is v)
+  mark-text = ap (λ (l : List ℕ). runOf (decode l)) mark-front ∙ run-printable (all-printable (markBytes v) (mark-printable v)) ∙ sym (mark-is v)
 
   pub mark-ready : (t : AttributeState) → t .position .0 + 20 < 2 ^ 64 → ColumnsReady (take n mark) t
   mark-ready t h = record { printable = rw mark-front (mark-printable v); room = rw mark-front (omega (arith, mark-length v)) }
@@ -176,7 +157,7 @@ module _ (mark : List ℕ) (n v : ℕ) (e : sink mark n ≡ emit (sink (replicat
   mark-wrote w l l′ at r t t′ h = rw mark-text at h
 
 mark-width : (w : Window) (v : ℕ) → widthOf (profileOf (w .profile)) (scalarMark v) ≤ 10
-mark-width w v = rw (mark-is v, printable-width (w .profile) (markBytes v) (mark-printable v)) (mark-length v)
+mark-width w v = rw (mark-is v, printable-width _ (ascii-classes (w .profile)) (all-printable (markBytes v) (mark-printable v))) (mark-length v)
 
 -- ---- a mark for each scalar
 
@@ -219,20 +200,18 @@ module _ {w : Window} {s l₀ : List ℕ} {at₀ : ℕ} {t₀ : AttributeState} 
 
 -- ---- the mark of a byte, and a tab's spaces
 
-printable-of : (n m : ℕ) → n ≤ m → allPrintable (take n (replicate m 0x20)) ≡ true
-unfolding allPrintable
-printable-of zero m h = refl
-printable-of (suc n) zero h = refl
-printable-of (suc n) (suc m) h = printable-of n m (omega arith)
+take-spaces : (n m : ℕ) → n ≤ m → take n (replicate m 0x20) ≡ replicate {A = ℕ} n 0x20
+take-spaces zero m h = refl
+take-spaces (suc n) zero h = absurd (omega arith)
+take-spaces (suc n) (suc m) h = ap (λ (l : List ℕ). 0x20 ∷ l) (take-spaces n m (omega arith))
 
-spaces-of : (n m : ℕ) → n ≤ m → asciis (take n (replicate m 0x20)) ≡ spaces n
-unfolding asciis
-spaces-of zero m h = refl
-spaces-of (suc n) zero h = absurd (omega arith)
-spaces-of (suc n) (suc m) h = ap (λ (l : List Scalar). ascii 0x20 ∷ l) (spaces-of n m (omega arith))
+spaces-printable : (n : ℕ) → allPrintable (replicate n 0x20) ≡ true
+unfolding allPrintable
+spaces-printable zero = refl
+spaces-printable (suc n) = spaces-printable n
 
 spaces-take : (n : ℕ) → n ≤ 8 → (allPrintable (take n eightSpaces) ≡ true) × (textAt (take n eightSpaces) 0 ≡ spaces n)
-spaces-take n h = let p = printable-of n 8 h in (p, run-printable (take n eightSpaces) p ∙ spaces-of n 8 h)
+spaces-take n h = rw (take-spaces n 8 h) (spaces-printable n, run-printable (all-printable (replicate n 0x20) (spaces-printable n)) ∙ asciis-replicate n 0x20)
 
 pub composed-tab : (out : List ℕ) (kind byte p : ℕ) → out ≡ eightSpaces → kind ≡ 10 → Composed out kind byte p (8 - p % 8)
 composed-tab out kind byte p e k =
@@ -241,7 +220,7 @@ composed-tab out kind byte p e k =
 
 pub composed-mark : (out : List ℕ) (kind byte p h l : ℕ) → out ≡ eightSpaces → (kind ≢ 10) → byte < 256 → h ≡ numbers.hexDigit (byte / 16) → l ≡ numbers.hexDigit (byte % 16)
     → Composed (set (set (set (set out 0 0x3C) 1 h) 2 l) 3 0x3E) kind byte p 4
-unfolding byteMark allPrintable asciis
+unfolding byteMark allPrintable
 composed-mark out kind byte p h l e k b f g =
     let hi : printable h ≡ true = rw f (let m : byte / 16 % 16 ≡ byte / 16 = omega arith in rw m at (digit-printable (byte / 16))) in
     let lo : printable l ≡ true = rw g (digit-printable byte) in
@@ -250,7 +229,7 @@ composed-mark out kind byte p h l e k b f g =
       fits = omega arith;
       small = omega arith;
       printable = all;
-      same = rw (ne-eqb kind 10 k) (run-printable (0x3C ∷ h ∷ l ∷ 0x3E ∷ []) all ∙ rw (digit-is (byte / 16), digit-is (byte % 16), f, g) refl);
+      same = rw (ne-eqb kind 10 k) (run-printable (all-printable (0x3C ∷ h ∷ l ∷ 0x3E ∷ []) all) ∙ rw (f, g) (simp (digit-is, asciis-cons, asciis-nil)));
     }
 
 pub composed-style : (kind : ℕ) → kind ≡ 10 → File ≡ composedStyle kind

@@ -11,11 +11,10 @@ use lib.Dec.{eqb, leb}
 use borrow.Author.Tests.{eq-eqb, ne-eqb, le-leb, lt-leb}
 use Rattle.text.specs.Tests.{cases}
 use Rattle.text.specs.Class.{Profile}
-use Rattle.spans.specs.Sgr.{parameters, allowed, orders}
-use Rattle.spans.specs.Sequence.{Sequence, sgr, eraseToEnd, ignored, hyperlink, lineDrawing, Found, found, missing, leading, past, parameterByte, idByte, uriByte, final, ifKnown, erase, csi, charset, closed, osc, parse}
+use Rattle.spans.specs.Sequence.{Sequence, sgr, eraseToEnd, ignored, hyperlink, lineDrawing, Found, found, missing, parse}
+use Rattle.spans.specs.Sequence.Laws.{parse-length, parse-link}
 use Rattle.spans.specs.Sgr.Contracts.{ordersAt}
-use Rattle.spans.specs.Sequence.Contracts.{sequenceOf}
-use Rattle.spans.specs.declared.sgr.Sgr.{Sgr}
+use Rattle.spans.specs.Sequence.Contracts.{sequenceOf, sequence-link}
 use Rattle.spans.specs.declared.sequence.Sequence as sequence
 use Rattle.spans.specs.declared.sequence.Sequence.the-variants as sequences
 use Rattle.drawing.specs.Attributes.{linked}
@@ -27,84 +26,17 @@ use Rattle.drawing.specs.declared.state.AttributeState.{AttributeState}
 
 -- ---- the place of a hyperlink's URI lies near
 
-unfoldable linkPlace : Found → ℕ
-linkPlace missing = 0
-linkPlace (found (hyperlink a n) k) = a
-linkPlace (found (sgr os) k) = 0
-linkPlace (found eraseToEnd k) = 0
-linkPlace (found ignored k) = 0
-linkPlace (found (lineDrawing b) k) = 0
-
-leading-le : (p : ℕ → Bool) (s : List ℕ) → leading p s ≤ length s
-unfolding leading
-leading-le p [] = omega arith
-leading-le p (b ∷ s) = cases (p b) (λ e. rw e (omega (arith, leading-le p s))) (λ e. rw e (omega arith))
-
-past-le : (s : List ℕ) → past idByte s 2 ≤ 2 + length s
-unfolding past
-past-le s = omega (arith, leading-le idByte (drop 2 s), length-drop 2 s)
-
-ifKnown-le : (os : List Sgr) (n m : ℕ) → linkPlace (ifKnown os n) ≤ m
-unfolding linkPlace ifKnown
-ifKnown-le [] n m = omega arith
-ifKnown-le (o ∷ os) n m = omega arith
-
-erase-le : (n a m : ℕ) → linkPlace (erase n a) ≤ m
-unfolding linkPlace erase
-erase-le n a m =
-    cases (eqb n 0 || (eqb n 1 && eqb a 0x30)) (λ e. rw e (omega arith))
-    (λ e. cases (eqb n 1 && (eqb a 0x31 || eqb a 0x32)) (λ f. rw (e, f) (omega arith)) (λ f. rw (e, f) (omega arith)))
-
-csi-le : (s : List ℕ) (m : ℕ) → linkPlace (csi s) ≤ m
-unfolding csi linkPlace
-csi-le s m =
-    let n : ℕ = leading parameterByte s in
-    let f : ℕ = getD s n 0 in
-    cases (eqb f 0x6D)
-    (λ e. cases (allowed (parameters 0 s)) (λ g. rw (e, g) (ifKnown-le (orders (parameters 0 s)) n m)) (λ g. rw (e, g) (omega arith)))
-    (λ e. cases (eqb f 0x4B) (λ g. rw (e, g) (erase-le n (getD s 0 0) m)) (λ g. cases (final f) (λ h. rw (e, g, h) (omega arith)) (λ h. rw (e, g, h) (omega arith))))
-
-charset-le : (s : List ℕ) (m : ℕ) → linkPlace (charset s) ≤ m
-unfolding charset linkPlace
-charset-le s m = cases (eqb (getD s 0 0) 0x30) (λ e. rw e (omega arith)) (λ e. cases (eqb (getD s 0 0) 0x42) (λ f. rw (e, f) (omega arith)) (λ f. rw (e, f) (omega arith)))
-
-closed-le : (p e b c m : ℕ) → 2 + p ≤ m → linkPlace (closed p e b c) ≤ m
-unfolding closed linkPlace
-closed-le p e b c m h = cases (eqb b 0x07) (λ f. rw f h) (λ f. cases (eqb b 0x1B && eqb c 0x5C) (λ g. rw (f, g) h) (λ g. rw (f, g) (omega arith)))
-
-osc-le : (s : List ℕ) (m : ℕ) → length s + 5 ≤ m → linkPlace (osc s) ≤ m
-unfolding osc linkPlace
-osc-le s m h =
-    let i : ℕ = past idByte s 2 in
-    let e : ℕ = past uriByte s (i + 1) in
-    cases (eqb (getD s 0 0) 0x38 && (eqb (getD s 1 0) 0x3B && eqb (getD s i 0) 0x3B))
-    (λ f. rw f (closed-le (i + 1) e (getD s e 0) (getD s (e + 1) 0) m (omega (arith, past-le s))))
-    (λ f. rw f (omega arith))
-
-parse-le : (s : List ℕ) (m : ℕ) → length s + 5 ≤ m → linkPlace (parse s) ≤ m
-unfolding parse linkPlace
-parse-le s m h =
-    cases (eqb (getD s 0 0) 0x5B) (λ e. rw e (csi-le (drop 1 s) m))
-    (λ e. cases (eqb (getD s 0 0) 0x28) (λ f. rw (e, f) (charset-le (drop 1 s) m))
-    (λ f. cases (eqb (getD s 0 0) 0x5D) (λ g. rw (e, f, g) (osc-le (drop 1 s) m (omega (arith, length-drop 1 s)))) (λ g. rw (e, f, g) (omega arith))))
-
-link-place : (f : Found) (p n k : ℕ) → sequenceOf f ≡ sequences.Hyperlink p n k → linkPlace f ≡ p
-unfolding sequenceOf linkPlace
-link-place missing p n k e = cc
-link-place (found (hyperlink a m) j) p n k e = cc
-link-place (found (sgr os) j) p n k e = cc
-link-place (found eraseToEnd j) p n k e = cc
-link-place (found ignored j) p n k e = cc
-link-place (found (lineDrawing b) j) p n k e = cc
-
 slice-is : (line : List ℕ) (place : ℕ) → slice (place + 1) (length line) line ≡ drop (place + 1) line
 slice-is line place = ap (drop (place + 1)) (take-all (length line) line (omega arith))
 
 pub linkable : (line : List ℕ) (place : ℕ) (q : sequence.Sequence) → length line ≤ 32768 → place < length line → q ≡ sequenceOf (parse (slice (place + 1) (length line) line)) → Linkable place q
 linkable line place q h k e =
+    let s : List ℕ = slice (place + 1) (length line) line in
     record {
       near = omega arith;
-      from = λ p n m f. omega (arith, link-place (parse (slice (place + 1) (length line) line)) p n m (sym e ∙ f), parse-le (slice (place + 1) (length line) line) 65536 (omega (arith, ap length (slice-is line place), length-drop (place + 1) line)));
+      from = λ p n m f.
+          let g : parse s ≡ found (hyperlink p n) m = sequence-link (parse s) p n m (sym e ∙ f) in
+          omega (arith, parse-link s p n m g, parse-length s (hyperlink p n) m g, ap length (slice-is line place), length-drop (place + 1) line);
     }
 
 -- ---- apply_hyperlink
@@ -126,7 +58,7 @@ record-past : (line : List ℕ) (kind place : ℕ) → length line ≤ place →
 unfolding recordSequence
 record-past line kind place h = rw (le-leb (length line) place h) refl
 
-record-here : (line : List ℕ) (kind place : ℕ) → place < length line → recordSequence line kind place
+pub record-here : (line : List ℕ) (kind place : ℕ) → place < length line → recordSequence line kind place
     ≡ cond (eqb kind 6) (sgr (ordersAt line (record { at = place + 2; further = true }))) (cond (eqb kind 7) (linkIn (parse (drop (place + 1) line))) (cond (eqb kind 8) (lineDrawing (eqb (getD line (place + 2) 0) 0x30)) (cond (eqb kind 13) eraseToEnd ignored)))
 unfolding recordSequence
 record-here line kind place h = rw (lt-leb (length line) place h) refl

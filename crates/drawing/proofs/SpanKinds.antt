@@ -18,6 +18,7 @@ use Rattle.text.specs.TextParts.{textAt}
 use Rattle.text.specs.declared.class.Profile as profile
 use Rattle.spans.specs.Spans.{Record}
 use Rattle.spans.specs.Spans.ContentLaw.{textIn}
+use Rattle.spans.specs.Spans.RecordSpans.{textIn-is}
 use Rattle.drawing.specs.Draw.{State, Sent, sent, writeTruncated, writeMarks, renderSequence}
 use Rattle.drawing.specs.Contracts.{styleOf, stateOf, Wrote, shownText, WriteReady, writing, composedText, composedStyle, ComposedWrote, marking, MarksWrote}
 use Rattle.drawing.specs.Rendering.{recordStyle, recordSequence, SequenceDone, SpanReady, renderRecord, SpanDrawn}
@@ -27,7 +28,7 @@ use Rattle.drawing.specs.declared.state.Stepped.{Stepped}
 use Rattle.drawing.specs.declared.render.Rendering.{Rendering}
 use Rattle.drawing.proofs.LineDrawing.{lineDrawn-width}
 use Rattle.drawing.proofs.Sequences.{sequence-position}
-use Rattle.drawing.proofs.Writing.{wrote-none, written-position}
+use Rattle.drawing.proofs.WindowTexts.{wrote-none, written-position}
 
 shown-width : (f : profile.Profile) (s : List ℕ) (d : Bool) → widthOf (profileOf f) (shownText d (textAt s 0)) ≤ 2 * length s
 shown-width f s d =
@@ -68,8 +69,7 @@ module _ (d : Rendering) (buffer l : List ℕ) (t : Stepped) (r : Record) (ready
   text-is u b = rw b refl
 
   part-text : (s : List ℕ) → s ≡ part → textIn (r .len) (drop (r .place .0) line) ≡ textAt s 0
-  unfolding textIn
-  part-text s e = rw e refl
+  part-text s e = rw e (textIn-is (r .len) (drop (r .place .0) line))
 
   pub span-text : (s : List ℕ) (k : code.Style) (l′ : List ℕ) (t′ : Stepped) → s ≡ part → (eqb (r .kind) 1 || eqb (r .kind) 2) ≡ true → k ≡ recordStyle (r .kind) (d .current) (r .matched)
       → Wrote l (t .at) (t .state) (writing (d .window) s (t .state) k) l′ (t′ .at) (t′ .state) → SpanDrawn d buffer l t r l′ t′
@@ -91,7 +91,7 @@ module _ (d : Rendering) (buffer l : List ℕ) (t : Stepped) (r : Record) (ready
   span-composed b l′ t′ e p q h = record { wrote = rw (composed-is (stateOf (t .state)) p q, ← e) (h .wrote); near = omega (arith, h .near) }
 
   pub span-marks : (s : List ℕ) (l′ : List ℕ) (t′ : Stepped) → s ≡ part → r .kind ≡ 5 → MarksWrote (d .window) s l (t .at) (t .state) l′ t′ → SpanDrawn d buffer l t r l′ t′
-  unfolding renderRecord textIn
+  unfolding renderRecord
   span-marks s l′ t′ e k h = record { wrote = rw (k, ← e) (h .wrote); near = omega (arith, h .near, part-length s e) }
 
   pub span-sequence : (u : AttributeState) → (eqb (r .kind) 1 || eqb (r .kind) 2) ≡ false → (eqb (r .kind) 3 || (eqb (r .kind) 4 || eqb (r .kind) 10)) ≡ false → (r .kind ≢ 5)

@@ -6,14 +6,13 @@ use mathlib.Core.List.{List}
 use lib.ListN.{length, take}
 use lib.Dec.{eqb, leb, ltb}
 use Rattle.buffer.specs.Sink.{sink, emit}
-use Rattle.text.specs.Each.{All}
 use Rattle.text.specs.Width.{profile01}
 use Rattle.text.specs.declared.Answer.{Answer}
 use Rattle.text.specs.declared.Column.{Column}
-use Rattle.spans.specs.Spans.{Span, Record, recordOf, records}
-use Rattle.spans.specs.Spans.ContentLaw.{contentOf}
+use Rattle.spans.specs.Spans.{Span, Record, records}
+use Rattle.spans.specs.Spans.RecordSpans.{spansIn}
 use Rattle.rows.specs.Calls.{modeOf, modeAndWidth}
-use Rattle.rows.specs.Contracts.{lineRoom}
+use Rattle.rows.specs.Calls.Contracts.{lineRoom}
 use Rattle.rows.specs.declared.wrap.Tally.{Tally}
 use Rattle.rows.specs.declared.wrap.Wrapping.{Wrapping}
 use Rattle.drawing.specs.Change.{Change, encode}
@@ -93,11 +92,16 @@ renderingOf q y len = cond (q .wrapped) (rowsRendering q y len) (windowRendering
 abbrev pub spansWrapped : Request → ℕ → ℕ
 spansWrapped q n = cond (q .wrapped) n 0
 
--- the spans of a converted line at the front of a buffer, and a request in limits
-pub record RowsRoom (spans : List Record) (buffer : List ℕ) (q : Request) (n : ℕ) : Type 0 where
+-- the spans that the first n records stand for, of the line at the front of a buffer
+abbrev pub firstSpans : List Record → List ℕ → ℕ → List Span
+firstSpans spans buffer n = spansIn (take (lineRoom (length buffer)) buffer) (take n spans)
+
+-- records of spans of that line, and a request in limits
+pub record RenderWrappedRoom (spans : List Record) (buffer : List ℕ) (q : Request) (n : ℕ) : Type 0 where
   pub there : n ≤ length spans
   pub few : n ≤ 32768
   pub limits : InLimits q
+  pub held : records (firstSpans spans buffer n) ≡ take n spans
 
 -- the changes of a request, by the definitions
 unfoldable pub changesOf : Request → List Span → List Change
@@ -109,10 +113,6 @@ changesOf q ss =
 pub record Drew (cs : List Change) (l l′ : List ℕ) (r : Drawn) : Type 0 where
   pub bytes : sink l′ (r .at) ≡ emit (sink l 0) (encode cs)
   pub torn : r .torn ≡ not (change.whole cs)
-
--- spans that hold what their records say of the line are drawn as the definitions say
-pub record RenderedLine (q : Request) (buffer : List ℕ) (rs : List Record) (l l′ : List ℕ) (r : Drawn) : Type 0 where
-  pub drew : (ss : List Span) → rs ≡ records ss → All (λ (s : Span). contentOf (take (lineRoom (length buffer)) buffer) (recordOf s) ≡ s .content) ss → Drew (changesOf q ss) l l′ r
 
 -- the number: what `read` decides, or else questions 5 and 7, 8 and 9
 unfoldable pub decided : (asked read : ℕ) → Drawn → (room : ℕ) → ℕ

@@ -11,6 +11,7 @@ use Rattle.spans.specs.Spans.{Span, spans, Record, records}
 use Rattle.spans.specs.Calls.{Read, question4, noRecord}
 use Rattle.rows.specs.Rows.{Row, Mode, unwrapped, graphemeBoundary, wordBoundary, rows}
 pub mod Laws
+pub mod Contracts
 pub mod Reading
 
 -- the modes by number

@@ -1,4 +1,5 @@
 pub mod Words
 pub mod Rows
 pub mod Calls
-pub mod Contracts
+pub mod Wrap
+pub mod Numbers

@@ -5,6 +5,7 @@ use lib.Dec.{eqb}
 use Rattle.text.specs.Utf8.{Scalar}
 use Rattle.text.specs.Class.{whitespace}
 pub mod Laws
+pub mod Contracts
 
 pub record Word : Type 0 where
   pub word : List Scalar

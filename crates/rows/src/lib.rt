@@ -19,7 +19,7 @@ ghost use Rattle.spans.specs.Calls.{noRecord};
 ghost use Rattle.spans.specs.Calls.Contracts.{readAs};
 ghost use Rattle.rows.specs.Calls.{modeAndWidth, rowsCall, heightCall};
 ghost use Rattle.buffer.specs.Sink.{cleared};
-ghost use Rattle.rows.specs.Contracts.{wrappingOf, decided, outcomeOf, answerOf, wrappedAs, Called};
+ghost use Rattle.rows.specs.Calls.Contracts.{wrappingOf, decided, outcomeOf, answerOf, wrappedAs, Called};
 
 pub mod numbers;
 pub mod words;

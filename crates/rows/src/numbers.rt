@@ -7,7 +7,7 @@ ghost use lib.ListN.{length};
 ghost use Rattle.text.specs.Width.{profile01};
 ghost use Rattle.spans.specs.Numbers.{placesIn, ReadNumbers};
 ghost use Rattle.rows.specs.Calls.{rowsCall, heightCall};
-ghost use Rattle.rows.specs.Contracts.{RowsNumbers};
+ghost use Rattle.rows.specs.Numbers.{RowsNumbers};
 
 pub fn rows_numbers(
     line: &[u8],

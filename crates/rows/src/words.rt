@@ -11,7 +11,7 @@ ghost use Prim.Native.Nat.{_<_};
 ghost use lib.ListN.{length};
 ghost use Rattle.text.specs.Code.{profileOf};
 ghost use Rattle.rows.specs.Words.Laws.{belongs};
-ghost use Rattle.rows.specs.Contracts.{byteBelongs, WordAt};
+ghost use Rattle.rows.specs.Words.Contracts.{byteBelongs, WordAt};
 
 // Is x a scalar of a separator, or else of a word before a `-`?
 fn belongs(sep: bool, x: u32) -> bool

@@ -16,7 +16,7 @@ ghost use Rattle.text.specs.TextParts.{textAt};
 ghost use Rattle.rows.specs.Words.Laws.{firstWord};
 ghost use mathlib.Core.Bool.{cond};
 ghost use Rattle.rows.specs.Rows.{row, tabbed, pushed};
-ghost use Rattle.rows.specs.Contracts.{kept, keep, nextCount, tallied, Room, Stepped, advanced, unitOf, WordRoom, clustersOf, longWordOf, oneWordOf, wordsOf, textOf, spanOf, LastRow, beginning, SpanRoom, SpansRoom, MadeWrap};
+ghost use Rattle.rows.specs.Wrap.{kept, keep, nextCount, tallied, Room, Stepped, advanced, unitOf, WordRoom, clustersOf, longWordOf, oneWordOf, wordsOf, textOf, spanOf, LastRow, beginning, SpanRoom, SpansRoom, MadeWrap};
 
 // What is kept of the rows pushed: their number, the start of the row `first`, the end of the row `last`, the end of the row pushed last.
 pub struct Tally {
@@ -283,7 +283,7 @@ pub fn text_of<'a>(line: &'a [u8], place: BytePlace, len: usize) -> &'a [u8]
 }
 
 // One span.
-pub fn split_span(
+pub(crate) fn split_span(
     line: &[u8],
     rows: &mut [usize],
     wrapping: Wrapping,
@@ -315,7 +315,7 @@ pub fn split_span(
 }
 
 // The last row, unless it is empty and not the only one.
-pub fn last_row(rows: &mut [usize], wrapping: Wrapping, state: WrapState) -> Tally
+pub(crate) fn last_row(rows: &mut [usize], wrapping: Wrapping, state: WrapState) -> Tally
     ensures { λ r. ⌜ LastRow (now (rows .entry)) state (wrapping .mode) (now (rows .exit)) r ⌝ }
 {
     let start = state.start;

@@ -18,7 +18,7 @@ use Rattle.rows_io.proofs.Smaller.{smaller-first, smaller-second}
 use Rattle.text.specs.Width.{profile01}
 use Rattle.text.specs.declared.Answer.{Answer}
 use Rattle.rows.specs.Calls.{Wrapped, rowsCall}
-use Rattle.rows.specs.Contracts.{RowsNumbers}
+use Rattle.rows.specs.Numbers.{RowsNumbers}
 use Rattle.rows_io.specs.FirstLine.{widthOf}
 use Rattle.rows_io.specs.Output.{decimal, rowLine, rowLines, refusal, answerText, printed}
 use Rattle.rows_io.specs.declared.first_line.FirstLine.{FirstLine}

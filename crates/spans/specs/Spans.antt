@@ -15,6 +15,7 @@ pub mod Laws
 pub mod Noise
 pub mod ContentLaw
 pub mod FirstSpan
+pub mod RecordSpans
 pub mod Inside
 pub mod SpanCount
 pub mod ContentKinds

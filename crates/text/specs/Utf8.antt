@@ -9,6 +9,8 @@ pub mod Noise
 pub mod Valid
 pub mod Runs
 pub mod Ascii
+pub mod AsciiTexts
+pub mod FirstByte
 
 -- ---- the table of well-formed sequences
 

@@ -4,6 +4,7 @@ use mathlib.Core.Bool.{cond}
 use mathlib.Core.List.{List, [], _∷_}
 use Rattle.text.specs.Utf8.{Range, to, Scalar}
 use Rattle.text.specs.Class.{cr, lf, control, extend, zwj, classV, classT, number, among, Profile, inAny, class01}
+pub mod Symbols
 
 unfoldable pub wides : List Range
 wides =

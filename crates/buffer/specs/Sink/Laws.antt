@@ -46,6 +46,24 @@ emit-append s (x ∷ xs) ys = emit-append (put s x) xs ys
 pub then-emit : (s s′ s″ : Sink) (xs ys : List ℕ) → s′ ≡ emit s xs → s″ ≡ emit s′ ys → s″ ≡ emit s (xs ++ ys)
 then-emit s s′ s″ xs ys p q = q ∙ (rw (p, ← emit-append s xs ys))
 
+pub emit-put : (s s′ : Sink) (b : ℕ) → s′ ≡ put s b → s′ ≡ emit s (b ∷ [])
+unfolding emit
+emit-put s s′ b p = p
+
+pub then-put : (s s′ s″ : Sink) (xs : List ℕ) (b : ℕ) → s′ ≡ emit s xs → s″ ≡ put s′ b → s″ ≡ emit s (xs ++ b ∷ [])
+then-put s s′ s″ xs b p q = then-emit s s′ s″ xs (b ∷ []) p (emit-put s′ s″ b q)
+
+-- ---- a loop that writes one byte n times: a turn, and the end
+
+pub repeat-turn : (s s′ : Sink) (n b : ℕ) {e : Sink} → 0 < n → emit s (replicate n b) ≡ e → s′ ≡ put s b → emit s′ (replicate (n - 1) b) ≡ e
+unfolding emit
+repeat-turn s s′ zero b h p q = absurd (omega arith)
+repeat-turn s s′ (suc n) b h p q = let m : suc n - 1 ≡ n = omega arith in rw (m, q) p
+
+pub repeat-end : (s : Sink) (n b : ℕ) {e : Sink} → n ≤ 0 → emit s (replicate n b) ≡ e → s ≡ e
+unfolding emit
+repeat-end s n b h p = let z : n ≡ 0 = omega arith in rw z at p
+
 -- ---- a loop that writes what is left of xs, one by one: a turn, and the end
 
 pub emit-turn : (s s′ : Sink) (xs : List ℕ) (j : ℕ) {e : Sink} → j < length xs → emit s (drop j xs) ≡ e → s′ ≡ put s (getD xs j 0) → emit s′ (drop (j + 1) xs) ≡ e

@@ -1,4 +1,4 @@
-use Rattle.drawing.proofs.Calling.{start-fits}
+use Rattle.drawing.proofs.DrawCalls.{start-fits}
 use Rattle.lending.specs.Conditions.{branch}
 use Rattle.drawing.specs.Requests.{askedOf}
 use Rattle.drawing.proofs.asked.Statement.{statement}

@@ -32,7 +32,7 @@ use Rattle.drawing.proofs.Request as Q
 use Rattle.drawing.proofs.Request.Laws as Q′
 use Rattle.drawing.proofs.Outcome as O
 use Rattle.drawing.proofs.Outcome.Laws as O′
-use Rattle.drawing.proofs.Calling.{called-cleared}
+use Rattle.drawing.proofs.DrawCalls.{called-cleared}
 use Rattle.drawing.proofs.draw_line as line-of
 use Rattle.drawing.proofs.draw_line.Symbol as line-def
 use Rattle.drawing.proofs.draw_line.Met as line-thm

@@ -30,14 +30,14 @@ use Rattle.lending.specs.Functions.{W, asks, answers, walks}
 use Rattle.text.proofs.Answer as R
 use Rattle.text.proofs.Answer.Laws as R′
 use Rattle.spans.proofs.Span as T
-use Rattle.drawing.specs.Requests.{RowsRoom}
+use Rattle.drawing.specs.Requests.{RenderWrappedRoom}
 use Rattle.drawing.proofs.Request as Q
 use Rattle.drawing.proofs.Request.Laws as Q′
 use Rattle.drawing.proofs.Outcome as O
 use Rattle.drawing.proofs.Outcome.Laws as O′
 use Rattle.drawing.proofs.state.Drawn as D
 use Rattle.drawing.proofs.state.Drawn.Laws as D′
-use Rattle.drawing.proofs.Calling.{call-room, called}
+use Rattle.drawing.proofs.DrawCalls.{call-room, called}
 use Rattle.spans.proofs.read as read
 use Rattle.spans.proofs.read.Symbol as read-def
 use Rattle.spans.proofs.read.Met as read-thm
@@ -110,7 +110,7 @@ draw-line-spec 𝓤 H 𝓜 𝓖 𝓡 =
     owned ! Q.the-row (Is Q.the-row) (LL.makes Q.the-type Q′.the-plain 𝓤 H (𝓖 .A)) p _ (are .1 .1 .1 .1 .1 .0) $
     asks 𝓤 H 𝓜 𝓖 𝓡 code.env 0 of-limit (plain (λ _. Q.the-row)) (limit.clauses 𝓤 H (𝓖 .A) (𝓜 .mem) (𝓡 .run)) limit-def.name limit-def.routine code.calls-drawing·drawable (limit-thm.met 𝓤 H 𝓜 𝓖 𝓡) tt tt (p, tt) ! tt (id⊢ 𝓤 _)
     (gives ! refl (no-more !)) (a-struct W′ Q.the-type Q′.the-laws) (λ d t. t .0) (λ d d-is none. move ! (1 ∷ []) $ heard ! _ (λ d-of.
-    let enough = call-room (length (now conv)) (length (now spans)) (now matches) (now line) c zs ws e p d d-of in
+    let enough = call-room (length (now conv)) (length (now spans)) (now matches) (now line) c zs ws e p d d-of l in
     -- `render_wrapped`: the span list and the buffer are lent as a `&`, the change list goes for good
     rewrite ! 2 (λ (n : ℕ). ‵ (MutSlice (named 3) κ′ T.the-row .own (record { ptr = ptr spans; name = name spans; now = ws }) (sliceVal (ptr spans) n ∷ []))) (sym l′) refl $
     rewrite ! 4 (λ (n : ℕ). ‵ (MutSlice (named 2) κ u8 .own (record { ptr = ptr conv; name = name conv; now = zs }) (sliceVal (ptr conv) n ∷ []))) (sym l) refl $
@@ -118,7 +118,7 @@ draw-line-spec 𝓤 H 𝓜 𝓖 𝓡 =
     move ! (5 ∷ 6 ∷ []) $ shows-on ! tt u8 κ q (name conv) (ptr conv .0) (ptr conv .1) (named 2) (named 1) zs (λ ξ′ η′.
     owned ! usize (Is usize) (uint-makes 𝓤 H (𝓖 .A) W′ w64) (c .count) _ (refl, omega (arith, l′, room′ .0, enough .there)) $ move ! (4 ∷ 1 ∷ 12 ∷ 5 ∷ 2 ∷ 13 ∷ 8 ∷ 0 ∷ 7 ∷ []) $
     asks 𝓤 H 𝓜 𝓖 𝓡 code.env 3 of-render (plain (λ _. D.the-row)) (render.clauses 𝓤 H (𝓖 .A) (𝓜 .mem) (𝓡 .run)) render-def.name render-def.routine code.calls-drawing·render-wrapped (render-thm.met 𝓤 H 𝓜 𝓖 𝓡)
-    (ξ ∷ [], (ξ′ ∷ [], (κ″, tt))) (fullShare, (fullShare, (q″, tt))) (record { ptr = ptr spans; name = η; now = ws }, (record { ptr = ptr conv; name = η′; now = zs }, (list, (d, (c .count, tt))))) ! tt (factI 𝓤 (RowsRoom ws zs d (c .count)) (emp 𝓤) enough)
+    (ξ ∷ [], (ξ′ ∷ [], (κ″, tt))) (fullShare, (fullShare, (q″, tt))) (record { ptr = ptr spans; name = η; now = ws }, (record { ptr = ptr conv; name = η′; now = zs }, (list, (d, (c .count, tt))))) ! tt (factI 𝓤 (RenderWrappedRoom ws zs d (c .count)) (emp 𝓤) enough)
     (gives ! refl (gives ! refl (gives ! refl (gives ! refl (and-then ! (load ! (from ! (fld ! refl (stop !))) (look-in ! 1 (sub ! 1 refl (local-part ! 7 refl)))) (no-more !)))))) (a-struct W′ D.the-type D′.the-laws) (λ r t. t .0) (λ r r-is us.
     move ! (5 ∷ []) $ heard ! _ (λ made. move ! (3 ∷ []) $ fsplit ! $ move ! (1 ∷ []) $ feqL ! (λ l″. feqI ! ℕ (length (us .1 .1 .0)) (length (now list)) l″ $ move ! (1 ∷ 0 ∷ []) $ fjoin ! $
     -- [what is left in list; two tokens; list's token; the locals; what is drawn; what the lender keeps of each; two tokens; the answer; the request; …]

@@ -1,4 +1,4 @@
-use Rattle.drawing.proofs.Calling.{outcome-accepted, outcome-refused}
+use Rattle.drawing.proofs.DrawCalls.{outcome-accepted, outcome-refused}
 use borrow.Author.Needs.{needs}
 use Rattle.drawing.proofs.outcome_of.Statement.{statement}
 use Rattle.drawing.proofs.outcome_of.Tie as tie

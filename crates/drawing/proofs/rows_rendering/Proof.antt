@@ -1,4 +1,4 @@
-use Rattle.drawing.proofs.Calling.{area-fits, rows-is}
+use Rattle.drawing.proofs.DrawCalls.{area-fits, rows-is}
 use borrow.Author.Needs.{needs}
 use Rattle.drawing.proofs.rows_rendering.Statement.{statement}
 use Rattle.drawing.proofs.rows_rendering.Tie as tie

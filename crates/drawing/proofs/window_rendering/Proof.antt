@@ -1,4 +1,4 @@
-use Rattle.drawing.proofs.Calling.{window-is}
+use Rattle.drawing.proofs.DrawCalls.{window-is}
 use borrow.Author.Needs.{needs}
 use Rattle.drawing.proofs.window_rendering.Statement.{statement}
 use Rattle.drawing.proofs.window_rendering.Tie as tie

@@ -1,4 +1,4 @@
-use Rattle.drawing.proofs.Calling.{bounds-is}
+use Rattle.drawing.proofs.DrawCalls.{bounds-is}
 use borrow.Author.Needs.{needs}
 use Rattle.drawing.proofs.wrap_bounds_for_rows.Statement.{statement}
 use Rattle.drawing.proofs.wrap_bounds_for_rows.Tie as tie

@@ -1,4 +1,4 @@
-use Rattle.drawing.proofs.Calling.{wrapping-is}
+use Rattle.drawing.proofs.DrawCalls.{wrapping-is}
 use borrow.Author.Needs.{needs}
 use Rattle.drawing.proofs.wrapping.Statement.{statement}
 use Rattle.drawing.proofs.wrapping.Tie as tie

@@ -32,7 +32,7 @@ use Rattle.rows.proofs.Request as Q
 use Rattle.rows.proofs.Request.Laws as Q′
 use Rattle.rows.proofs.Outcome as O
 use Rattle.rows.proofs.Outcome.Laws as O′
-use Rattle.rows.proofs.Calling.{called-cleared}
+use Rattle.rows.proofs.RowsCall.{called-cleared}
 use Rattle.rows.proofs.wrap_line as line-of
 use Rattle.rows.proofs.wrap_line.Symbol as line-def
 use Rattle.rows.proofs.wrap_line.Met as line-thm

@@ -1,6 +1,6 @@
 use borrow.Author.Needs.{needs}
 use Rattle.lending.specs.Conditions.{branch}
-use Rattle.rows.specs.Contracts.{decided}
+use Rattle.rows.specs.Calls.Contracts.{decided}
 use Rattle.rows.proofs.decide.Statement.{statement}
 use Rattle.rows.proofs.decide.Tie as tie
 

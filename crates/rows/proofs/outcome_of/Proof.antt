@@ -1,7 +1,7 @@
 use borrow.Author.Needs.{needs}
 use Rattle.rows.proofs.outcome_of.Statement.{statement}
 use Rattle.rows.proofs.outcome_of.Tie as tie
-use Rattle.rows.proofs.Calling.{twice-fits, outcome-accepted, outcome-refused}
+use Rattle.rows.proofs.RowsCall.{twice-fits, outcome-accepted, outcome-refused}
 
 decide-requires : tie.Need-decide-requires
 decide-requires c κs = search needs

@@ -31,7 +31,7 @@ use Rattle.lending.specs.Functions.{W, asks, answers, walks}
 use Rattle.text.proofs.Answer as R
 use Rattle.text.proofs.Answer.Laws as R′
 use Rattle.spans.proofs.Span as T
-use Rattle.rows.specs.Contracts.{SpansRoom}
+use Rattle.rows.specs.Wrap.{SpansRoom}
 use Rattle.rows.proofs.Request as Q
 use Rattle.rows.proofs.Request.Laws as Q′
 use Rattle.rows.proofs.Outcome as O
@@ -42,7 +42,7 @@ use Rattle.rows.proofs.wrap.WrapState as S
 use Rattle.rows.proofs.wrap.WrapState.Laws as S′
 use Rattle.rows.proofs.wrap.Wrapping as G
 use Rattle.rows.proofs.wrap.Wrapping.Laws as G′
-use Rattle.rows.proofs.Calling.{call-room, called}
+use Rattle.rows.proofs.RowsCall.{call-room, called}
 use Rattle.rows.proofs.no_matches as none
 use Rattle.rows.proofs.no_matches.Symbol as none-def
 use Rattle.rows.proofs.no_matches.Met as none-thm

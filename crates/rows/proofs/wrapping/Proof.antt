@@ -1,7 +1,7 @@
 use borrow.Author.Needs.{needs}
 use Rattle.rows.proofs.wrapping.Statement.{statement}
 use Rattle.rows.proofs.wrapping.Tie as tie
-use Rattle.rows.proofs.Calling.{wrapping-is}
+use Rattle.rows.proofs.RowsCall.{wrapping-is}
 
 smaller-requires : tie.Need-smaller-requires
 smaller-requires c κs = search needs

@@ -20,7 +20,7 @@ use Rattle.spans.specs.Search as search
 use Rattle.spans.specs.Calls.{Read, readCall, noRecord}
 use Rattle.spans.specs.Calls.Laws.{read-accepted, read-refused, read-passed}
 use Rattle.spans.specs.Calls.Contracts.{readAs}
-use Rattle.rows.specs.Contracts.{lineRoom}
+use Rattle.rows.specs.Calls.Contracts.{lineRoom}
 
 module _ (size places : ℕ) (matches line : List ℕ) (a : Answer) (cs : List ℕ) (rs : List Record) (read : readAs a cs rs ≡ readCall profile01 size places matches line) where
   abbrev pub s : List ℕ
@@ -32,7 +32,7 @@ module _ (size places : ℕ) (matches line : List ℕ) (a : Answer) (cs : List �
   pub number-is : readCall profile01 size places matches line .number ≡ a .number
   number-is = sym (ap (λ (x : Read). x .number) read)
 
-  count-none : (r : ℕ) → a .number ≡ suc r → a .count ≡ 0
+  pub count-none : (r : ℕ) → a .number ≡ suc r → a .count ≡ 0
   count-none r e = ap (λ (x : Read). x .count) (read ∙ read-refused profile01 size places matches line r (number-is ∙ e))
 
   module _ (fine : a .number ≡ 0) where

@@ -19,7 +19,7 @@ use Rattle.spans.specs.Calls.{noRecord, readCall}
 use Rattle.spans.specs.Calls.Laws.{number-by}
 use Rattle.rows.specs.Calls.{Wrapped, rowsCall, modeAndWidth, modeOf, numbersOf}
 use Rattle.rows.specs.Calls.Laws.{rows-refused, rows-five, rows-six, rows-accepted}
-use Rattle.rows.specs.Contracts.Laws.{numbersOf-length}
+use Rattle.rows.specs.Wrap.Laws.{numbersOf-length}
 use Rattle.rows_io.specs.FirstLine.{widthOf}
 use Rattle.rows_io.specs.Input.{firstOf, lineOf, readInto, readInput}
 use Rattle.rows_io.specs.Output.{withoutZeros, decimal, rowLine, rowLines, refusal, answerText, printed, rowsProgram}

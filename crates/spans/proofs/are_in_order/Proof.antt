@@ -7,19 +7,15 @@ use Rattle.spans.proofs.are_in_order.Lts as lts
 use Rattle.spans.proofs.search.in_order.Reads as in-order-reads
 use Rattle.spans.proofs.search.searched_len.Reads as searched-len-reads
 
--- src/lib.rt:91:9
 returns : tie.Need-returns
 returns c = search in-order-none
 
--- src/lib.rt:93:23
 searched-len-requires : tie.Need-searched-len-requires
 searched-len-requires c κs = search needs
 
--- src/lib.rt:93:5
 in-order-requires : tie.Need-in-order-requires
 in-order-requires c κs = search needs
 
--- src/lib.rt:86:1
 returns-2 : tie.Need-returns-2
 returns-2 c = search in-order-is
 

@@ -7,27 +7,21 @@ use Rattle.spans.proofs.finish.Lts as lts
 use Rattle.buffer.proofs.clear_bytes.Reads as clear-bytes-reads
 use Rattle.spans.proofs.number_of.Reads as number-of-reads
 
--- src/lib.rt:206:9
 number-of-requires : tie.Need-number-of-requires
 number-of-requires c κs = search needs
 
--- src/lib.rt:209:9
 same-length : tie.Need-same-length
 same-length c = search needs
 
--- src/lib.rt:209:9
 returns : tie.Need-returns
 returns c = search finish-accepted
 
--- src/lib.rt:214:5
 clear-bytes-requires : tie.Need-clear-bytes-requires
 clear-bytes-requires c κs = search needs
 
--- src/lib.rt:202:1
 same-length-2 : tie.Need-same-length-2
 same-length-2 c = search needs
 
--- src/lib.rt:202:1
 returns-2 : tie.Need-returns-2
 returns-2 c = search finish-refused
 

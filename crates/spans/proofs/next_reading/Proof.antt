@@ -9,19 +9,15 @@ use Rattle.spans.proofs.next_reading.Lts as lts
 use Rattle.spans.proofs.places_for.Reads as places-for-reads
 use Rattle.spans.proofs.stretches.next_record.Reads as next-record-reads
 
--- src/lib.rt:139:49
 slice-aggregate-next-record : tie.Need-slice-aggregate-next-record
 slice-aggregate-next-record c = sym (length-take-le _ _ (search ongoing-fits))
 
--- src/lib.rt:139:9
 next-record-requires : tie.Need-next-record-requires
 next-record-requires c κs = search ongoing-ready
 
--- src/lib.rt:142:9
 places-for-requires : tie.Need-places-for-requires
 places-for-requires c κs = search needs
 
--- src/lib.rt:133:1
 returns : tie.Need-returns
 returns c = search ongoing-next
 

@@ -7,23 +7,18 @@ use Rattle.spans.proofs.number_of.Reads as reads
 use Rattle.spans.proofs.number_of.Lts as lts
 use Rattle.spans.proofs.stretches.has_next.Reads as has-next-reads
 
--- src/lib.rt:194:21
 slice-aggregate-has-next : tie.Need-slice-aggregate-has-next
 slice-aggregate-has-next c = sym (length-take-le _ _ (search number-fits))
 
--- src/lib.rt:194:12
 has-next-requires : tie.Need-has-next-requires
 has-next-requires c κs = search number-sound
 
--- src/lib.rt:195:13
 returns : tie.Need-returns
 returns c = search number-more
 
--- src/lib.rt:188:1
 returns-2 : tie.Need-returns-2
 returns-2 c = search number-all
 
--- src/lib.rt:188:1
 returns-3 : tie.Need-returns-3
 returns-3 c = search number-same
 

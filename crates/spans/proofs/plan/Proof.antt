@@ -8,23 +8,18 @@ use Rattle.spans.proofs.are_in_order.Reads as are-in-order-reads
 use Rattle.spans.proofs.refused.Reads as refused-reads
 use Rattle.spans.proofs.stretches.begin.Reads as begin-reads
 
--- src/lib.rt:101:8
 are-in-order-requires : tie.Need-are-in-order-requires
 are-in-order-requires c κs = search needs
 
--- src/lib.rt:102:13
 begin-requires : tie.Need-begin-requires
 begin-requires c κs = search begin-ready
 
--- src/lib.rt:103:9
 returns : tie.Need-returns
 returns c = search plan-begins
 
--- src/lib.rt:110:5
 refused-requires : tie.Need-refused-requires
 refused-requires c κs = search needs
 
--- src/lib.rt:97:1
 returns-2 : tie.Need-returns-2
 returns-2 c = search plan-refuses
 

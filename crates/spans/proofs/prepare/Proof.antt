@@ -10,39 +10,30 @@ use Rattle.spans.proofs.plan.Reads as plan-reads
 use Rattle.spans.proofs.refused.Reads as refused-reads
 use Rattle.text.proofs.convert.Reads as convert-reads
 
--- src/lib.rt:117:9
 convert-requires : tie.Need-convert-requires
 convert-requires c κs = search needs
 
--- src/lib.rt:120:21
 slice-reshare-prefix-plan : tie.Need-slice-reshare-prefix-plan
 slice-reshare-prefix-plan c = search count-fits
 
--- src/lib.rt:120:21
 slice-aggregate-plan : tie.Need-slice-aggregate-plan
 slice-aggregate-plan c = sym (length-take-le _ _ (search count-fits))
 
--- src/lib.rt:120:9
 plan-requires : tie.Need-plan-requires
 plan-requires c κs = search line-small
 
--- src/lib.rt:120:9
 same-length : tie.Need-same-length
 same-length c = search needs
 
--- src/lib.rt:120:9
 returns : tie.Need-returns
 returns c = search prepare-done
 
--- src/lib.rt:122:5
 refused-requires : tie.Need-refused-requires
 refused-requires c κs = search needs
 
--- src/lib.rt:114:1
 same-length-2 : tie.Need-same-length-2
 same-length-2 c = search needs
 
--- src/lib.rt:114:1
 returns-2 : tie.Need-returns-2
 returns-2 c = search prepare-refused
 

@@ -18,6 +18,15 @@ sequenceOf (found ignored n) = Ignored n
 sequenceOf (found (hyperlink p k) n) = Hyperlink p k n
 sequenceOf (found (lineDrawing b) n) = LineDrawing b n
 
+pub sequence-link : (f : Found) (p n k : ℕ) → sequenceOf f ≡ Hyperlink p n k → f ≡ found (hyperlink p n) k
+unfolding sequenceOf
+sequence-link missing p n k e = cc
+sequence-link (found (hyperlink a m) j) p n k e = cc
+sequence-link (found (sgr os) j) p n k e = cc
+sequence-link (found eraseToEnd j) p n k e = cc
+sequence-link (found ignored j) p n k e = cc
+sequence-link (found (lineDrawing b) j) p n k e = cc
+
 -- past the bytes that pass the test
 pub record Skipped (p : ℕ → Bool) (s : List ℕ) (at r : ℕ) : Type 0 where
   pub len : r ≡ past p s at

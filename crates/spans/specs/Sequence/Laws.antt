@@ -275,13 +275,13 @@ parse-last s q n e = rw e at (ends s)
 
 -- ---- what is found is told by the bytes
 
--- of the bytes behind ESC: the orders, and whether line drawing goes on
+-- of the bytes behind ESC: the orders, and whether line drawing goes on; a URI begins inside the sequence
 unfoldable Told : List ℕ → Found → Type 0
 Told s (found (sgr os) n) = os ≡ orders (parameters 0 (drop 1 s))
 Told s (found (lineDrawing b) n) = b ≡ eqb (getD s 1 0) 0x30
 Told s (found eraseToEnd n) = Unit {0}
 Told s (found ignored n) = Unit {0}
-Told s (found (hyperlink a m) n) = Unit {0}
+Told s (found (hyperlink a m) n) = a ≤ n
 Told s missing = Unit {0}
 
 known-told : (s : List ℕ) (os : List Sgr) (n : ℕ) → os ≡ orders (parameters 0 (drop 1 s)) → Told s (ifKnown os n)
@@ -308,7 +308,7 @@ told (a ∷ s) =
     (λ g. cond-found Q (eqb (getD s 0 0) 0x30) _ _ (λ h. sym h) (λ h. cond-found Q (eqb (getD s 0 0) 0x42) _ _ (λ j. sym h) (λ j. tt)))
     (λ g. cond-found Q (eqb a 0x5D) _ _
     (λ h. cond-found Q (eqb (getD s 0 0) 0x38 && (eqb (getD s 1 0) 0x3B && eqb (getD s i 0) 0x3B)) _ _
-    (λ j. cond-found Q (eqb (getD s e 0) 0x07) _ _ (λ k. tt) (λ k. cond-found Q (eqb (getD s e 0) 0x1B && eqb (getD s (e + 1) 0) 0x5C) _ _ (λ l. tt) (λ l. tt)))
+    (λ j. cond-found Q (eqb (getD s e 0) 0x07) _ _ (λ k. omega (arith, past-from uriByte s (i + 1))) (λ k. cond-found Q (eqb (getD s e 0) 0x1B && eqb (getD s (e + 1) 0) 0x5C) _ _ (λ l. omega (arith, past-from uriByte s (i + 1))) (λ l. tt)))
     (λ j. tt))
     (λ h. tt)))
 
@@ -321,6 +321,11 @@ parse-orders s os n e = rw e at (told s)
 pub parse-drawing : (s : List ℕ) (b : Bool) (n : ℕ) → parse s ≡ found (lineDrawing b) n → b ≡ eqb (getD s 1 0) 0x30
 unfolding Told
 parse-drawing s b n e = rw e at (told s)
+
+-- the URI of a hyperlink begins inside the sequence
+pub parse-link : (s : List ℕ) (a m n : ℕ) → parse s ≡ found (hyperlink a m) n → a ≤ n
+unfolding Told
+parse-link s a m n e = rw e at (told s)
 
 -- a sequence is found only where there are bytes
 pub parse-some : (s : List ℕ) (q : Sequence) (n : ℕ) → parse s ≡ found q n → 1 ≤ length s

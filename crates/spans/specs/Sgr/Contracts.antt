@@ -1,7 +1,7 @@
 -- What the contracts of src/sgr.rt say beyond the definitions.
-use mathlib.Core.Path.{_≡_}
+use mathlib.Core.Path.{_≡_, refl, ap}
 use Prim.Native.Nat.{ℕ, suc, _+_, _-_, _*_, _%_, _≤_}
-use mathlib.Core.Bool.{Bool, cond}
+use mathlib.Core.Bool.{Bool, true, cond}
 use mathlib.Core.List.{List, [], _∷_}
 use lib.ListN.{length, drop}
 use lib.Dec.{eqb, leb}
@@ -71,3 +71,17 @@ unfoldable pub ordersOf : List ℕ → NextOrder → List Sgr
 unfolding ordersAt
 ordersOf s (Order o c) = o ∷ ordersAt s c
 ordersOf s End = []
+
+module _ (s : List ℕ) where
+  pub orders-from : (p : ℕ) → ordersAt s (record { at = p; further = true }) ≡ orders (parameters 0 (drop p s))
+  unfolding ordersAt parametersAt
+  orders-from p = refl
+
+  module _ (n : NextOrder) where
+    pub orders-next : (o : Sgr) (c : Orders) → n ≡ Order o c → ordersOf s n ≡ o ∷ ordersAt s c
+    unfolding ordersOf
+    orders-next o c e = ap (ordersOf s) e
+
+    pub orders-end : n ≡ End → ordersOf s n ≡ []
+    unfolding ordersOf
+    orders-end e = ap (ordersOf s) e

@@ -22,7 +22,7 @@ use Rattle.text.specs.Cluster.Laws.{clusters-first, further}
 use Rattle.text.specs.Cluster.Walk.{size-is}
 use Rattle.text.specs.declared.class.Profile as code
 use Rattle.text.specs.declared.utf8.Sequence.{Sequence}
-use Rattle.text.specs.Code.{firstOf, firstSequence, profileOf, runOf, sequenceOf, size}
+use Rattle.text.specs.Code.{firstOf, firstSequence, profileOf, runOf, sequenceOf, size, whole}
 
 pub size-nil : size [] ≡ 0
 unfolding size
@@ -53,10 +53,10 @@ run-front-bytes [] = ([], refl)
 run-front-bytes (wellFormed c ∷ ds) = let w = run-front-bytes ds in (w .0, ap (λ (l : List ℕ). c .bytes ++ l) (w .1) ∙ sym (append-assoc (c .bytes) (bytesOf (runOf ds)) (w .0)))
 run-front-bytes (illFormed b ∷ ds) = (b ∷ decodedBytes ds, refl)
 
-wells : (a : List Scalar) (ds : List Decoded) → runOf (map wellFormed a ++ ds) ≡ a ++ runOf ds
+pub run-wells : (a : List Scalar) (ds : List Decoded) → runOf (map wellFormed a ++ ds) ≡ a ++ runOf ds
 unfolding runOf
-wells [] ds = refl
-wells (c ∷ a) ds = ap (λ (l : List Scalar). c ∷ l) (wells a ds)
+run-wells [] ds = refl
+run-wells (c ∷ a) ds = ap (λ (l : List Scalar). c ∷ l) (run-wells a ds)
 
 tailOf : List Scalar → List Scalar
 tailOf [] = []
@@ -81,7 +81,7 @@ module _ (s : List ℕ) (a b : List Scalar) (e : runOf (decode s) ≡ a ++ b) wh
   both-valid : All Valid a × All Valid b
   both-valid = all-split a (rw e at (run-valid s))
 
-  front-bytes : take (size a) s ≡ bytesOf a
+  pub front-bytes : take (size a) s ≡ bytesOf a
   front-bytes = ap₂ take (size-is a) run-bytes ∙ take-append-seam (bytesOf a) _
 
   behind-bytes : drop (size a) s ≡ bytesOf b ++ behind-run
@@ -90,10 +90,13 @@ module _ (s : List ℕ) (a b : List Scalar) (e : runOf (decode s) ≡ a ++ b) wh
   pub run-front : runOf (decode (take (size a) s)) ≡ a
   run-front = ap (λ (l : List ℕ). runOf (decode l)) front-bytes ∙ run-text (both-valid .0)
 
+  pub front-whole : whole (take (size a) s)
+  front-whole = ap bytesOf run-front ∙ sym front-bytes
+
   pub run-behind : runOf (decode (drop (size a) s)) ≡ b
   run-behind =
       same-rest a
-      (sym (wells a (decode (drop (size a) s)))
+      (sym (run-wells a (decode (drop (size a) s)))
       ∙ ap runOf (sym (decode-text (both-valid .0) (drop (size a) s)))
       ∙ ap (λ (l : List ℕ). runOf (decode l)) (ap (λ (l : List ℕ). bytesOf a ++ l) behind-bytes ∙ sym run-bytes)
       ∙ e)

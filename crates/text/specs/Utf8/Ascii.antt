@@ -3,16 +3,16 @@ use mathlib.Core.Path.{_≡_, refl, sym, ap, _∙_}
 use Prim.Native.Nat.{ℕ, zero, suc, _+_, _-_, _≤_, _<_, zero-le}
 use native.Mathlib.Omega.{arith}
 use mathlib.Core.Bool.{Bool, true, _&&_}
-use mathlib.Core.List.{List, [], _∷_, _++_, append-nil}
+use mathlib.Core.List.{List, [], _∷_, _++_}
 use lib.Dec.{T, leb, leb→le}
 use borrow.Author.Tests.{leb-true, leb-false, le-leb}
 use lib.ListN.{length, take, drop, getD, length-append, List·getD-append}
-use lib.Seq.{length-take-le, getD-append-add}
+use lib.Seq.{getD-append-add}
 use Rattle.text.specs.Tests.{and-T, cases, true-T}
 use Rattle.text.specs.Each.{All, all-nil, all-cons}
-use Rattle.text.specs.Utf8.{Range, table, fits, lengthIn, sequence, value, Scalar, scalar, ascii, Decoded, wellFormed, illFormed, decode, runOf, bytesOf}
-use Rattle.text.specs.Utf8.Laws.{decode-bad, decode-good, sequence-le}
-use Rattle.text.specs.Utf8.Valid.{Valid}
+use Rattle.text.specs.Utf8.{Range, table, fits, lengthIn, sequence, value, Scalar, scalar, ascii, decode, runOf, bytesOf}
+use Rattle.text.specs.Utf8.Laws.{decode-good}
+use Rattle.text.specs.Utf8.Valid.{Valid, valid-sequence}
 use Rattle.text.specs.Utf8.Runs.{run-valid, run-bytes}
 
 -- ---- the bytes behind a sequence's first are continuation bytes
@@ -69,36 +69,8 @@ sequence-tails s i n e h = rows-tails table s i n tt e h
 
 -- ---- the bytes of a valid scalar
 
-scalarOf : Scalar → List Decoded → Scalar
-scalarOf d [] = d
-scalarOf d (wellFormed c ∷ us) = c
-scalarOf d (illFormed b ∷ us) = d
-
-isWell : List Decoded → ℕ
-isWell [] = 0
-isWell (wellFormed c ∷ us) = 1
-isWell (illFormed b ∷ us) = 0
-
-decodes-alone : (c : Scalar) → Valid c → (l : List ℕ) → l ≡ c .bytes → decode l ≡ wellFormed c ∷ decode []
-decodes-alone c v l q = ap decode (q ∙ sym (append-nil (c .bytes))) ∙ v .decodes []
-
-valid-by : (c : Scalar) (b : ℕ) (s : List ℕ) → decode (b ∷ s) ≡ wellFormed c ∷ decode [] → b ∷ s ≡ c .bytes → (i : ℕ) → suc i < length (c .bytes) → Continuation (getD (c .bytes) (suc i) 0)
-unfolding scalarOf isWell scalar
-valid-by c b s e q i h = go (sequence (b ∷ s)) refl
-  where
-    go : (n : ℕ) → sequence (b ∷ s) ≡ n → Continuation (getD (c .bytes) (suc i) 0)
-    go zero z = absurd (let k : _≡_ {A = ℕ} 0 1 = ap isWell (sym (decode-bad b s z) ∙ e) in omega arith)
-    go (suc n) z =
-        let k : take (suc n) (b ∷ s) ≡ c .bytes = ap (λ (us : List Decoded). scalarOf c us .bytes) (sym (decode-good b s n z) ∙ e) in
-        let l : length (c .bytes) ≡ suc n = ap length (sym k) ∙ length-take-le (suc n) (b ∷ s) (rw z at (sequence-le (b ∷ s))) in
-        rw (← q) (sequence-tails (b ∷ s) i (suc n) z (omega arith))
-
 valid-tails : (c : Scalar) → Valid c → (i : ℕ) → suc i < length (c .bytes) → Continuation (getD (c .bytes) (suc i) 0)
-valid-tails c v = go (c .bytes) refl
-  where
-    go : (l : List ℕ) → l ≡ c .bytes → (i : ℕ) → suc i < length (c .bytes) → Continuation (getD (c .bytes) (suc i) 0)
-    go [] q i h = absurd (omega (arith, ap length q))
-    go (b ∷ s) q i h = valid-by c b s (decodes-alone c v (b ∷ s) q) q i h
+valid-tails c v i h = sequence-tails (c .bytes) i (length (c .bytes)) (valid-sequence c v .length) h
 
 pub low-sequence : (b : ℕ) (s : List ℕ) → b < 0x80 → sequence (b ∷ s) ≡ 1
 unfolding sequence lengthIn fits table
@@ -110,15 +82,13 @@ ascii-run b s h = ap runOf (decode-good b s 0 (low-sequence b s h))
 
 -- the code of a scalar whose first byte is below 80
 pub valid-low : (c : Scalar) → Valid c → getD (c .bytes) 0 0 < 0x80 → c .code ≡ getD (c .bytes) 0 0
-unfolding scalarOf scalar value
-valid-low c v h = go (c .bytes) refl
+unfolding scalar value
+valid-low c v h = ap (λ (x : Scalar). x .code) (valid-sequence c v .is) ∙ one (c .bytes) (valid-sequence c v .length) h
   where
-    go : (l : List ℕ) → l ≡ c .bytes → c .code ≡ getD (c .bytes) 0 0
-    go [] q = absurd (omega (arith, ap length q, v .some))
-    go (b ∷ s) q =
-        let e : decode (b ∷ s) ≡ wellFormed c ∷ decode [] = decodes-alone c v (b ∷ s) q in
-        let f : b ≡ getD (c .bytes) 0 0 = ap (λ (l : List ℕ). getD l 0 0) q in
-        sym (ap (λ (us : List Decoded). scalarOf c us .code) (sym (decode-good b s 0 (low-sequence b s (omega arith))) ∙ e)) ∙ f
+    one : (l : List ℕ) → sequence l ≡ length l → getD l 0 0 < 0x80 → value l ≡ getD l 0 0
+    one [] e k = refl
+    one (b ∷ []) e k = refl
+    one (b ∷ d ∷ s) e k = absurd (omega (arith, e, low-sequence b (d ∷ s) k))
 
 -- ---- a byte below 80 in a run
 

@@ -29,9 +29,17 @@ sequence-le s = lengthIn-le table s
 
 -- ---- bytes
 
+pub scalar-bytes : (s : List ℕ) → scalar s .bytes ≡ s
+unfolding scalar
+scalar-bytes s = refl
+
 pub bytes-nil : bytesOf [] ≡ []
 unfolding bytesOf
 bytes-nil = refl
+
+pub bytes-cons : (c : Scalar) (s : List Scalar) → bytesOf (c ∷ s) ≡ c .bytes ++ bytesOf s
+unfolding bytesOf
+bytes-cons c s = refl
 
 pub bytes-one : (c : Scalar) → bytesOf (c ∷ []) ≡ c .bytes
 unfolding bytesOf

@@ -11,7 +11,7 @@ use lib.Dec.{T, leb, ltb, leb→le, ltb→lt}
 use Rattle.text.specs.Tests.{and-T, or-T, is-true, is-false, true-T, cases}
 use Rattle.text.specs.Each.{All, all-nil, all-cons}
 use Rattle.text.specs.Utf8.{Range, within, table, fits, lengthIn, sequence, decodedAs, decodeFrom, decode, Decoded, wellFormed, illFormed, scalar, Scalar, Piece, run, damaged, addToRun, runs, runOf, bytesOf}
-use Rattle.text.specs.Utf8.Laws.{sequence-le, decode-good}
+use Rattle.text.specs.Utf8.Laws.{sequence-le, decode-bad, decode-good}
 
 -- ---- two rows of the table share no first byte
 
@@ -96,6 +96,30 @@ scalar-valid b n s e =
       some = suc-le-suc zero-le;
       decodes = λ t. decode-good b (take n s ++ t) n (sequence-take b n s t e) ∙ rw (take-at (take n s) t n k, drop-at (take n s) t n k);
     }
+
+-- its bytes are one sequence, and it is what they stand for
+pub record OneSequence (c : Scalar) : Type 0 where
+  pub length : sequence (c .bytes) ≡ length (c .bytes)
+  pub is : c ≡ scalar (c .bytes)
+
+pub valid-sequence : (c : Scalar) → Valid c → OneSequence c
+unfolding scalar
+valid-sequence c v = go (c .bytes) refl
+  where
+    go : (l : List ℕ) → l ≡ c .bytes → OneSequence c
+    go [] q = absurd (omega (arith, ap length q, v .some))
+    go (b ∷ s) q = by (sequence (b ∷ s)) refl
+      where
+        alone : decode (b ∷ s) ≡ wellFormed c ∷ decode []
+        alone = ap decode (q ∙ sym (append-nil (c .bytes))) ∙ v .decodes []
+
+        by : (n : ℕ) → sequence (b ∷ s) ≡ n → OneSequence c
+        by zero e = absurd (let f : illFormed b ∷ decode s ≡ wellFormed c ∷ decode [] = sym (decode-bad b s e) ∙ alone in let z : _≡_ {A = ℕ} 0 1 = cc in omega arith)
+        by (suc n) e =
+            let f : wellFormed (scalar (take (suc n) (b ∷ s))) ∷ _ ≡ wellFormed c ∷ decode [] = sym (decode-good b s n e) ∙ alone in
+            let k : scalar (take (suc n) (b ∷ s)) ≡ c = cc in
+            let m : take (suc n) (b ∷ s) ≡ c .bytes = ap (λ (x : Scalar). x .bytes) k in
+            record { length = rw (← q) e ∙ sym (ap length (sym m) ∙ length-take-le (suc n) (b ∷ s) (rw e at (sequence-le (b ∷ s)))); is = sym k ∙ ap scalar m }
 
 pub data ValidDecoded : Decoded → Type 0 where
   valid : {c : Scalar} → Valid c → ValidDecoded (wellFormed c)

@@ -14,31 +14,24 @@ Inv-loop s counts₀ at₀ counts at = at ≤ length s
 abbrev μ-loop : tie.MeasureT-loop
 μ-loop s counts₀ at₀ counts at = length s - at
 
--- src/main.rt:60:5
 loop-holds : tie.Need-loop-holds Inv-loop μ-loop
 loop-holds c = search needs
 
--- src/main.rt:61:9
 tried-requires : tie.Need-tried-requires Inv-loop μ-loop
 tried-requires c κs = search needs
 
--- src/main.rt:62:13
 behind-requires : tie.Need-behind-requires Inv-loop μ-loop
 behind-requires c κs = search needs
 
--- src/main.rt:64:13
 returns : tie.Need-returns Inv-loop μ-loop
 returns c = search needs
 
--- src/main.rt:60:5
 loop-less : tie.Need-loop-less Inv-loop μ-loop
 loop-less c = search needs
 
--- src/main.rt:60:5
 loop-again : tie.Need-loop-again Inv-loop μ-loop
 loop-again c = search needs
 
--- src/main.rt:57:1
 returns-2 : tie.Need-returns-2 Inv-loop μ-loop
 returns-2 c = search needs
 

@@ -46,7 +46,7 @@ use Rattle.drawing.specs.declared.state.AttributeState.{AttributeState}
 use Rattle.drawing.specs.Contracts.{obeyed}
 use Rattle.drawing.proofs.state.AttributeState as T
 use Rattle.drawing.proofs.state.AttributeState.Laws as T′
-use Rattle.drawing.proofs.Lending.{svals, smach}
+use Rattle.drawing.proofs.LocalState.{svals, smach}
 use Rattle.drawing.proofs.orders.with_orders as core
 use Rattle.drawing.proofs.orders.with_orders.Symbol as core-def
 use Rattle.drawing.proofs.orders.with_orders.Symbol.{name as #drawing·with-orders}

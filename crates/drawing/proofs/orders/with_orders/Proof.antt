@@ -1,4 +1,4 @@
-use Rattle.drawing.proofs.Ordering.{obeys}
+use Rattle.drawing.proofs.StyleOrders.{obeys}
 use borrow.Author.Needs.{needs}
 use borrow.Author.Needs.{needs}
 use Rattle.drawing.proofs.orders.with_orders.Statement.{statement}

@@ -48,7 +48,7 @@ use Rattle.drawing.specs.declared.state.AttributeState.{AttributeState}
 use Rattle.drawing.specs.Contracts.{obeyed}
 use Rattle.drawing.proofs.state.AttributeState as T
 use Rattle.drawing.proofs.state.AttributeState.Laws as T′
-use Rattle.drawing.proofs.Lending.{svals, smach, into, outof}
+use Rattle.drawing.proofs.LocalState.{svals, smach, into, outof}
 use Rattle.drawing.proofs.orders.apply_sgr_sequence as core
 use Rattle.drawing.proofs.orders.apply_sgr_sequence.Symbol as core-def
 use Rattle.drawing.proofs.orders.apply_sgr_sequence.Symbol.{name as #drawing·apply-sgr-sequence}

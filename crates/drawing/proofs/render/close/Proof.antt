@@ -1,4 +1,4 @@
-use Rattle.drawing.proofs.Closing.{closed}
+use Rattle.drawing.proofs.LineEdges.{closed}
 use borrow.Author.Needs.{needs}
 use Rattle.drawing.proofs.render.close.Statement.{statement}
 use Rattle.drawing.proofs.render.close.Tie as tie

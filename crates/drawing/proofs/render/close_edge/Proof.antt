@@ -1,4 +1,4 @@
-use Rattle.drawing.proofs.Closing.{edge-rows, edge-window}
+use Rattle.drawing.proofs.LineEdges.{edge-rows, edge-window}
 use borrow.Author.Needs.{needs}
 use Rattle.drawing.proofs.render.close_edge.Statement.{statement}
 use Rattle.drawing.proofs.render.close_edge.Tie as tie

@@ -1,4 +1,4 @@
-use Rattle.drawing.proofs.Closing.{rows-clear, rows-none}
+use Rattle.drawing.proofs.LineEdges.{rows-clear, rows-none}
 use borrow.Author.Needs.{needs}
 use Rattle.drawing.proofs.render.close_rows.Statement.{statement}
 use Rattle.drawing.proofs.render.close_rows.Tie as tie

@@ -1,4 +1,4 @@
-use Rattle.drawing.proofs.Closing.{window-arrow, window-clear, window-none}
+use Rattle.drawing.proofs.LineEdges.{window-arrow, window-clear, window-none}
 use borrow.Author.Needs.{needs}
 use Rattle.drawing.proofs.render.close_window.Statement.{statement}
 use Rattle.drawing.proofs.render.close_window.Tie as tie

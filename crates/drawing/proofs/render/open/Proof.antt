@@ -1,4 +1,4 @@
-use Rattle.drawing.proofs.Closing.{opened-arrow, opened-bare}
+use Rattle.drawing.proofs.LineEdges.{opened-arrow, opened-bare}
 use borrow.Author.Needs.{needs}
 use Rattle.drawing.proofs.render.open.Statement.{statement}
 use Rattle.drawing.proofs.render.open.Tie as tie

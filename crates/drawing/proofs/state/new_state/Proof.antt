@@ -1,4 +1,4 @@
-use Rattle.drawing.proofs.Closing.{state-begun}
+use Rattle.drawing.proofs.LineEdges.{state-begun}
 use borrow.Author.Needs.{needs}
 use Rattle.drawing.proofs.state.new_state.Statement.{statement}
 use Rattle.drawing.proofs.state.new_state.Tie as tie

@@ -53,7 +53,7 @@ use Rattle.drawing.proofs.state.AttributeState as T
 use Rattle.drawing.proofs.state.AttributeState.Laws as T′
 use Rattle.drawing.proofs.state.Stepped as R
 use Rattle.drawing.proofs.state.Stepped.Laws as R′
-use Rattle.drawing.proofs.Lending.{svals, smach, into, outof}
+use Rattle.drawing.proofs.LocalState.{svals, smach, into, outof}
 use Rattle.drawing.proofs.state.style as core
 use Rattle.drawing.proofs.state.style.Symbol as core-def
 use Rattle.drawing.proofs.state.style.Symbol.{name as #drawing·style}

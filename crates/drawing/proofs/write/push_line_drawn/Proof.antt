@@ -1,5 +1,5 @@
 use borrow.Author.Needs.{needs}
-use Rattle.drawing.proofs.Writing.{short-room}
+use Rattle.drawing.proofs.WindowTexts.{short-room}
 use Rattle.drawing.proofs.write.push_line_drawn.Statement.{statement}
 use Rattle.drawing.proofs.write.push_line_drawn.Tie as tie
 

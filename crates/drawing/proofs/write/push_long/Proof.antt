@@ -1,5 +1,5 @@
 use borrow.Author.Needs.{needs}
-use Rattle.drawing.proofs.Writing.{long-room}
+use Rattle.drawing.proofs.WindowTexts.{long-room}
 use Rattle.drawing.proofs.write.push_long.Statement.{statement}
 use Rattle.drawing.proofs.write.push_long.Tie as tie
 

@@ -1,5 +1,5 @@
 use borrow.Author.Needs.{needs}
-use Rattle.drawing.proofs.Writing.{part-drawn, part-own}
+use Rattle.drawing.proofs.WindowTexts.{part-drawn, part-own}
 use Rattle.drawing.proofs.write.push_part.Statement.{statement}
 use Rattle.drawing.proofs.write.push_part.Tie as tie
 

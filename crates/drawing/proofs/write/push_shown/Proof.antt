@@ -1,5 +1,5 @@
 use borrow.Author.Needs.{needs}
-use Rattle.drawing.proofs.Writing.{shown-drawn, shown-fits, copy-room}
+use Rattle.drawing.proofs.WindowTexts.{shown-drawn, shown-fits, copy-room}
 use Rattle.drawing.proofs.write.push_shown.Statement.{statement}
 use Rattle.drawing.proofs.write.push_shown.Tie as tie
 

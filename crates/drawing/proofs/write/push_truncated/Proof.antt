@@ -1,5 +1,5 @@
 use borrow.Author.Needs.{needs}
-use Rattle.drawing.proofs.Writing.{text-drawn}
+use Rattle.drawing.proofs.WindowTexts.{text-drawn}
 use Rattle.drawing.proofs.write.push_truncated.Statement.{statement}
 use Rattle.drawing.proofs.write.push_truncated.Tie as tie
 

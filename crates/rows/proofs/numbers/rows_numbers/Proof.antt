@@ -32,7 +32,8 @@ use Rattle.spans.specs.Numbers.Laws.{places-many, places-wide, read-told}
 use Rattle.spans.proofs.Listed.{places-room, made, placed, written}
 use Rattle.spans.proofs.Span as S
 use Rattle.rows.specs.Calls.{Wrapped, rowsCall}
-use Rattle.rows.specs.Contracts.{wrappedAs, readOf, RowsNumbers}
+use Rattle.rows.specs.Calls.Contracts.{wrappedAs}
+use Rattle.rows.specs.Numbers.{readOf, RowsNumbers}
 use Rattle.rows.proofs.rows as callee
 use Rattle.rows.proofs.rows.Symbol as callee-def
 use Rattle.rows.proofs.rows.Met as callee-thm

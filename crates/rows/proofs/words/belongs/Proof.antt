@@ -1,7 +1,7 @@
 use borrow.Author.Needs.{needs}
 use Rattle.rows.proofs.words.belongs.Statement.{statement}
 use Rattle.rows.proofs.words.belongs.Tie as tie
-use Rattle.rows.proofs.Parts.{sep-is, word-is}
+use Rattle.rows.proofs.WordLoop.{sep-is, word-is}
 
 is-whitespace-requires : tie.Need-is-whitespace-requires
 is-whitespace-requires c κs = search needs

@@ -4,7 +4,7 @@ use mathlib.Core.Bool.{cond}
 use lib.ListN.{length}
 use Rattle.text.specs.Code.{profileOf}
 use Rattle.text.specs.Code.Laws.{scalar-at, width-two}
-use Rattle.rows.proofs.Parts.{WordLoop, word-begins, byte-on, word-damaged, word-on, word-apart, word-hyphen, word-turns, word-ends}
+use Rattle.rows.proofs.WordLoop.{WordLoop, word-begins, byte-on, word-damaged, word-on, word-apart, word-hyphen, word-turns, word-ends}
 use borrow.Author.Needs.{needs}
 use Rattle.rows.proofs.words.next_word.Statement.{statement}
 use Rattle.rows.proofs.words.next_word.Tie as tie

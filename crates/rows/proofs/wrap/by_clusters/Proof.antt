@@ -1,7 +1,7 @@
 use Prim.Native.Nat.{_-_}
 use lib.ListN.{length}
 use Rattle.text.specs.Code.{profileOf}
-use Rattle.rows.proofs.Texts.{Breaking, break-begin, break-end, break-less, break-none, break-ready, break-turn}
+use Rattle.rows.proofs.WrappedTexts.{Breaking, break-begin, break-end, break-less, break-none, break-ready, break-turn}
 use borrow.Author.Needs.{needs}
 use Rattle.rows.proofs.wrap.by_clusters.Statement.{statement}
 use Rattle.rows.proofs.wrap.by_clusters.Tie as tie

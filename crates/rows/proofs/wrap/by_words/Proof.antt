@@ -1,6 +1,6 @@
 use Rattle.rows.proofs.wrap.by_words.Statement.{statement}
 use Rattle.rows.proofs.wrap.by_words.Tie as tie
-use Rattle.rows.proofs.Texts.{Wording, word-begin, words-stop, words-turn, words-end}
+use Rattle.rows.proofs.WrappedTexts.{Wording, word-begin, words-stop, words-turn, words-end}
 use Rattle.text.specs.Code.{profileOf}
 use native.Mathlib.Omega.{arith}
 use borrow.Author.Needs.{needs}

@@ -1,7 +1,7 @@
 use borrow.Author.Needs.{needs}
 use Rattle.rows.proofs.wrap.last_row.Statement.{statement}
 use Rattle.rows.proofs.wrap.last_row.Tie as tie
-use Rattle.rows.proofs.Steps.{last-unwrapped, last-some, last-only, last-none}
+use Rattle.rows.proofs.PushedRows.{last-unwrapped, last-some, last-only, last-none}
 
 push-row-requires : tie.Need-push-row-requires
 push-row-requires c κs = search needs

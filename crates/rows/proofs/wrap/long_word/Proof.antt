@@ -1,5 +1,5 @@
 use borrow.Author.Needs.{needs}
-use Rattle.rows.proofs.Texts.{long-breaks, long-fits}
+use Rattle.rows.proofs.WrappedTexts.{long-breaks, long-fits}
 use Rattle.rows.proofs.wrap.long_word.Statement.{statement}
 use Rattle.rows.proofs.wrap.long_word.Tie as tie
 

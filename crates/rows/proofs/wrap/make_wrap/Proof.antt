@@ -56,12 +56,12 @@ use Rattle.spans.specs.declared.Span.{Span}
 use Rattle.spans.specs.Calls.{noRecord}
 use Rattle.spans.proofs.Span as T
 use Rattle.spans.proofs.Span.Laws as T′
-use Rattle.rows.specs.Contracts.{Stepped, spanOf, LastRow, SpanRoom, SpansRoom, MadeWrap}
+use Rattle.rows.specs.Wrap.{Stepped, spanOf, LastRow, SpanRoom, SpansRoom, MadeWrap}
 use Rattle.rows.specs.declared.wrap.Tally.{Tally}
 use Rattle.rows.specs.declared.wrap.WrapState.{WrapState}
 use Rattle.rows.specs.declared.wrap.Wrapping.{Wrapping}
 use Rattle.lending.specs.Reborrow.{LentAgain, lends-again, comes-back}
-use Rattle.rows.proofs.Spans.{Spanning, spans-begin, turn-room, spans-turn, spans-end}
+use Rattle.rows.proofs.WrappedSpans.{Spanning, spans-begin, turn-room, spans-turn, spans-end}
 use Rattle.rows.proofs.wrap.Tally as R
 use Rattle.rows.proofs.wrap.Tally.Laws as R′
 use Rattle.rows.proofs.wrap.WrapState as S

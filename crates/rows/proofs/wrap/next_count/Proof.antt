@@ -1,7 +1,7 @@
 use borrow.Author.Needs.{needs}
 use Rattle.rows.proofs.wrap.next_count.Statement.{statement}
 use Rattle.rows.proofs.wrap.next_count.Tie as tie
-use Rattle.rows.proofs.Steps.{count-on, count-full}
+use Rattle.rows.proofs.PushedRows.{count-on, count-full}
 
 add-result : tie.Need-add-result
 add-result c = search needs

@@ -1,7 +1,7 @@
 use borrow.Author.Needs.{needs}
 use Rattle.rows.proofs.wrap.one_word.Statement.{statement}
 use Rattle.rows.proofs.wrap.one_word.Tie as tie
-use Rattle.rows.proofs.Texts.{one-fits, one-wraps}
+use Rattle.rows.proofs.WrappedTexts.{one-fits, one-wraps}
 
 fits-requires : tie.Need-fits-requires
 fits-requires c κs = search needs

@@ -1,7 +1,7 @@
 use borrow.Author.Needs.{needs}
 use Rattle.rows.proofs.wrap.push_held.Statement.{statement}
 use Rattle.rows.proofs.wrap.push_held.Tie as tie
-use Rattle.rows.proofs.Steps.{held-none, held-pushed}
+use Rattle.rows.proofs.PushedRows.{held-none, held-pushed}
 
 returns : tie.Need-returns
 returns c = search held-none

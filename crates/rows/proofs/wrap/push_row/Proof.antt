@@ -1,7 +1,7 @@
 use borrow.Author.Needs.{needs}
 use Rattle.rows.proofs.wrap.push_row.Statement.{statement}
 use Rattle.rows.proofs.wrap.push_row.Tie as tie
-use Rattle.rows.proofs.Steps.{row-written, row-counted}
+use Rattle.rows.proofs.PushedRows.{row-written, row-counted}
 use native.Mathlib.Omega.{arith}
 use lib.ListN.{length-set}
 

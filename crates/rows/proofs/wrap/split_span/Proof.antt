@@ -1,7 +1,7 @@
 use borrow.Author.Needs.{needs}
 use Rattle.rows.proofs.wrap.split_span.Statement.{statement}
 use Rattle.rows.proofs.wrap.split_span.Tie as tie
-use Rattle.rows.proofs.Spans.{span-unwrapped, span-text, span-mark, span-long-mark, span-tab, span-none}
+use Rattle.rows.proofs.WrappedSpans.{span-unwrapped, span-text, span-mark, span-long-mark, span-tab, span-none}
 use native.Mathlib.Omega.{arith}
 use lib.ListN.{length-take, length-drop}
 use lib.Seq.{length-take-le}

@@ -1,7 +1,7 @@
 use borrow.Author.Needs.{needs}
 use Rattle.rows.proofs.wrap.split_text.Statement.{statement}
 use Rattle.rows.proofs.wrap.split_text.Tie as tie
-use Rattle.rows.proofs.Texts.{text-words, text-clusters}
+use Rattle.rows.proofs.WrappedTexts.{text-words, text-clusters}
 
 by-words-requires : tie.Need-by-words-requires
 by-words-requires c κs = search needs

@@ -1,7 +1,7 @@
 use borrow.Author.Needs.{needs}
 use Rattle.rows.proofs.wrap.tab.Statement.{statement}
 use Rattle.rows.proofs.wrap.tab.Tie as tie
-use Rattle.rows.proofs.Steps.{tab-stays, tab-wraps}
+use Rattle.rows.proofs.PushedRows.{tab-stays, tab-wraps}
 
 sub-t11 : tie.Need-sub-t11
 sub-t11 c = search needs

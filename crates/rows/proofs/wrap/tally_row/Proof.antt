@@ -1,7 +1,7 @@
 use borrow.Author.Needs.{needs}
 use Rattle.rows.proofs.wrap.tally_row.Statement.{statement}
 use Rattle.rows.proofs.wrap.tally_row.Tie as tie
-use Rattle.rows.proofs.Steps.{tally-is}
+use Rattle.rows.proofs.PushedRows.{tally-is}
 
 next-count-requires : tie.Need-next-count-requires
 next-count-requires c κs = search needs

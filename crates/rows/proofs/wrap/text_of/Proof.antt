@@ -1,7 +1,7 @@
 use borrow.Author.Needs.{needs}
 use Rattle.rows.proofs.wrap.text_of.Statement.{statement}
 use Rattle.rows.proofs.wrap.text_of.Tie as tie
-use Rattle.rows.proofs.Spans.{text-past, text-rest, text-part}
+use Rattle.rows.proofs.WrappedSpans.{text-past, text-rest, text-part}
 
 slice-aggregate-result : tie.Need-slice-aggregate-result
 slice-aggregate-result c = search needs

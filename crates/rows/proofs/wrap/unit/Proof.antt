@@ -1,7 +1,7 @@
 use borrow.Author.Needs.{needs}
 use Rattle.rows.proofs.wrap.unit.Statement.{statement}
 use Rattle.rows.proofs.wrap.unit.Tie as tie
-use Rattle.rows.proofs.Steps.{unit-stays, unit-wraps}
+use Rattle.rows.proofs.PushedRows.{unit-stays, unit-wraps}
 
 fits-requires : tie.Need-fits-requires
 fits-requires c κs = search needs

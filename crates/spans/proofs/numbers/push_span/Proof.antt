@@ -6,27 +6,21 @@ use Rattle.spans.proofs.numbers.push_span.Reads as reads
 use Rattle.spans.proofs.numbers.push_span.Lts as lts
 use Rattle.buffer.proofs.push_number.Reads as push-number-reads
 
--- src/numbers.rt:19:9
 push-number-requires : tie.Need-push-number-requires
 push-number-requires c κs = search needs
 
--- src/numbers.rt:20:9
 push-number-requires-2 : tie.Need-push-number-requires-2
 push-number-requires-2 c κs = search needs
 
--- src/numbers.rt:21:9
 push-number-requires-3 : tie.Need-push-number-requires-3
 push-number-requires-3 c κs = search needs
 
--- src/numbers.rt:22:5
 push-number-requires-4 : tie.Need-push-number-requires-4
 push-number-requires-4 c κs = search needs
 
--- src/numbers.rt:15:1
 same-length : tie.Need-same-length
 same-length c = search needs
 
--- src/numbers.rt:15:1
 returns : tie.Need-returns
 returns c = search push-four
 

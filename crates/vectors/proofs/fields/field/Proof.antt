@@ -13,27 +13,21 @@ Inv-loop s at n i₀ k₀ i k = Past s at i
 abbrev μ-loop : tie.MeasureT-loop
 μ-loop s at n i₀ k₀ i k = n - k
 
--- src/fields.rt:93:5
 loop-holds : tie.Need-loop-holds Inv-loop μ-loop
 loop-holds c = record { from = search needs; inside = search needs }
 
--- src/fields.rt:94:9
 behind-requires : tie.Need-behind-requires Inv-loop μ-loop
 behind-requires c κs = search needs
 
--- src/fields.rt:95:9
 add-k : tie.Need-add-k Inv-loop μ-loop
 add-k c = search needs
 
--- src/fields.rt:93:5
 loop-less : tie.Need-loop-less Inv-loop μ-loop
 loop-less c = search needs
 
--- src/fields.rt:93:5
 loop-again : tie.Need-loop-again Inv-loop μ-loop
 loop-again c = record { from = search needs; inside = search needs }
 
--- src/fields.rt:87:1
 returns : tie.Need-returns Inv-loop μ-loop
 returns c = search needs
 

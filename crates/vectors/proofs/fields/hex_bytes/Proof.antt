@@ -15,59 +15,45 @@ Inv-loop s at end out₀ i₀ n₀ out i n = (n ≤ length out₀) × (length ou
 abbrev μ-loop : tie.MeasureT-loop
 μ-loop s at end out₀ i₀ n₀ out i n = length out₀ - n
 
--- src/fields.rt:93:5
 loop-holds : tie.Need-loop-holds Inv-loop μ-loop
 loop-holds c = search needs
 
--- src/fields.rt:95:13
 same-length : tie.Need-same-length Inv-loop μ-loop
 same-length c = search needs
 
--- src/fields.rt:95:13
 returns : tie.Need-returns Inv-loop μ-loop
 returns c = search counted
 
--- src/fields.rt:97:12
 sub-if2 : tie.Need-sub-if2 Inv-loop μ-loop
 sub-if2 c = search needs
 
--- src/fields.rt:98:13
 same-length-2 : tie.Need-same-length-2 Inv-loop μ-loop
 same-length-2 c = search needs
 
--- src/fields.rt:98:13
 returns-2 : tie.Need-returns-2 Inv-loop μ-loop
 returns-2 c = search counted
 
--- src/fields.rt:100:18
 hex-byte-requires : tie.Need-hex-byte-requires Inv-loop μ-loop
 hex-byte-requires c κs = search needs
 
--- src/fields.rt:100:9
 slice-write-out : tie.Need-slice-write-out Inv-loop μ-loop
 slice-write-out c = search needs
 
--- src/fields.rt:101:9
 add-n : tie.Need-add-n Inv-loop μ-loop
 add-n c = search needs
 
--- src/fields.rt:102:9
 add-i : tie.Need-add-i Inv-loop μ-loop
 add-i c = search needs
 
--- src/fields.rt:93:5
 loop-less : tie.Need-loop-less Inv-loop μ-loop
 loop-less c = search needs
 
--- src/fields.rt:93:5
 loop-again : tie.Need-loop-again Inv-loop μ-loop
 loop-again c = search needs
 
--- src/fields.rt:88:1
 same-length-3 : tie.Need-same-length-3 Inv-loop μ-loop
 same-length-3 c = search needs
 
--- src/fields.rt:88:1
 returns-3 : tie.Need-returns-3 Inv-loop μ-loop
 returns-3 c = search counted
 

@@ -14,39 +14,30 @@ Inv-loop s at end n₀ i₀ n i = Unit {0}
 abbrev μ-loop : tie.MeasureT-loop
 μ-loop s at end n₀ i₀ n i = end - i
 
--- src/fields.rt:79:5
 loop-holds : tie.Need-loop-holds Inv-loop μ-loop
 loop-holds c = tt
 
--- src/fields.rt:80:42
 times-ten-requires : tie.Need-times-ten-requires Inv-loop μ-loop
 times-ten-requires c κs = search needs
 
--- src/fields.rt:80:62
 byte-at-requires : tie.Need-byte-at-requires Inv-loop μ-loop
 byte-at-requires c κs = search needs
 
--- src/fields.rt:80:56
 digit-requires : tie.Need-digit-requires Inv-loop μ-loop
 digit-requires c κs = search needs
 
--- src/fields.rt:80:9
 wrapping-add-usize-requires : tie.Need-wrapping-add-usize-requires Inv-loop μ-loop
 wrapping-add-usize-requires c κs = search needs
 
--- src/fields.rt:81:9
 add-i : tie.Need-add-i Inv-loop μ-loop
 add-i c = search needs
 
--- src/fields.rt:79:5
 loop-less : tie.Need-loop-less Inv-loop μ-loop
 loop-less c = search needs
 
--- src/fields.rt:79:5
 loop-again : tie.Need-loop-again Inv-loop μ-loop
 loop-again c = tt
 
--- src/fields.rt:76:1
 returns : tie.Need-returns Inv-loop μ-loop
 returns c = tt
 

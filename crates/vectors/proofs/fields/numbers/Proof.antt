@@ -18,71 +18,54 @@ Inv-loop s at out₀ end i₀ n₀ out i n = (n ≤ length out₀) × (length ou
 abbrev μ-loop : tie.MeasureT-loop
 μ-loop s at out₀ end i₀ n₀ out i n = length out₀ - n
 
--- src/fields.rt:124:9
 past-requires : tie.Need-past-requires Inv-loop μ-loop
 past-requires c κs = search needs
 
--- src/fields.rt:127:5
 loop-holds : tie.Need-loop-holds Inv-loop μ-loop
 loop-holds c = (search needs, search needs, search needs)
 
--- src/fields.rt:129:13
 same-length : tie.Need-same-length Inv-loop μ-loop
 same-length c = search needs
 
--- src/fields.rt:129:13
 returns : tie.Need-returns Inv-loop μ-loop
 returns c = search counted
 
--- src/fields.rt:131:12
 shared-slice-read-if2 : tie.Need-shared-slice-read-if2 Inv-loop μ-loop
 shared-slice-read-if2 c = search needs
 
--- src/fields.rt:132:13
 same-length-2 : tie.Need-same-length-2 Inv-loop μ-loop
 same-length-2 c = search needs
 
--- src/fields.rt:132:13
 returns-2 : tie.Need-returns-2 Inv-loop μ-loop
 returns-2 c = search counted
 
--- src/fields.rt:134:13
 number-end-requires : tie.Need-number-end-requires Inv-loop μ-loop
 number-end-requires c κs = search needs
 
--- src/fields.rt:135:18
 number-requires : tie.Need-number-requires Inv-loop μ-loop
 number-requires c κs = search needs
 
--- src/fields.rt:135:9
 mul-out : tie.Need-mul-out Inv-loop μ-loop
 mul-out c = search needs
 
--- src/fields.rt:135:9
 slice-write-out : tie.Need-slice-write-out Inv-loop μ-loop
 slice-write-out c = search needs
 
--- src/fields.rt:136:9
 add-n : tie.Need-add-n Inv-loop μ-loop
 add-n c = search needs
 
--- src/fields.rt:137:9
 behind-requires : tie.Need-behind-requires Inv-loop μ-loop
 behind-requires c κs = search needs
 
--- src/fields.rt:127:5
 loop-less : tie.Need-loop-less Inv-loop μ-loop
 loop-less c = search needs
 
--- src/fields.rt:127:5
 loop-again : tie.Need-loop-again Inv-loop μ-loop
 loop-again c = (search needs, search needs, search needs)
 
--- src/fields.rt:120:1
 same-length-3 : tie.Need-same-length-3 Inv-loop μ-loop
 same-length-3 c = search needs
 
--- src/fields.rt:120:1
 returns-3 : tie.Need-returns-3 Inv-loop μ-loop
 returns-3 c = search counted
 

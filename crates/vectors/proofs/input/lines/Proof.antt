@@ -7,23 +7,18 @@ use Rattle.vectors.proofs.input.lines.Lts as lts
 use Rattle.vectors.proofs.input.whole_lines.Reads as whole-lines-reads
 use Rattle.vectors.proofs.replayed.Reads as replayed-reads
 
--- src/input.rt:46:9
 whole-lines-requires : tie.Need-whole-lines-requires
 whole-lines-requires c κs = search needs
 
--- src/input.rt:47:42
 slice-aggregate-replayed : tie.Need-slice-aggregate-replayed
 slice-aggregate-replayed c = prefix _ _ (search needs)
 
--- src/input.rt:47:9
 replayed-requires : tie.Need-replayed-requires
 replayed-requires c κs = search needs
 
--- src/input.rt:48:38
 sub-t8 : tie.Need-sub-t8
 sub-t8 c = search needs
 
--- src/input.rt:45:1
 returns : tie.Need-returns
 returns c = search needs
 

@@ -8,75 +8,57 @@ use Rattle.vectors.proofs.input.lines.Reads as lines-reads
 use Rattle.vectors.proofs.input.move_front.Reads as move-front-reads
 use Rattle.vectors.proofs.input.read_behind.Reads as read-behind-reads
 
--- src/input.rt:55:9
 read-behind-requires : tie.Need-read-behind-requires
 read-behind-requires c κs = search needs
 
--- src/input.rt:57:9
 same-length : tie.Need-same-length
 same-length c = search needs
 
--- src/input.rt:57:9
 returns : tie.Need-returns
 returns c = search needs
 
--- src/input.rt:60:9
 same-length-2 : tie.Need-same-length-2
 same-length-2 c = search needs
 
--- src/input.rt:60:9
 returns-2 : tie.Need-returns-2
 returns-2 c = search needs
 
--- src/input.rt:63:9
 same-length-3 : tie.Need-same-length-3
 same-length-3 c = search needs
 
--- src/input.rt:63:9
 returns-3 : tie.Need-returns-3
 returns-3 c = search needs
 
--- src/input.rt:65:15
 add-end : tie.Need-add-end
 add-end c = search needs
 
--- src/input.rt:67:9
 same-length-4 : tie.Need-same-length-4
 same-length-4 c = search needs
 
--- src/input.rt:67:9
 returns-4 : tie.Need-returns-4
 returns-4 c = search needs
 
--- src/input.rt:69:22
 slice-reshare-prefix-lines : tie.Need-slice-reshare-prefix-lines
 slice-reshare-prefix-lines c = search needs
 
--- src/input.rt:69:22
 slice-aggregate-lines : tie.Need-slice-aggregate-lines
 slice-aggregate-lines c = prefix _ _ (search needs)
 
--- src/input.rt:69:9
 lines-requires : tie.Need-lines-requires
 lines-requires c κs = search needs
 
--- src/input.rt:72:9
 move-front-requires : tie.Need-move-front-requires
 move-front-requires c κs = search needs
 
--- src/input.rt:52:1
 same-length-5 : tie.Need-same-length-5
 same-length-5 c = search needs
 
--- src/input.rt:52:1
 returns-5 : tie.Need-returns-5
 returns-5 c = search needs
 
--- src/input.rt:52:1
 same-length-6 : tie.Need-same-length-6
 same-length-6 c = search needs
 
--- src/input.rt:52:1
 returns-6 : tie.Need-returns-6
 returns-6 c = search needs
 

@@ -13,39 +13,30 @@ Inv-loop s₀ from i₀ s i = (from ≤ i) × (length s ≡ length s₀)
 abbrev μ-loop : tie.MeasureT-loop
 μ-loop s₀ from i₀ s i = length s₀ - i
 
--- src/input.rt:24:5
 loop-holds : tie.Need-loop-holds Inv-loop μ-loop
 loop-holds c = search needs
 
--- src/input.rt:25:23
 slice-read-s : tie.Need-slice-read-s Inv-loop μ-loop
 slice-read-s c = search needs
 
--- src/input.rt:25:11
 sub-s : tie.Need-sub-s Inv-loop μ-loop
 sub-s c = search needs
 
--- src/input.rt:25:9
 slice-write-s : tie.Need-slice-write-s Inv-loop μ-loop
 slice-write-s c = search needs
 
--- src/input.rt:26:9
 add-i : tie.Need-add-i Inv-loop μ-loop
 add-i c = search needs
 
--- src/input.rt:24:5
 loop-less : tie.Need-loop-less Inv-loop μ-loop
 loop-less c = search needs
 
--- src/input.rt:24:5
 loop-again : tie.Need-loop-again Inv-loop μ-loop
 loop-again c = search needs
 
--- src/input.rt:22:1
 same-length : tie.Need-same-length Inv-loop μ-loop
 same-length c = search needs
 
--- src/input.rt:22:1
 returns : tie.Need-returns Inv-loop μ-loop
 returns c = search needs
 

@@ -5,7 +5,7 @@ use Rattle.vectors.proofs.published.segments.Statement.{statement}
 use Rattle.vectors.proofs.published.segments.Tie as tie
 use Rattle.vectors.proofs.published.segments.Reads as reads
 use Rattle.vectors.proofs.published.segments.Lts as lts
-use Rattle.text.proofs.segmentation.cluster_end.Reads as cluster-end-reads
+use Rattle.text.proofs.segmentation.next_boundary.Reads as next-boundary-reads
 use Rattle.vectors.proofs.fields.behind.Reads as behind-reads
 use Rattle.vectors.proofs.fields.number.Reads as number-reads
 use Rattle.vectors.proofs.fields.past.Reads as past-reads
@@ -16,51 +16,39 @@ Inv-loop line s at i₀ list₀ i list = (i ≤ length line) × (list ≤ length
 abbrev μ-loop : tie.MeasureT-loop
 μ-loop line s at i₀ list₀ i list = length line - i
 
--- src/published.rt:58:5
 loop-holds : tie.Need-loop-holds Inv-loop μ-loop
 loop-holds c = search needs
 
--- src/published.rt:59:13
-cluster-end-requires : tie.Need-cluster-end-requires Inv-loop μ-loop
-cluster-end-requires c κs = search needs
+next-boundary-requires : tie.Need-next-boundary-requires Inv-loop μ-loop
+next-boundary-requires c κs = search needs
 
--- src/published.rt:61:13
 returns : tie.Need-returns Inv-loop μ-loop
 returns c = search needs
 
--- src/published.rt:64:13
 returns-2 : tie.Need-returns-2 Inv-loop μ-loop
 returns-2 c = search needs
 
--- src/published.rt:66:12
 sub-if3 : tie.Need-sub-if3 Inv-loop μ-loop
 sub-if3 c = search needs
 
--- src/published.rt:66:47
 past-requires : tie.Need-past-requires Inv-loop μ-loop
 past-requires c κs = search needs
 
--- src/published.rt:66:23
 number-requires : tie.Need-number-requires Inv-loop μ-loop
 number-requires c κs = search needs
 
--- src/published.rt:67:13
 returns-3 : tie.Need-returns-3 Inv-loop μ-loop
 returns-3 c = search needs
 
--- src/published.rt:69:9
 behind-requires : tie.Need-behind-requires Inv-loop μ-loop
 behind-requires c κs = search needs
 
--- src/published.rt:58:5
 loop-less : tie.Need-loop-less Inv-loop μ-loop
 loop-less c = search needs
 
--- src/published.rt:58:5
 loop-again : tie.Need-loop-again Inv-loop μ-loop
 loop-again c = search needs
 
--- src/published.rt:53:1
 returns-4 : tie.Need-returns-4 Inv-loop μ-loop
 returns-4 c = search needs
 
@@ -71,7 +59,7 @@ segments-spec =
     Inv-loop
     μ-loop
     loop-holds
-    cluster-end-requires
+    next-boundary-requires
     returns
     returns-2
     sub-if3

@@ -7,67 +7,51 @@ use Rattle.vectors.proofs.recorded.is_replayed.Lts as lts
 use Rattle.vectors.proofs.recorded.is_answered.Reads as is-answered-reads
 use Rattle.vectors.proofs.recorded.lent_by.Reads as lent-by-reads
 
--- src/recorded.rt:235:9
 lent-by-requires : tie.Need-lent-by-requires
 lent-by-requires c κs = search needs
 
--- src/recorded.rt:241:9
 returns : tie.Need-returns
 returns c = search needs
 
--- src/recorded.rt:244:9
 returns-2 : tie.Need-returns-2
 returns-2 c = search needs
 
--- src/recorded.rt:247:9
 returns-3 : tie.Need-returns-3
 returns-3 c = search needs
 
--- src/recorded.rt:250:9
 returns-4 : tie.Need-returns-4
 returns-4 c = search needs
 
--- src/recorded.rt:258:9
 array-borrow-prefix-conv : tie.Need-array-borrow-prefix-conv
 array-borrow-prefix-conv c = search needs
 
--- src/recorded.rt:258:9
 slice-aggregate-is-answered : tie.Need-slice-aggregate-is-answered
 slice-aggregate-is-answered c = prefix _ _ (search needs)
 
--- src/recorded.rt:259:24
 mul-numbers : tie.Need-mul-numbers
 mul-numbers c = search needs
 
--- src/recorded.rt:259:9
 array-borrow-prefix-numbers : tie.Need-array-borrow-prefix-numbers
 array-borrow-prefix-numbers c = search needs
 
--- src/recorded.rt:259:9
 slice-aggregate-is-answered-2 : tie.Need-slice-aggregate-is-answered-2
 slice-aggregate-is-answered-2 c = prefix _ _ (search needs)
 
--- src/recorded.rt:260:9
 array-borrow-prefix-rows : tie.Need-array-borrow-prefix-rows
 array-borrow-prefix-rows c = search needs
 
--- src/recorded.rt:260:9
 slice-aggregate-is-answered-3 : tie.Need-slice-aggregate-is-answered-3
 slice-aggregate-is-answered-3 c = prefix _ _ (search needs)
 
--- src/recorded.rt:261:9
 array-borrow-prefix-list : tie.Need-array-borrow-prefix-list
 array-borrow-prefix-list c = search needs
 
--- src/recorded.rt:261:9
 slice-aggregate-is-answered-4 : tie.Need-slice-aggregate-is-answered-4
 slice-aggregate-is-answered-4 c = prefix _ _ (search needs)
 
--- src/recorded.rt:252:5
 is-answered-requires : tie.Need-is-answered-requires
 is-answered-requires c κs = search needs
 
--- src/recorded.rt:228:1
 returns-5 : tie.Need-returns-5
 returns-5 c = search needs
 

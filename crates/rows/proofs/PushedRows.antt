@@ -12,7 +12,7 @@ use Rattle.text.specs.Tests.{cases}
 use Rattle.text.specs.declared.Column.{Column}
 use Rattle.rows.specs.Rows.{Row, row, Wrap, wrap, unit, tabbed, pushed}
 use Rattle.text.specs.TextParts.{column}
-use Rattle.rows.specs.Contracts.{nextCount, tallied, pairAt, Kept, kept, keep, keeps, on, Room, Stepped, advanced, unitOf, lastKept, LastRow}
+use Rattle.rows.specs.Wrap.{nextCount, tallied, pairAt, Kept, kept, keep, keeps, on, Room, Stepped, advanced, unitOf, lastKept, LastRow}
 use Rattle.rows.specs.declared.wrap.Tally.{Tally}
 use Rattle.rows.specs.declared.wrap.WrapState.{WrapState}
 

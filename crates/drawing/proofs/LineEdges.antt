@@ -20,7 +20,7 @@ use Rattle.drawing.specs.declared.state.AttributeState.{AttributeState}
 use Rattle.drawing.specs.declared.state.Stepped.{Stepped}
 use Rattle.drawing.specs.declared.render.Rendering.{Rendering}
 use Rattle.drawing.proofs.Changes.{one-change}
-use Rattle.drawing.proofs.Writing.{encode-append}
+use Rattle.drawing.proofs.WindowTexts.{encode-append}
 
 -- ---- before them
 

@@ -24,8 +24,9 @@ use Rattle.rows.specs.Rows.{Row, rows}
 use Rattle.rows.specs.Calls.{modeOf, modeAndWidth, numbersOf, rowsCall, heightCall}
 use Rattle.rows.specs.Calls.Laws.{height-refused, height-five, height-accepted, rows-refused, rows-five, rows-six, rows-accepted}
 use Rattle.text.specs.TextParts.{column}
-use Rattle.rows.specs.Contracts.{Kept, kept, keeps, beginning, SpansRoom, MadeWrap, largest, lineRoom, wrappingOf, decided, outcomeOf, answerOf, Called}
-use Rattle.rows.specs.Contracts.Laws.{rows-kept, keeps-count, keeps-numbers, numbersOf-length}
+use Rattle.rows.specs.Wrap.{Kept, kept, keeps, beginning, SpansRoom, MadeWrap}
+use Rattle.rows.specs.Calls.Contracts.{largest, lineRoom, wrappingOf, decided, outcomeOf, answerOf, Called}
+use Rattle.rows.specs.Wrap.Laws.{rows-kept, keeps-count, keeps-numbers, numbersOf-length}
 use Rattle.rows.specs.declared.Request.{Request}
 use Rattle.rows.specs.declared.Outcome.{Outcome}
 use Rattle.rows.specs.declared.wrap.Tally.{Tally}

@@ -17,7 +17,7 @@ use Rattle.drawing.specs.Rendering.{SpanReady, renderRecord, renderRecor
 use Rattle.drawing.specs.declared.state.Drawn.{Drawn}
 use Rattle.drawing.specs.declared.state.Stepped.{Stepped}
 use Rattle.drawing.specs.declared.render.Rendering.{Rendering}
-use Rattle.drawing.proofs.Writing.{encode-append, wrote-none, wrote-then}
+use Rattle.drawing.proofs.WindowTexts.{encode-append, wrote-none, wrote-then}
 
 module _ (d : Rendering) (line : List ℕ) where
   -- one record more behind others

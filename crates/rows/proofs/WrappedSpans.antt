@@ -18,10 +18,10 @@ use Rattle.spans.specs.Calls.{noRecord}
 use Rattle.rows.specs.Rows.{Wrap, tabbed}
 use Rattle.rows.specs.Rows.Laws.{Natural, unit-over, tabbed-over, splitText-over}
 use Rattle.text.specs.TextParts.{textAt}
-use Rattle.rows.specs.Contracts.{held, on, Stepped, unitOf, textOf, recordIn, spanOf, spansOf, lastKept, LastRow, SpanRoom, SpansRoom, MadeWrap}
+use Rattle.rows.specs.Wrap.{held, on, Stepped, unitOf, textOf, recordIn, spanOf, spansOf, lastKept, LastRow, SpanRoom, SpansRoom, MadeWrap}
 use Rattle.rows.specs.declared.wrap.Tally.{Tally}
 use Rattle.rows.specs.declared.wrap.WrapState.{WrapState}
-use Rattle.rows.proofs.Texts.{renamed, on-id, turn, done}
+use Rattle.rows.proofs.WrappedTexts.{renamed, on-id, turn, done}
 
 -- ---- the bytes of a record
 

@@ -30,11 +30,12 @@ use Rattle.rows.specs.Words.{Word, words}
 use Rattle.rows.specs.Words.Laws.{firstWord, restWords, first-word-all, first-word-some, words-first}
 use Rattle.rows.specs.Rows.{Row, Wrap, wrap, pushed, unit, byClusters, byWords, longWord, oneWord, splitText}
 use Rattle.rows.specs.Rows.Laws.{over, Natural, byClusters-over, longWord-over, byWords-over}
-use Rattle.rows.specs.Contracts.{WordAt, WordRoom, bothOf, Kept, kept, keep, keeps, Held, held, on, Room, Stepped, advanced, unitOf, clustersOf, longWordOf, oneWordOf, wordsOf, textOf}
+use Rattle.rows.specs.Words.Contracts.{WordAt, bothOf}
+use Rattle.rows.specs.Wrap.{WordRoom, Kept, kept, keep, keeps, Held, held, on, Room, Stepped, advanced, unitOf, clustersOf, longWordOf, oneWordOf, wordsOf, textOf}
 use Rattle.text.specs.declared.class.Profile as profile
 use Rattle.rows.specs.declared.wrap.WrapState.{WrapState}
-use Rattle.rows.proofs.Breaks.{word-clusters}
-use Rattle.rows.proofs.Steps.{stays}
+use Rattle.rows.proofs.WordClusters.{word-clusters}
+use Rattle.rows.proofs.PushedRows.{stays}
 
 -- ---- one after the other
 

@@ -26,7 +26,7 @@ use Rattle.text.specs.declared.utf8.Sequence.{Sequence}
 use Rattle.text.specs.declared.class.Profile as code
 use Rattle.rows.specs.Words.{Word, aWord}
 use Rattle.rows.specs.Words.Laws.{belongs, firstWord, stillOf, still-none, still-on, still-ends, still-hyphen, still-turns}
-use Rattle.rows.specs.Contracts.{byteBelongs, WordAt}
+use Rattle.rows.specs.Words.Contracts.{byteBelongs, WordAt}
 use Rattle.text.specs.Code.FirstSequence.{ascii-first}
 use Rattle.text.specs.Class.Ranges.{printable-no-space, space-is}
 use Rattle.text.specs.Class.Document01.{printable-width}

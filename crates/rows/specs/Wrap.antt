@@ -1,47 +1,23 @@
--- What the code's values say: words of a text; the state of wrapping and the lent row list, of the rows pushed.
+-- What the contracts of wrap.rt say: the state of wrapping and the lent row list, of the rows pushed.
 use mathlib.Core.Path.{_≡_}
 use Prim.Native.Nat.{ℕ, _+_, _-_, _*_, _/_, _≤_, _<_, _^_}
-use mathlib.Core.Bool.{Bool, true, false, cond, _&&_, _||_, not}
-use mathlib.Core.List.{List, [], _∷_, _++_}
-use lib.ListN.{length, set, take, drop, replicate}
-use lib.Dec.{eqb, leb, ltb}
-use Rattle.buffer.specs.Numbers.{smallerOf}
+use mathlib.Core.Bool.{Bool, cond, _||_}
+use mathlib.Core.List.{List, [], _∷_}
+use lib.ListN.{length, set, drop}
+use lib.Dec.{eqb, ltb}
 use Rattle.text.specs.declared.TextPart.{TextPart}
-use Rattle.text.specs.declared.Answer.{Answer}
 use Rattle.text.specs.Utf8.{Scalar}
 use Rattle.text.specs.Class.{Profile}
-use Rattle.text.specs.Width.{profile01}
-use Rattle.text.specs.TextParts.{column, textAt, Measured}
+use Rattle.text.specs.TextParts.{column}
 use Rattle.text.specs.Cluster.{clusters}
 use Rattle.spans.specs.Spans.{Record}
 use Rattle.spans.specs.Spans.ContentLaw.{textIn}
-use Rattle.spans.specs.Calls.{Read}
-use Rattle.spans.specs.Calls.Contracts.{readAs}
-use Rattle.spans.specs.Numbers.{ReadNumbers}
 use Rattle.rows.specs.Words.{Word, words}
-use Rattle.rows.specs.Words.Laws.{firstWord}
 use Rattle.rows.specs.Rows.{Row, row, Wrap, wrap, unit, byClusters, longWord, oneWord, byWords, splitText, tabbed}
-use Rattle.rows.specs.Calls.{modeAndWidth, Wrapped, rowsCall, heightCall}
-use Rattle.rows.specs.declared.Request.{Request}
-use Rattle.rows.specs.declared.Outcome.{Outcome}
 use Rattle.rows.specs.declared.wrap.Tally.{Tally}
 use Rattle.rows.specs.declared.wrap.WrapState.{WrapState}
-use Rattle.rows.specs.declared.wrap.Wrapping.{Wrapping}
+use Rattle.rows.specs.Words.Contracts.{WordAt}
 pub mod Laws
-
--- ---- words
-
--- a byte that belongs to a separator, or else to a word before a `-`, of those of one column
-abbrev pub byteBelongs : Bool → ℕ → Bool
-byteBelongs sep b = cond sep (eqb b 0x20) ((leb 0x21 b && leb b 0x7E) && not (eqb b 0x2D))
-
--- a word with its separator
-abbrev pub bothOf : Word → List Scalar
-bothOf v = v .word ++ v .sep
-
--- the first word from a place on
-abbrev pub WordAt : Profile → List ℕ → ℕ → TextPart → Type 0
-WordAt P s at r = Measured P s at (bothOf (firstWord (textAt s at))) r
 
 -- ---- the rows pushed
 
@@ -212,50 +188,3 @@ pub record SpansRoom (spans : List Record) (buffer : List ℕ) (len : ℕ) (t : 
 pub record MadeWrap (P : Profile) (width mode : ℕ) (line : List ℕ) (rs : List Record) (l : List ℕ) (t : WrapState) (l′ : List ℕ) (r : Tally) : Type 0 where
   pub same : kept l′ r ≡ lastKept mode (on (spansOf P width mode line rs) (held l t))
   pub more : r .count < 0xFFFF_FFFF_FFFF_FFFF
-
--- ---- the calls
-
-abbrev pub largest : ℕ
-largest = 0xFFFF_FFFF_FFFF_FFFF
-
--- the converted line of a call that is not refused 1 or 2 stands in so many bytes of a buffer
-abbrev pub lineRoom : ℕ → ℕ
-lineRoom conv = smallerOf conv 32768
-
-abbrev pub wrappingOf : Request → ℕ → Wrapping
-wrappingOf q conv = record { profile = record { version = 0 }; width = column (q .width); mode = q .mode; len = lineRoom conv }
-
--- the number that `read` decides, or else questions 5 and 6, of so many rows and a row list of so many numbers
-unfoldable pub decided : Request → (read rows numbers : ℕ) → ℕ
-decided q read rows numbers =
-    cond (ltb 0 read) read
-    (cond (modeAndWidth (q .mode) (q .width)) (cond (q .listed && ltb (numbers / 2) rows) 6 0) 5)
-
--- an accepted call keeps all, and the pairs of the rows; a refused one nothing
-unfoldable pub outcomeOf : (number rows numbers : ℕ) → Outcome
-outcomeOf number rows numbers =
-    cond (eqb number 0)
-    (record { number = 0; count = rows; kept = largest; numbers = 2 * smallerOf rows (numbers / 2) })
-    (record { number = number; count = 0; kept = 0; numbers = 0 })
-
-abbrev pub answerOf : Outcome → Answer
-answerOf o = record { number = o .number; count = o .count }
-
-abbrev pub wrappedAs : Answer → List ℕ → List Record → List ℕ → Wrapped
-wrappedAs a conv spans rows = record { number = a .number; count = a .count; conv = conv; spans = spans; rows = rows }
-
--- what a call leaves that was lent so many bytes, records and numbers: as `rows`, or as `height` where the rows are not to be listed
-pub record Called (q : Request) (size places numbers : ℕ) (line : List ℕ) (a : Answer) (conv : List ℕ) (spans : List Record) (rows : List ℕ) : Type 0 where
-  pub listed : q .listed ≡ true → wrappedAs a conv spans rows ≡ rowsCall profile01 size places numbers (q .width) (q .mode) line
-  pub counted : q .listed ≡ false → readAs a conv spans ≡ heightCall profile01 size places (q .width) (q .mode) line
-
--- ---- the calls with a span list of their own
-
--- what `rows` leaves besides the rows
-abbrev pub readOf : Wrapped → Read
-readOf c = record { number = c .number; count = c .count; conv = c .conv; spans = c .spans }
-
--- the answer is that of a call, n numbers hold its records, and the row list its rows
-pub record RowsNumbers (c : Wrapped) (n : ℕ) (a : Answer) (conv numbers rows : List ℕ) : Type 0 where
-  pub read : ReadNumbers (readOf c) n a conv numbers
-  pub pairs : rows ≡ c .rows

@@ -16,10 +16,11 @@ use Rattle.text.specs.Calls.{Question, decide}
 use Rattle.text.specs.Width.{profile01}
 use Rattle.text.specs.declared.Answer.{Answer}
 use Rattle.text.specs.declared.Column.{Column}
-use Rattle.spans.specs.Spans.{Span, Record}
+use Rattle.spans.specs.Spans.{Span, Record, records}
+use Rattle.spans.specs.Spans.RecordSpans.{Held, spansIn-none, spansIn-records}
 use Rattle.spans.specs.Calls.{Read, noRecord, readCall}
 use Rattle.spans.specs.Calls.Contracts.{readAs}
-use Rattle.rows.specs.Contracts.{lineRoom}
+use Rattle.rows.specs.Calls.Contracts.{lineRoom}
 use Rattle.rows.specs.declared.wrap.Tally.{Tally}
 use Rattle.rows.specs.Calls.{modeAndWidth}
 use Rattle.rows.specs.Calls.Reading as reading
@@ -29,7 +30,7 @@ use Rattle.drawing.specs.Calls as calls
 use Rattle.drawing.specs.Calls.{drawing, windowQuestions, rowQuestions, windowCall, rowCall}
 use Rattle.drawing.specs.Calls.Laws.{further, drawing-unread, drawing-refused, drawing-accepted}
 use Rattle.drawing.specs.Rendering.{largest}
-use Rattle.drawing.specs.Requests.{windowRequest, rowRequest, askedOf, InLimits, drawableOf, wrappingOf, boundsOf, windowRendering, rowsRendering, RowsRoom, changesOf, Drew, RenderedLine, decided, outcomeOf, answerOf, drawnAs, Called}
+use Rattle.drawing.specs.Requests.{windowRequest, rowRequest, askedOf, InLimits, drawableOf, wrappingOf, boundsOf, windowRendering, rowsRendering, firstSpans, RenderWrappedRoom, changesOf, Drew, decided, outcomeOf, answerOf, drawnAs, Called}
 use Rattle.drawing.specs.declared.Request.{Request}
 use Rattle.drawing.specs.declared.Outcome.{Outcome}
 use Rattle.drawing.specs.declared.state.Drawn.{Drawn}
@@ -130,15 +131,28 @@ same-changes q ss e = cases (q .wrapped) (λ h. rw (eq-eqb (askedOf q) 0 e, h)) 
 -- ---- what `read` leaves is drawn
 
 module _ (size places : ℕ) (matches line : List ℕ) (a : Answer) (cs : List ℕ) (rs : List Record) (read : readAs a cs rs ≡ readCall profile01 size places matches line) (q d : Request) (d-is : d ≡ drawableOf q) where
-  -- what `render_wrapped` asks
-  pub call-room : RowsRoom rs cs d (a .count)
-  call-room = let c = reading.count-in size places matches line a cs rs read (a .number) refl in record { there = c .0; few = c .1; limits = rw d-is (drawable-limits q) }
+  abbrev ss : List Span
+  ss = reading.ss size places matches line a cs rs read
 
-  module _ (l l′ : List ℕ) (r : Drawn) (made : RenderedLine d cs (take (a .count) rs) l l′ r) (o : Outcome) (o-is : o ≡ outcomeOf (decided (askedOf q) (a .number) r (length l)) (r .at))
+  module _ (cs-length : length cs ≡ size) where
+    -- the records are those of the spans of the line
+    module _ (fine : a .number ≡ 0) where
+      held : Held (take (lineRoom (length cs)) cs) ss
+      held = rw (ap (λ (n : ℕ). take (lineRoom n) cs) cs-length ∙ reading.line-part size places matches line a cs rs read fine) (reading.held-in size places matches line a cs rs read fine)
+
+      spans-are : firstSpans rs cs (a .count) ≡ ss
+      spans-are = rw (reading.spans-part size places matches line a cs rs read fine) (spansIn-records (take (lineRoom (length cs)) cs) held)
+
+    records-are : (n : ℕ) → a .number ≡ n → records (firstSpans rs cs (a .count)) ≡ take (a .count) rs
+    records-are zero e = ap records (spans-are e) ∙ sym (reading.spans-part size places matches line a cs rs read e)
+    records-are (suc r) e = rw (reading.count-none size places matches line a cs rs read r e) (spansIn-none (take (lineRoom (length cs)) cs))
+
+    -- what `render_wrapped` asks
+    pub call-room : RenderWrappedRoom rs cs d (a .count)
+    call-room = let c = reading.count-in size places matches line a cs rs read (a .number) refl in record { there = c .0; few = c .1; limits = rw d-is (drawable-limits q); held = records-are (a .number) refl }
+
+  module _ (l l′ : List ℕ) (r : Drawn) (made : Drew (changesOf d (firstSpans rs cs (a .count))) l l′ r) (o : Outcome) (o-is : o ≡ outcomeOf (decided (askedOf q) (a .number) r (length l)) (r .at))
       (cs-length : length cs ≡ size) (rs-length : length rs ≡ places) (l-length : length l′ ≡ length l) (cs-room : size < 2 ^ 64) (rs-room : places < 2 ^ 64) where
-    abbrev ss : List Span
-    ss = reading.ss size places matches line a cs rs read
-
     abbrev changes : List Change
     changes = changesOf q ss
 
@@ -194,10 +208,7 @@ module _ (size places : ℕ) (matches line : List ℕ) (a : Answer) (cs : List �
       -- questions 8 and 9 of a request that passes 5 and 7
       module _ (asked : askedOf q ≡ 0) where
         drew : Drew changes l l′ r
-        drew =
-            let h : take (lineRoom (length cs)) cs ≡ reading.s size places matches line a cs rs read ++ reading.after size places matches line a cs rs read fine = ap (λ (n : ℕ). take (lineRoom n) cs) cs-length ∙ reading.line-part size places matches line a cs rs read fine in
-            let m = made .drew ss (reading.spans-part size places matches line a cs rs read fine) (rw h (reading.held-in size places matches line a cs rs read fine)) in
-            rw (ap (λ (x : Request). changesOf x ss) d-is ∙ same-changes q ss asked) at m
+        drew = rw (spans-are cs-length fine, ap (λ (x : Request). changesOf x ss) d-is ∙ same-changes q ss asked) at made
 
         torn-is : (b : Bool) → change.whole changes ≡ b → r .torn ≡ not b
         torn-is b e = drew .torn ∙ ap not e

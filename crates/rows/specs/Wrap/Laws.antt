@@ -19,7 +19,7 @@ use Rattle.spans.specs.Spans.{Content, text, control, invalid, unprintable, esc
 use Rattle.spans.specs.Spans.ContentLaw.{textIn, contentIn, contentOf}
 use Rattle.rows.specs.Rows.{Row, row, Wrap, wrap, split, splits, splitText, lastRow, wrapped, rows}
 use Rattle.rows.specs.Calls.{modeOf, numbersOf}
-use Rattle.rows.specs.Contracts.{nextCount, tallied, pairAt, Kept, kept, keep, keeps, held, on, recordIn, spanOf, spansOf, lastKept, beginning}
+use Rattle.rows.specs.Wrap.{nextCount, tallied, pairAt, Kept, kept, keep, keeps, held, on, recordIn, spanOf, spansOf, lastKept, beginning}
 use Rattle.rows.specs.declared.wrap.Tally.{Tally}
 
 -- ---- what a record does is what its span does
@@ -221,3 +221,35 @@ module _ (value index fallback : Kept → ℕ) (of : Row → ℕ) (g : ℕ → �
   value-kept (r ∷ rs) k (suc i) e h =
       let c : keep k r .tally .count ≡ k .tally .count + 1 = keep-counted k r (omega (arith, keep-counts k r, keepAll-counts rs (keep k r))) in
       rw (← same-index k r) (value-kept rs (keep k r) i (omega (arith, same-index k r)) h) ∙ sym (g-on k i r rs)
+
+-- ---- the bounds that the tally keeps
+
+pub last-stays : (rs : List Row) (k : Kept) → keepAll k rs .tally .last ≡ k .tally .last
+unfolding keepAll keep tallied
+last-stays [] k = refl
+last-stays (r ∷ rs) k = last-stays rs (keep k r)
+
+pub first-stays : (rs : List Row) (k : Kept) → keepAll k rs .tally .first ≡ k .tally .first
+unfolding keepAll keep tallied
+first-stays [] k = refl
+first-stays (r ∷ rs) k = first-stays rs (keep k r)
+
+module _ (g : ℕ → ℕ → List Row → ℕ) (none : (e i : ℕ) → g e i [] ≡ e) (k : Kept) (rs : List Row) (few : keepAll k rs .tally .count < 0xFFFF_FFFF_FFFF_FFFF) (new : k .tally .count ≡ 0) where
+  abbrev y : Tally
+  y = keepAll k rs .tally
+
+  -- the end of a row, or of the last one
+  pub end-kept : ((e : ℕ) (r : Row) (rs : List Row) → g e 0 (r ∷ rs) ≡ r .end) → ((e i : ℕ) (r : Row) (rs : List Row) → g e (suc i) (r ∷ rs) ≡ g (r .end) i rs)
+      → cond (ltb (k .tally .last) (y .count)) (y .end .0) (y .ended .0) ≡ g (k .tally .ended .0) (k .tally .last) rs
+  unfolding keep tallied
+  end-kept here on =
+      value-kept (λ x. x .tally .end .0) (λ x. x .tally .last) (λ x. x .tally .ended .0) (λ r. r .end) g (λ x r. refl)
+      (λ x r. cases (eqb (x .tally .count) (x .tally .last)) (λ e. rw e refl) (λ e. rw e refl)) (λ x i. none _ i) (λ x r rs. here _ r rs) (λ x i r rs. on _ i r rs) rs k (k .tally .last) (omega arith) few
+
+  -- the start of a row, or else a column
+  pub start-kept : ((e : ℕ) (r : Row) (rs : List Row) → g e 0 (r ∷ rs) ≡ r .start) → ((e i : ℕ) (r : Row) (rs : List Row) → g e (suc i) (r ∷ rs) ≡ g e i rs)
+      → (e : ℕ) → cond (ltb (k .tally .first) (y .count)) (y .start .0) e ≡ g e (k .tally .first) rs
+  unfolding keep tallied
+  start-kept here on e =
+      value-kept (λ x. x .tally .start .0) (λ x. x .tally .first) (λ x. e) (λ r. r .start) g (λ x r. refl)
+      (λ x r. cases (eqb (x .tally .count) (x .tally .first)) (λ f. rw f refl) (λ f. rw f refl)) (λ x i. none e i) (λ x r rs. here e r rs) (λ x i r rs. on e i r rs) rs k (k .tally .first) (omega arith) few
