@@ -1,18 +1,19 @@
 -- The ends of the functions that read a sequence at ESC.
-use mathlib.Core.Path.{_≡_, refl}
+use mathlib.Core.Path.{_≡_, refl, ap}
 use Prim.Native.Nat.{ℕ, zero, suc, _+_, _-_, _≤_, _<_}
 use native.Mathlib.Nat.{sub-zero, zero-sub, suc-sub-suc}
 use native.Mathlib.Numerals.{add-one}
 use native.Mathlib.Omega.{arith}
-use mathlib.Core.Bool.{Bool, true, false, cond, _&&_}
+use mathlib.Core.Bool.{Bool, true, false, cond, _&&_, and-false, and-true}
 use mathlib.Core.List.{List, [], _∷_}
 use lib.ListN.{length, take, drop, getD, length-drop, drop-of-length-le}
 use lib.Seq.{drop-cons, take-all, slice, drop-nil, take-nil, getD-drop}
-use lib.Dec.{eqb}
+use lib.Dec.{eqb, leb}
+use Rattle.text.specs.Tests.{cases}
 use Rattle.spans.specs.Sgr.{parameters, orders}
-use Rattle.spans.specs.Sequence.{Sequence, ignored, Found, found, missing, leading, past, ifKnown, erase, final, charset, csi, uriByte, idByte, closed, osc, parse}
+use Rattle.spans.specs.Sequence.{Sequence, ignored, Found, found, missing, leading, past, ifKnown, erase, final, charset, csi, uriByte, closed, osc, parse}
 use Rattle.spans.specs.Sgr.Contracts.{Scanned, ordersOf, ordersAt, parametersAt}
-use Rattle.spans.specs.Sequence.Contracts.{sequenceOf, Skipped, uriAt}
+use Rattle.spans.specs.Sequence.Contracts.{uriByteBut, sequenceOf, Skipped, uriAt}
 use Rattle.spans.specs.declared.sequence.Sequence as code
 use Rattle.spans.specs.declared.sequence.Sequence.the-variants.{Missing}
 use Rattle.spans.specs.declared.sequence.Sequence.the-variants as sequence
@@ -86,18 +87,31 @@ erase-as n a b z e q = rw (← q) e
 
 -- ---- behind `ESC ]`
 
-pub uri-is : (s : List ℕ) (m e b c : ℕ) (z : code.Sequence) → Skipped uriByte s m e → b ≡ getD s e 0 → c ≡ getD s (e + 1) 0 → z ≡ sequenceOf (closed m e b c) → z ≡ sequenceOf (uriAt s m)
+-- 7F is no byte of a URI
+leading-uri : (s : List ℕ) → leading (uriByteBut 0x7F) s ≡ leading uriByte s
+unfolding leading
+leading-uri [] = refl
+leading-uri (b ∷ s) =
+    cases (eqb b 0x7F)
+    (λ e. rw (e, and-false (leb 0x20 b)) refl)
+    (λ e. rw (e, and-true (leb 0x20 b), and-true (leb 0x20 b), leading-uri s) refl)
+
+past-uri : (s : List ℕ) (m : ℕ) → past (uriByteBut 0x7F) s m ≡ past uriByte s m
+unfolding past
+past-uri s m = ap (λ (n : ℕ). m + n) (leading-uri (drop m s))
+
+pub uri-is : (s : List ℕ) (m e b c : ℕ) (z : code.Sequence) → Skipped (uriByteBut 0x7F) s m e → b ≡ getD s e 0 → c ≡ getD s (e + 1) 0 → z ≡ sequenceOf (closed m e b c) → z ≡ sequenceOf (uriAt s m)
 unfolding uriAt
-uri-is s m e b c z k q r p = rw (← (k .len), ← q, ← r) p
+uri-is s m e b c z k q r p = rw (← past-uri s m, ← (k .len), ← q, ← r) p
 
 -- a byte 07 says enough
-pub uri-bell : (s : List ℕ) (m e b : ℕ) (z : code.Sequence) → Skipped uriByte s m e → b ≡ getD s e 0 → z ≡ sequenceOf (closed m e b (getD s (e + 1) 0)) → z ≡ sequenceOf (uriAt s m)
+pub uri-bell : (s : List ℕ) (m e b : ℕ) (z : code.Sequence) → Skipped (uriByteBut 0x7F) s m e → b ≡ getD s e 0 → z ≡ sequenceOf (closed m e b (getD s (e + 1) 0)) → z ≡ sequenceOf (uriAt s m)
 uri-bell s m e b z k q p = uri-is s m e b (getD s (e + 1) 0) z k q refl p
 
 unfoldable pub oscOf : List ℕ → ℕ → ℕ → ℕ → ℕ → Found
 oscOf s i a b c = cond (eqb a 0x38 && (eqb b 0x3B && eqb c 0x3B)) (uriAt s (i + 1)) missing
 
-pub osc-is : (s : List ℕ) (i a b c : ℕ) (z : code.Sequence) → Skipped idByte s 2 i → a ≡ getD s 0 0 → b ≡ getD s 1 0 → c ≡ getD s i 0 → z ≡ sequenceOf (oscOf s i a b c) → z ≡ sequenceOf (osc s)
+pub osc-is : (s : List ℕ) (i a b c : ℕ) (z : code.Sequence) → Skipped (uriByteBut 0x3B) s 2 i → a ≡ getD s 0 0 → b ≡ getD s 1 0 → c ≡ getD s i 0 → z ≡ sequenceOf (oscOf s i a b c) → z ≡ sequenceOf (osc s)
 unfolding osc oscOf uriAt
 osc-is s i a b c z k e f g p = rw (← (k .len), ← e, ← f, ← g) p
 

@@ -10,8 +10,8 @@ ghost use lib.ListN.{length};
 ghost use lib.Seq.{slice};
 ghost use mathlib.Core.List.{[], _∷_};
 ghost use Rattle.spans.specs.Sgr.{parameters, orders};
-ghost use Rattle.spans.specs.Sequence.{final, uriByte, idByte, ifKnown, erase, charset, csi, osc, parse};
-ghost use Rattle.spans.specs.Sequence.Contracts.{sequenceOf, Skipped, UriReady, SequenceReady, uriAt};
+ghost use Rattle.spans.specs.Sequence.{final, ifKnown, erase, charset, csi, osc, parse};
+ghost use Rattle.spans.specs.Sequence.Contracts.{uriByteBut, sequenceOf, Skipped, UriReady, SequenceReady, uriAt};
 
 // What stands at an ESC: the sequence's length, the ESC counted; of a hyperlink first its URI's place from the ESC, and the URI's length.
 pub enum Sequence {
@@ -37,40 +37,19 @@ fn is_final(b: u8) -> bool
                                 | ((b == 0x58) | ((b == 0x5A) | ((b == 0x64) | (b == 0x66))))))))))
 }
 
-fn is_uri(b: u8) -> bool
-    ensures { λ r. ⌜ r ≡ uriByte b ⌝ }
+fn is_uri(b: u8, stop: u8) -> bool
+    ensures { λ r. ⌜ r ≡ uriByteBut stop b ⌝ }
 {
-    (0x20 <= b) & !(b == 0x7F)
+    ((0x20 <= b) & !(b == 0x7F)) & !(b == stop)
 }
 
-fn is_id(b: u8) -> bool
-    ensures { λ r. ⌜ r ≡ idByte b ⌝ }
-{
-    ((0x20 <= b) & !(b == 0x7F)) & !(b == 0x3B)
-}
-
-// Past the bytes of a URI.
-fn skip_uri(s: &[u8], at: usize) -> usize
-    ensures { λ r. ⌜ Skipped uriByte (now (s .entry)) at r ⌝ }
+// Past the bytes of a URI, or those before it, up to `stop`.
+fn skip_uri(s: &[u8], at: usize, stop: u8) -> usize
+    ensures { λ r. ⌜ Skipped (uriByteBut stop) (now (s .entry)) at r ⌝ }
 {
     let mut i = at;
     while i < s.len() {
-        if is_uri(s[i]) {
-            i += 1;
-        } else {
-            return i;
-        }
-    }
-    i
-}
-
-// Past the bytes before a URI's `;`.
-fn skip_id(s: &[u8], at: usize) -> usize
-    ensures { λ r. ⌜ Skipped idByte (now (s .entry)) at r ⌝ }
-{
-    let mut i = at;
-    while i < s.len() {
-        if is_id(s[i]) {
+        if is_uri(s[i], stop) {
             i += 1;
         } else {
             return i;
@@ -153,7 +132,7 @@ fn uri_at(s: &[u8], m: usize) -> Sequence
     requires { ⌜ UriReady (now s) m ⌝ }
     ensures { λ r. ⌜ r ≡ sequenceOf (uriAt (now (s .entry)) m) ⌝ }
 {
-    let e = skip_uri(s, m);
+    let e = skip_uri(s, m, 0x7F);
     let b = byte_at(s, e);
     if b == 0x07 {
         return Sequence::Hyperlink(2 + m, e - m, 3 + e);
@@ -170,7 +149,7 @@ fn osc(s: &[u8]) -> Sequence
     requires { ⌜ length (now s) ≤ 65536 ⌝ }
     ensures { λ r. ⌜ r ≡ sequenceOf (osc (now (s .entry))) ⌝ }
 {
-    let i = skip_id(s, 2);
+    let i = skip_uri(s, 2, b';');
     let a = byte_at(s, 0);
     let b = byte_at(s, 1);
     let c = byte_at(s, i);

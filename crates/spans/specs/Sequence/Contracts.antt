@@ -1,9 +1,10 @@
 -- What the contracts of src/sequence.rt say beyond the definitions.
 use mathlib.Core.Path.{_≡_}
 use Prim.Native.Nat.{ℕ, _+_, _≤_, _<_}
-use mathlib.Core.Bool.{Bool}
+use mathlib.Core.Bool.{Bool, not, _&&_}
 use mathlib.Core.List.{List}
 use lib.ListN.{length, getD}
+use lib.Dec.{eqb}
 use Rattle.spans.specs.Sequence.{sgr, eraseToEnd, ignored, hyperlink, lineDrawing, Found, found, missing, past, uriByte, closed}
 use Rattle.spans.specs.declared.sequence.Sequence as code
 use Rattle.spans.specs.declared.sequence.Sequence.the-variants.{Missing, EraseToEnd, Ignored, Hyperlink, LineDrawing}
@@ -32,6 +33,10 @@ pub record Skipped (p : ℕ → Bool) (s : List ℕ) (at r : ℕ) : Type 0 where
   pub len : r ≡ past p s at
   pub up : at ≤ r
   pub low : r ≤ at + length s
+
+-- a byte of a URI other than `stop`; that before a URI's `;` is one but `;`, and 7F is none
+abbrev pub uriByteBut : ℕ → ℕ → Bool
+uriByteBut stop b = uriByte b && not (eqb b stop)
 
 -- behind `ESC ]`: a URI at m
 unfoldable pub uriAt : List ℕ → ℕ → Found

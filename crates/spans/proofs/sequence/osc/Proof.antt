@@ -5,8 +5,8 @@ use borrow.Author.Needs.{needs}
 use Rattle.spans.proofs.sequence.osc.Statement.{statement}
 use Rattle.spans.proofs.sequence.osc.Tie as tie
 
-skip-id-requires : tie.Need-skip-id-requires
-skip-id-requires c κs = search needs
+skip-uri-requires : tie.Need-skip-uri-requires
+skip-uri-requires c κs = search needs
 
 byte-at-requires : tie.Need-byte-at-requires
 byte-at-requires c κs = search needs
@@ -35,7 +35,7 @@ pub osc-spec : {M : Type 1} → statement M
 osc-spec =
     tie.close
     (tie.spec
-    skip-id-requires
+    skip-uri-requires
     byte-at-requires
     byte-at-requires-2
     byte-at-requires-3

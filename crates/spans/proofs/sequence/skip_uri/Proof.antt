@@ -1,16 +1,16 @@
 use Prim.Native.Nat.{_-_}
 use lib.ListN.{length}
-use Rattle.spans.specs.Sequence.{uriByte}
+use Rattle.spans.specs.Sequence.Contracts.{uriByteBut}
 use Rattle.spans.proofs.Sequences.{Skipping, skip-begins, skip-more, skip-stops, skip-past}
 use borrow.Author.Needs.{needs}
 use Rattle.spans.proofs.sequence.skip_uri.Statement.{statement}
 use Rattle.spans.proofs.sequence.skip_uri.Tie as tie
 
 abbrev Inv-loop : tie.InvT-loop
-Inv-loop s at i₀ i = Skipping uriByte s at i
+Inv-loop s at stop i₀ i = Skipping (uriByteBut stop) s at i
 
 abbrev μ-loop : tie.MeasureT-loop
-μ-loop s at i₀ i = length s - i
+μ-loop s at stop i₀ i = length s - i
 
 loop-holds : tie.Need-loop-holds Inv-loop μ-loop
 loop-holds c = search skip-begins
