@@ -1,33 +1,31 @@
 -- What a record sends is what its span sends, where the span holds what its record says of the line.
-use mathlib.Core.Path.{_≡_, refl, sym, ap, ap₂, _∙_}
-use Prim.Native.Nat.{ℕ, _+_, _≤_, _<_}
+use mathlib.Core.Path.{_≡_, refl, sym, ap, _∙_}
+use Prim.Native.Nat.{ℕ, _+_, _<_}
 use native.Mathlib.Omega.{arith}
-use mathlib.Core.Bool.{Bool, true, false, cond, not, _&&_, _||_}
-use mathlib.Core.List.{List, [], _∷_, _++_, append-assoc}
+use mathlib.Core.Bool.{true, false, cond, _||_}
+use mathlib.Core.List.{List, [], _++_, append-assoc}
 use mathlib.Core.Option.{Option, none, some}
 use lib.ListN.{length, drop, getD, length-drop}
 use lib.Seq.{drop-drop, getD-drop}
 use lib.Dec.{eqb, leb}
-use borrow.Author.Tests.{lt-leb}
 use Rattle.text.specs.Tests.{cases}
 use Rattle.text.specs.Each.{All, all-nil, all-cons}
 use Rattle.text.specs.Utf8.{Scalar}
 use Rattle.text.specs.Class.{Profile}
 use Rattle.text.specs.Code.{profileOf}
 use Rattle.spans.specs.Sgr.{parameters, orders}
-use Rattle.spans.specs.Sequence.{Sequence, sgr, eraseToEnd, ignored, hyperlink, lineDrawing, Found, found, missing, parse}
+use Rattle.spans.specs.Sequence.{Sequence, sgr, eraseToEnd, ignored, hyperlink, lineDrawing, found, parse}
 use Rattle.spans.specs.Sequence.Laws.{parse-orders, parse-drawing, parse-some}
-use Rattle.spans.specs.Spans.{Content, text, control, invalid, unprintable, escape, tab, crlf, lf, Span, Record, aRecord, kindOf, matchOf, recordOf, records}
+use Rattle.spans.specs.Spans.{Content, text, control, invalid, unprintable, escape, tab, crlf, lf, Span, aRecord, kindOf, matchOf, recordOf, records}
 use Rattle.spans.specs.Spans.ContentLaw.{sequenceIn, textIn, contentIn, contentOf}
 use Rattle.spans.specs.Spans.RecordSpans.{sequenceIn-found}
 use Rattle.spans.specs.Sgr.Contracts.{ordersAt, orders-from}
-use Rattle.spans.specs.declared.sgr.Sgr.{Sgr}
 use Rattle.drawing.specs.Attributes as attributes
-use Rattle.drawing.specs.Attributes.{Style, file, match, currentMatch}
+use Rattle.drawing.specs.Attributes.{Style, file}
 use Rattle.drawing.specs.Change.{Change}
 use Rattle.drawing.specs.Draw.{State, Sent, sent, writeTruncated, writeMarks, renderSequence, textStyle, renderSpan, renderSpans}
 use Rattle.drawing.specs.Marks.{lineDrawn}
-use Rattle.drawing.specs.Contracts.{styleOf, shownText, composedStyle, composedText}
+use Rattle.drawing.specs.Contracts.{styleOf, composedStyle, composedText}
 use Rattle.drawing.specs.Rendering.{largest, currentOf, recordStyle, linkIn, recordSequence, renderRecord, renderRecords}
 use Rattle.drawing.specs.declared.render.Rendering.{Rendering}
 use Rattle.drawing.proofs.Sequences.{record-here}

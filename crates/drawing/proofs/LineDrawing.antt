@@ -4,23 +4,23 @@ use mathlib.Core.Logic.{_≢_}
 use Prim.Native.Nat.{ℕ, zero, suc, _+_, _-_, _*_, _/_, _%_, _≤_, _<_}
 use native.Mathlib.Numerals.{add-one}
 use native.Mathlib.Omega.{arith}
-use mathlib.Core.Bool.{Bool, true, false, cond, _&&_, _||_, and-false, true≢false}
+use mathlib.Core.Bool.{Bool, true, false, cond, _&&_, and-false}
 use mathlib.Core.List.{List, [], _∷_, _++_, map, append-nil}
 use lib.ListN.{length, take, drop, getD, List·getD-map, length-append, drop-of-length-le, take-append-drop}
 use lib.Seq.{take-append-seam, length-take-le, drop-cons}
-use lib.Dec.{T, eqb, leb, ltb, eqb→eq, leb→le}
+use lib.Dec.{T, leb, ltb, leb→le}
 use borrow.Author.Tests.{le-leb, lt-leb, ltb-true, ltb-false, lt-ltb, le-ltb}
 use Rattle.buffer.specs.Sink.{Sink, sink, put, emit}
 use Rattle.buffer.specs.Sink.Laws.{emit-append, emit-none, fitted, emit-put, then-put}
 use Rattle.text.specs.Tests.{cases, and-T, in-range, is-true, or-false, true-T}
 use Rattle.text.specs.Each.{All, all-nil, all-cons}
-use Rattle.text.specs.Utf8.{Scalar, wellFormed, scalar, to, within, decode, bytesOf}
+use Rattle.text.specs.Utf8.{Scalar, scalar, to, within, decode, bytesOf}
 use Rattle.text.specs.Utf8.Valid.{Valid, run-text}
 use Rattle.text.specs.Class.{Profile}
 use Rattle.text.specs.Width.{widthOf}
 use Rattle.text.specs.Cluster.Walk.{size-is}
 use Rattle.text.specs.Code.{runOf, size, profileOf, printable, firstSequence}
-use Rattle.text.specs.Code.Laws.{ScalarAt, scalar-at, none-at, none-past, run-valid, run-fits, front-bytes, size-cons, size-nil, width-cons}
+use Rattle.text.specs.Code.Laws.{scalar-at, none-at, none-past, run-valid, run-fits, front-bytes, size-cons, size-nil, width-cons}
 use Rattle.text.specs.Class.Ascii.{printable-columns}
 use Rattle.text.specs.Code.Profile01.{ascii-classes}
 use Rattle.text.specs.Utf8.FirstByte.{high-code}

@@ -1,33 +1,33 @@
 -- Marks and tabs as printable bytes.
-use mathlib.Core.Path.{_≡_, refl, sym, ap, ap₂, _∙_}
+use mathlib.Core.Path.{_≡_, refl, sym, ap, _∙_}
 use mathlib.Core.Logic.{_≢_}
 use Prim.Native.Nat.{ℕ, zero, suc, _+_, _-_, _*_, _/_, _%_, _≤_, _<_, _^_}
 use native.Mathlib.Omega.{arith}
-use mathlib.Core.Bool.{Bool, true, false, cond, not, _&&_, true≢false}
-use mathlib.Core.List.{List, [], _∷_, _++_, append-nil, append-assoc}
+use mathlib.Core.Bool.{Bool, true, false, cond, _&&_, true≢false}
+use mathlib.Core.List.{List, [], _∷_, _++_}
 use lib.ListN.{length, take, drop, replicate, set, length-append}
 use lib.Seq.{take-append-seam, length-take-le}
 use lib.Dec.{eqb, ltb}
-use borrow.Author.Tests.{eq-eqb, ne-eqb, eqb-true, eqb-false, lt-ltb, le-ltb, ltb-true, ltb-false, le-leb}
+use borrow.Author.Tests.{eq-eqb, ne-eqb, eqb-true, eqb-false, lt-ltb, le-ltb, ltb-true, le-leb}
 use Rattle.buffer.specs.Numbers as numbers
 use Rattle.buffer.specs.Sink.{Sink, sink, put, emit}
 use Rattle.buffer.specs.Sink.Laws.{emit-none, then-emit, fitted, emit-put, then-put}
 use Rattle.text.specs.Tests.{cases}
-use Rattle.text.specs.Utf8.{Scalar, ascii, asciis, decode, bytesOf}
+use Rattle.text.specs.Utf8.{ascii, asciis, decode, bytesOf}
 use Rattle.text.specs.Utf8.AsciiTexts.{asciis-append, asciis-bytes, asciis-cons, asciis-nil, asciis-replicate}
 use Rattle.text.specs.Cluster.Printable.{printable-width, run-printable}
 use Rattle.text.specs.Code.Profile01.{ascii-classes}
 use Rattle.text.specs.Width.{widthOf}
-use Rattle.text.specs.Code.{runOf, size, profileOf, firstSequence, printable}
-use Rattle.text.specs.Code.Laws.{ScalarAt, scalar-at, none-at, none-past}
+use Rattle.text.specs.Code.{runOf, profileOf, firstSequence, printable}
+use Rattle.text.specs.Code.Laws.{scalar-at, none-at, none-past}
 use Rattle.text.specs.TextParts.{textAt}
 use Rattle.text.specs.declared.utf8.Sequence.{Sequence}
 use Rattle.text.specs.declared.class.Profile as profile
 use Rattle.drawing.specs.Clip.{spaces}
 use Rattle.drawing.specs.Marks.{hexDigit, byteMark, upperDigits, scalarMark}
 use Rattle.drawing.specs.Attributes.{control}
-use Rattle.drawing.specs.Draw.{State, Sent, sent, style, move, writeTruncated, writeMarks}
-use Rattle.drawing.specs.Contracts.{allPrintable, styleOf, stateOf, Wrote, ColumnsReady, writingColumns, eightSpaces, composedText, composedStyle, composedColumns, Composed, composing, moved, ComposedWrote, scalarMarking, marking, MarksWrote}
+use Rattle.drawing.specs.Draw.{writeMarks}
+use Rattle.drawing.specs.Contracts.{allPrintable, styleOf, stateOf, Wrote, ColumnsReady, writingColumns, eightSpaces, composedText, composedStyle, composedColumns, Composed, moved, ComposedWrote, scalarMarking, MarksWrote}
 use Rattle.drawing.specs.declared.attributes.Style as code
 use Rattle.drawing.specs.declared.attributes.Style.the-variants.{File, Control}
 use Rattle.drawing.specs.declared.state.AttributeState.{AttributeState}

@@ -1,20 +1,20 @@
 -- Sequences: what a record's kind and place say of them, and the state after them.
 use mathlib.Core.Path.{_≡_, refl, sym, ap, _∙_}
 use mathlib.Core.Logic.{_≢_}
-use Prim.Native.Nat.{ℕ, zero, suc, _+_, _-_, _*_, _≤_, _<_}
+use Prim.Native.Nat.{ℕ, _+_, _-_, _≤_, _<_}
 use native.Mathlib.Omega.{arith}
-use mathlib.Core.Bool.{Bool, true, false, cond, _&&_, _||_}
-use mathlib.Core.List.{List, [], _∷_}
-use lib.ListN.{length, take, drop, getD, length-drop, length-take}
+use mathlib.Core.Bool.{true, cond}
+use mathlib.Core.List.{List}
+use lib.ListN.{length, drop, getD, length-drop}
 use lib.Seq.{slice, take-all}
-use lib.Dec.{eqb, leb}
-use borrow.Author.Tests.{eq-eqb, ne-eqb, le-leb, lt-leb}
-use Rattle.text.specs.Tests.{cases}
+use lib.Dec.{eqb}
+use borrow.Author.Tests.{ne-eqb, le-leb, lt-leb}
 use Rattle.text.specs.Class.{Profile}
 use Rattle.spans.specs.Sequence.{Sequence, sgr, eraseToEnd, ignored, hyperlink, lineDrawing, Found, found, missing, parse}
 use Rattle.spans.specs.Sequence.Laws.{parse-length, parse-link}
 use Rattle.spans.specs.Sgr.Contracts.{ordersAt}
-use Rattle.spans.specs.Sequence.Contracts.{sequenceOf, sequence-link}
+use Rattle.spans.specs.Sequence.Contracts.{sequenceOf}
+use Rattle.spans.specs.Sequence.Contracts as spans
 use Rattle.spans.specs.declared.sequence.Sequence as sequence
 use Rattle.spans.specs.declared.sequence.Sequence.the-variants as sequences
 use Rattle.drawing.specs.Attributes.{linked}
@@ -35,7 +35,7 @@ linkable line place q h k e =
     record {
       near = omega arith;
       from = λ p n m f.
-          let g : parse s ≡ found (hyperlink p n) m = sequence-link (parse s) p n m (sym e ∙ f) in
+          let g : parse s ≡ found (hyperlink p n) m = spans.sequence-link (parse s) p n m (sym e ∙ f) in
           omega (arith, parse-link s p n m g, parse-length s (hyperlink p n) m g, ap length (slice-is line place), length-drop (place + 1) line);
     }
 

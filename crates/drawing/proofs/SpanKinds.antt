@@ -1,26 +1,26 @@
 -- One span, by its kind.
-use mathlib.Core.Path.{_≡_, refl, sym, ap, _∙_}
+use mathlib.Core.Path.{_≡_, refl, sym, ap}
 use mathlib.Core.Logic.{_≢_}
 use Prim.Native.Nat.{ℕ, _+_, _-_, _*_, _≤_, _<_, _^_}
 use native.Mathlib.Omega.{arith}
-use mathlib.Core.Bool.{Bool, true, false, cond, _&&_, _||_}
-use mathlib.Core.List.{List, [], _∷_, append-nil}
+use mathlib.Core.Bool.{Bool, true, false, _||_}
+use mathlib.Core.List.{List, [], append-nil}
 use lib.ListN.{length, take, drop, getD, length-take, length-drop}
 use lib.Seq.{length-take-le}
 use lib.Dec.{eqb}
-use borrow.Author.Tests.{eq-eqb, ne-eqb, eqb-false}
+use borrow.Author.Tests.{ne-eqb}
 use Rattle.text.specs.Tests.{cases}
 use Rattle.text.specs.Utf8.{Scalar}
 use Rattle.text.specs.Width.{widthOf}
-use Rattle.text.specs.Code.{profileOf, size}
+use Rattle.text.specs.Code.{profileOf}
 use Rattle.text.specs.Code.Laws.{width-size, run-valid, run-fits}
 use Rattle.text.specs.TextParts.{textAt}
 use Rattle.text.specs.declared.class.Profile as profile
 use Rattle.spans.specs.Spans.{Record}
 use Rattle.spans.specs.Spans.ContentLaw.{textIn}
 use Rattle.spans.specs.Spans.RecordSpans.{textIn-is}
-use Rattle.drawing.specs.Draw.{State, Sent, sent, writeTruncated, writeMarks, renderSequence}
-use Rattle.drawing.specs.Contracts.{styleOf, stateOf, Wrote, shownText, WriteReady, writing, composedText, composedStyle, ComposedWrote, marking, MarksWrote}
+use Rattle.drawing.specs.Draw.{State, writeTruncated}
+use Rattle.drawing.specs.Contracts.{styleOf, stateOf, Wrote, shownText, WriteReady, writing, composedText, composedStyle, ComposedWrote, MarksWrote}
 use Rattle.drawing.specs.Rendering.{recordStyle, recordSequence, SequenceDone, SpanReady, renderRecord, SpanDrawn}
 use Rattle.drawing.specs.declared.attributes.Style as code
 use Rattle.drawing.specs.declared.state.AttributeState.{AttributeState}

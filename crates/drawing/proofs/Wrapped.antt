@@ -1,13 +1,11 @@
 -- render_wrapped: the bounds of the wanted rows, and what is drawn within them.
-use mathlib.Core.Path.{_≡_, refl, sym, ap, ap₂, _∙_}
-use Prim.Native.Nat.{ℕ, zero, suc, _+_, _-_, _*_, _≤_, _<_}
-use native.Mathlib.Nat.{add-zero}
+use mathlib.Core.Path.{_≡_, refl, sym, ap, _∙_}
+use Prim.Native.Nat.{ℕ, zero, suc, _+_, _-_, _≤_, _<_}
 use native.Mathlib.Omega.{arith}
-use mathlib.Core.Bool.{Bool, true, false, cond, not, _&&_, _||_, and-true}
-use mathlib.Core.List.{List, [], _∷_, _++_, append-assoc}
-use mathlib.Core.Option.{Option}
+use mathlib.Core.Bool.{Bool, true, false, cond, not, _||_, and-true}
+use mathlib.Core.List.{List, [], _++_}
 use lib.ListN.{length, take}
-use lib.Dec.{eqb, leb, ltb}
+use lib.Dec.{ltb}
 use borrow.Author.Tests.{lt-ltb}
 use Rattle.buffer.specs.Sink.{sink, emit}
 use Rattle.buffer.specs.Sink.Laws.{then-emit}
@@ -31,8 +29,8 @@ use Rattle.drawing.specs.Change.{Change, encode}
 use Rattle.drawing.specs.Change as change
 use Rattle.drawing.specs.Draw.{State, Sent, renderSpans, initial, leftArrow, rightArrow, closeWindow, render, endOf, startOf, closeRows, renderWrapped}
 use Rattle.drawing.specs.Contracts.{stateOf, styleOf, newState}
-use Rattle.drawing.specs.Rendering.{largest, currentOf, opening, closing, Opened, RenderRoom, Rendered, renderRecords}
-use Rattle.drawing.specs.Requests.{InLimits, wrappingOf, boundsEnd, boundsOf, windowRendering, rowsRendering, renderingOf, spansWrapped, firstSpans, RenderWrappedRoom, changesOf, Drew}
+use Rattle.drawing.specs.Rendering.{currentOf, opening, closing, Opened, RenderRoom, Rendered, renderRecords}
+use Rattle.drawing.specs.Requests.{wrappingOf, boundsEnd, boundsOf, windowRendering, rowsRendering, renderingOf, spansWrapped, firstSpans, RenderWrappedRoom, changesOf, Drew}
 use Rattle.drawing.specs.declared.Request.{Request}
 use Rattle.drawing.specs.declared.state.Drawn.{Drawn}
 use Rattle.drawing.specs.declared.state.Stepped.{Stepped}

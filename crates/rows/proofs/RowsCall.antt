@@ -1,5 +1,5 @@
 -- The calls `rows` and `height`: what `read` leaves is wrapped, and the number, the count and what is kept are those of the definition.
-use mathlib.Core.Path.{_≡_, refl, sym, ap, _∙_}
+use mathlib.Core.Path.{_≡_, refl, sym, ap, subst, _∙_}
 use mathlib.Core.Logic.{_≢_}
 use Prim.Native.Nat.{ℕ, zero, suc, _+_, _-_, _*_, _/_, _≤_, _<_, _^_}
 use native.Mathlib.Omega.{arith}
@@ -13,11 +13,12 @@ use Rattle.buffer.specs.Sink.{cleared}
 use Rattle.buffer.specs.Sink.Laws.{cleared-none, cleared-all, cleared-behind}
 use Rattle.text.specs.Tests.{cases, and-T, true-T, is-true}
 use Rattle.text.specs.Width.{profile01}
+use Rattle.text.specs.Class.{Profile}
 use Rattle.text.specs.Code.{profileOf}
+use Rattle.text.specs.Code.Profile01.{profile-is}
 use Rattle.text.specs.Overstrike.{convert}
 use Rattle.text.specs.declared.Answer.{Answer}
 use Rattle.spans.specs.Spans.{Span, spans, Record, records}
-use Rattle.spans.specs.Search as search
 use Rattle.spans.specs.Calls.{Read, readCall, noRecord}
 use Rattle.spans.specs.Calls.Contracts.{readAs}
 use Rattle.rows.specs.Rows.{Row, rows}
@@ -33,7 +34,7 @@ use Rattle.rows.specs.declared.wrap.Tally.{Tally}
 use Rattle.rows.specs.declared.wrap.WrapState.{WrapState}
 use Rattle.rows.specs.declared.wrap.Wrapping.{Wrapping}
 use Rattle.rows.specs.Calls.Reading as reading
-use Rattle.rows.specs.Calls.Reading.{line-room}
+use Rattle.rows.specs.Calls.Reading.{line-room, unmatched-spans}
 
 -- ---- the covered functions
 
@@ -95,12 +96,12 @@ module _ (size places : ℕ) (line found : List ℕ) (a : Answer) (cs : List ℕ
         after = reading.after size places [] line a cs rs read-is fine
 
         made-is : MadeWrap profile01 (q .width) (q .mode) (s ++ after) (records ss) l (beginning 0 0) l′ tally
-        unfolding profileOf search.read
-        made-is = rw (← reading.line-part size places [] line a cs rs read-is fine, ← reading.spans-part size places [] line a cs rs read-is fine, ← t-is) (rw w-is at made)
+        made-is =
+            let m = subst (λ (P : Profile). MadeWrap P (w .width .0) (w .mode) (take (w .len) cs) (take (a .count) rs) l t l′ tally) (profile-is (w .profile)) made in
+            rw (← unmatched-spans profile01 s, ← reading.line-part size places [] line a cs rs read-is fine, ← reading.spans-part size places [] line a cs rs read-is fine, ← t-is) (rw w-is at m)
 
         kept-is : kept l′ tally ≡ keeps none-yet (reverse rowsFound)
-        unfolding search.read
-        kept-is = made-is .same ∙ rows-kept profile01 (q .width) (s ++ after) l 0 0 ss (q .mode) mode-low (reading.held-in size places [] line a cs rs read-is fine)
+        kept-is = made-is .same ∙ rows-kept profile01 (q .width) (s ++ after) l 0 0 ss (q .mode) mode-low (rw (unmatched-spans profile01 s) at (reading.held-in size places [] line a cs rs read-is fine))
 
         few-rows : keeps none-yet (reverse rowsFound) .tally .count < largest
         few-rows = rw (ap (λ (k : Kept). k .tally .count) kept-is) at (made-is .more)

@@ -1,19 +1,20 @@
 -- What `read` leaves, for those who go on with the spans: the converted line at the front of the buffer, and a record for each span.
-use mathlib.Core.Path.{_≡_, sym, ap, _∙_}
+use mathlib.Core.Path.{_≡_, refl, sym, ap, _∙_}
 use Prim.Native.Nat.{ℕ, zero, suc, _+_, _-_, _≤_}
 use native.Mathlib.Omega.{arith}
-use mathlib.Core.List.{List, _++_}
+use mathlib.Core.List.{List, [], _++_}
 use lib.ListN.{length, take, replicate, length-append, length-map}
 use lib.Seq.{take-at, take-append-add}
 use lib.Dec.{leb}
 use borrow.Author.Tests.{leb-true, leb-false}
 use Rattle.text.specs.Tests.{cases}
 use Rattle.text.specs.Each.{All}
+use Rattle.text.specs.Class.{Profile}
 use Rattle.text.specs.Width.{profile01}
 use Rattle.text.specs.Overstrike.{convert}
 use Rattle.text.specs.Overstrike.Length.{convert-size}
 use Rattle.text.specs.declared.Answer.{Answer}
-use Rattle.spans.specs.Spans.{Span, Record, recordOf, records}
+use Rattle.spans.specs.Spans.{Span, spans, Record, recordOf, records}
 use Rattle.spans.specs.Spans.SpanCount.{few}
 use Rattle.spans.specs.Spans.ContentLaw.{contentOf, content-front}
 use Rattle.spans.specs.Search as search
@@ -21,6 +22,11 @@ use Rattle.spans.specs.Calls.{Read, readCall, noRecord}
 use Rattle.spans.specs.Calls.Laws.{read-accepted, read-refused, read-passed}
 use Rattle.spans.specs.Calls.Contracts.{readAs}
 use Rattle.rows.specs.Calls.Contracts.{lineRoom}
+
+-- without matches
+pub unmatched-spans : (P : Profile) (s : List ℕ) → search.read P [] s ≡ spans P s
+unfolding search.read
+unmatched-spans P s = refl
 
 module _ (size places : ℕ) (matches line : List ℕ) (a : Answer) (cs : List ℕ) (rs : List Record) (read : readAs a cs rs ≡ readCall profile01 size places matches line) where
   abbrev pub s : List ℕ

@@ -1,5 +1,5 @@
 -- The spans that the records of a line stand for.
-use mathlib.Core.Path.{_≡_, refl, ap, ap₂, _∙_}
+use mathlib.Core.Path.{_≡_, refl, ap, ap₂}
 use Prim.Native.Nat.{ℕ}
 use native.Mathlib.Omega.{arith}
 use mathlib.Core.List.{List, [], _∷_, map}
@@ -7,7 +7,7 @@ use lib.ListN.{take}
 use Rattle.text.specs.Each.{All, all-nil, all-cons}
 use Rattle.text.specs.Utf8.{decode, runOf}
 use Rattle.spans.specs.Sequence.{Sequence, Found, found, missing}
-use Rattle.spans.specs.Spans.{Content, escape, Span, span, Record, recordOf, records}
+use Rattle.spans.specs.Spans.{escape, Span, span, Record, recordOf, records}
 use Rattle.spans.specs.Spans.ContentLaw.{contentOf, sequenceIn, textIn}
 
 unfoldable pub spanIn : List ℕ → Record → Span

@@ -1,12 +1,12 @@
 -- Printable texts: as wide as they are long, each scalar a cluster by itself.
-use mathlib.Core.Path.{_≡_, refl, sym, ap, _∙_}
+use mathlib.Core.Path.{_≡_, refl}
 use native.Mathlib.Omega.{arith}
-use Prim.Native.Nat.{ℕ, _+_, _<_}
+use Prim.Native.Nat.{ℕ}
 use mathlib.Core.Bool.{true}
 use mathlib.Core.List.{List, [], _∷_}
 use lib.ListN.{length}
 use Rattle.text.specs.Each.{All, all-nil, all-cons, all-map}
-use Rattle.text.specs.Utf8.{Scalar, ascii, asciis, decode, runOf}
+use Rattle.text.specs.Utf8.{ascii, asciis, decode, runOf}
 use Rattle.text.specs.Utf8.AsciiTexts.{asciis-cons, asciis-nil, run-asciis}
 use Rattle.text.specs.Class.{Profile}
 use Rattle.text.specs.Class.Ascii.{AsciiClasses, printable-class, printable-columns, printable-range}

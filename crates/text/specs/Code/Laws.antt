@@ -1,14 +1,14 @@
 -- The run that a text begins with, cut in two between scalars; its width; a text's first cluster.
 use mathlib.Core.Path.{_≡_, refl, sym, ap, ap₂, _∙_}
 use mathlib.Core.Logic.{_≢_}
-use Prim.Native.Nat.{ℕ, zero, suc, _+_, _*_, _≤_, _<_}
+use Prim.Native.Nat.{ℕ, _+_, _*_, _≤_, _<_}
 use native.Mathlib.Nat.{add-zero}
 use native.Mathlib.Omega.{arith}
 use mathlib.Core.List.{List, [], _∷_, _++_, map, append-assoc}
 use lib.ListN.{length, take, drop, length-append, length-drop, drop-of-length-le, take-append-drop, getD}
 use lib.Seq.{take-append-seam, drop-append-seam, drop-drop, getD-drop}
 use lib.Dec.{T, eqb, eqb→eq}
-use mathlib.Core.Bool.{Bool, true, false, _&&_}
+use mathlib.Core.Bool.{Bool, false, _&&_}
 use Rattle.text.specs.Tests.{cases, and-T, true-T, every, every-one}
 use Rattle.text.specs.Each.{All, all-nil, all-cons, all-split}
 use Rattle.text.specs.Utf8.{Scalar, scalar, ascii, Decoded, wellFormed, illFormed, fits, decode, decodeFrom, bytesOf}
