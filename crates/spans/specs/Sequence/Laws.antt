@@ -325,7 +325,7 @@ parse-drawing s b n e = rw e at (told s)
 -- the URI of a hyperlink begins inside the sequence
 pub parse-link : (s : List ℕ) (a m n : ℕ) → parse s ≡ found (hyperlink a m) n → a ≤ n
 unfolding Told
-parse-link s a m n e = rw e at (sequenceOf s)
+parse-link s a m n e = rw e at (told s)
 
 -- a sequence is found only where there are bytes
 pub parse-some : (s : List ℕ) (q : Sequence) (n : ℕ) → parse s ≡ found q n → 1 ≤ length s
