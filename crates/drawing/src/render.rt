@@ -24,7 +24,7 @@ use spans::sgr::Orders;
 use text::BytePlace;
 use text::Column;
 ghost use mathlib.Core.Path.{_≡_};
-ghost use Prim.Native.Nat.{_+_, _*_, _≤_, _<_, _^_};
+ghost use Prim.Native.Nat.{_+_, _≤_, _<_};
 ghost use lib.ListN.{length, take};
 ghost use Rattle.buffer.specs.Sink.{sink, emit};
 ghost use Rattle.drawing.specs.Change.{encode};

@@ -4,9 +4,8 @@ use mathlib.Core.Logic.{_≢_}
 use Prim.Native.Nat.{ℕ, zero, suc, _+_, _-_, _*_, _/_, _≤_, _<_, _^_}
 use native.Mathlib.Omega.{arith}
 use mathlib.Core.Bool.{Bool, true, false, cond, _&&_}
-use mathlib.Core.List.{List, [], _++_, reverse, reverse-reverse, append-nil}
+use mathlib.Core.List.{List, [], _++_, reverse, reverse-reverse}
 use lib.ListN.{length, take, drop, replicate, length-reverse}
-use lib.Seq.{take-all, take-at}
 use lib.Dec.{leb, ltb}
 use borrow.Author.Tests.{eq-eqb, ne-eqb, leb-true, ltb-true, ltb-false, le-leb, lt-ltb}
 use Rattle.buffer.specs.Sink.{cleared}

@@ -1,6 +1,6 @@
 -- A word and its separator have the clusters of both together: whitespace begins a cluster behind a word.
 use mathlib.Core.Path.{_≡_}
-use mathlib.Core.Bool.{Bool, false, not, true}
+use mathlib.Core.Bool.{false, not, true}
 use mathlib.Core.List.{List, [], _++_, _∷_, append-nil, reverseAux}
 use lib.Dec.{eqb}
 use borrow.Author.Tests.{not-true}

@@ -1,31 +1,26 @@
 -- A word with its separator, as a part of a text: the loop that finds it, scalar by scalar or byte by byte.
-use mathlib.Core.Path.{_≡_, refl, sym, ap, _∙_}
+use mathlib.Core.Path.{_≡_, refl, sym, _∙_}
 use Prim.Native.Nat.{ℕ, _+_, _-_, _*_, _≤_, _<_}
 use native.Mathlib.Nat.{add-zero, add-assoc}
 use native.Mathlib.Omega.{arith}
 use mathlib.Core.Bool.{Bool, _&&_, false, not, true}
-use mathlib.Core.List.{List, [], _∷_, _++_, append-nil}
+use mathlib.Core.List.{List, []}
 use mathlib.Core.Logic.{_≢_}
 use lib.ListN.{length, drop, getD}
 use lib.Dec.{eqb, leb, leb→le, eqb→eq}
-use borrow.Author.Tests.{eq-eqb, ne-eqb, eqb-false, le-leb}
-use Rattle.text.specs.Tests.{cases, and-T, true-T, is-true}
-use Rattle.text.specs.Each.{All, all-cons}
-use Rattle.text.specs.Utf8.Valid.{Valid}
-use Rattle.text.specs.Utf8.{Scalar, decode}
+use borrow.Author.Tests.{le-leb}
+use Rattle.text.specs.Tests.{and-T, true-T, is-true}
+use Rattle.text.specs.Utf8.{decode}
 use Rattle.text.specs.Class.{Profile, whitespace}
 use Rattle.text.specs.Width.{widthOf}
 use Rattle.text.specs.Code.{size, firstSequence, profileOf, sequenceOf}
-use Rattle.text.specs.Code.Laws.{scalar-at, none-at, none-code, none-past, run-valid, size-nil, size-cons, size-append, width-nil, width-cons, width-append, width-two}
+use Rattle.text.specs.Code.Laws.{scalar-at, none-at, none-past, size-nil, size-cons, width-nil, width-cons, width-two}
 use Rattle.text.specs.declared.BytePlace.{BytePlace}
 use Rattle.text.specs.declared.Column.{Column}
-use Rattle.text.specs.declared.TextPart.{TextPart}
-use Rattle.text.specs.TextParts.{place, column, textAt, Measured}
-use Rattle.text.specs.TextParts.Laws.{behind-part}
+use Rattle.text.specs.TextParts.{place, column, textAt}
 use Rattle.text.specs.declared.utf8.Sequence.{Sequence}
 use Rattle.text.specs.declared.class.Profile as code
-use Rattle.rows.specs.Words.{Word, aWord}
-use Rattle.rows.specs.Words.Laws.{belongs, firstWord, stillOf, still-none, still-on, still-ends, still-hyphen, still-turns}
+use Rattle.rows.specs.Words.Laws.{belongs, stillOf, still-none, still-on, still-ends, still-hyphen, still-turns}
 use Rattle.rows.specs.Words.Contracts.{byteBelongs, WordAt}
 use Rattle.text.specs.Code.FirstSequence.{ascii-first}
 use Rattle.text.specs.Class.Ranges.{printable-no-space, space-is}

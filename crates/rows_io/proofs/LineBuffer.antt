@@ -1,22 +1,21 @@
 -- What a part of the input leaves in the line's buffer: as much of the line as there is room for.
-use mathlib.Core.Path.{_≡_, refl, sym, ap, ap₂, _∙_}
-use Prim.Native.Nat.{ℕ, suc, _+_, _-_, _≤_, _<_}
-use native.Mathlib.Nat.{add-zero}
+use mathlib.Core.Path.{_≡_, sym, ap, ap₂, _∙_}
+use Prim.Native.Nat.{ℕ, _+_, _-_, _≤_, _<_}
 use native.Mathlib.Numerals.{add-one}
 use native.Mathlib.Omega.{arith}
-use mathlib.Core.Bool.{Bool, true, false, cond}
+use mathlib.Core.Bool.{Bool}
 use mathlib.Core.List.{List, [], _∷_, _++_, append-nil, append-assoc}
 use lib.ListN.{length, set, take, drop, length-append, length-take, length-set, length-drop, drop-of-length-le}
 use lib.Seq.{take-all, take-length, take-append-le, take-suc-set, length-take-le}
 use lib.Dec.{leb, ltb}
-use borrow.Author.Tests.{leb-true, leb-false, le-leb, lt-leb, le-ltb}
+use borrow.Author.Tests.{leb-true, leb-false, le-ltb}
 use Rattle.text.specs.Tests.{cases}
-use Rattle.buffer.specs.Sink.{Sink, sink, put, emit, written}
+use Rattle.buffer.specs.Sink.{Sink, sink, emit, written}
 use Rattle.buffer.specs.Sink.Laws.{put-in, put-past, emit-room}
 use Rattle.buffer.specs.Numbers.{smallerOf}
 use Rattle.rows_io.specs.FirstLine.{withBytes, behind, partOf}
 use Rattle.rows_io.specs.FirstLine.Laws.{read-within}
-use Rattle.rows_io.specs.Input.{InputState, stateOf, readInto, withPart}
+use Rattle.rows_io.specs.Input.{stateOf, readInto, withPart}
 use Rattle.rows_io.proofs.Smaller.{smaller-first, smaller-second}
 use Rattle.rows_io.specs.declared.first_line.Part.{Part}
 use Rattle.rows_io.specs.declared.input.Input.{Input}

@@ -1,17 +1,16 @@
 -- What the writers of the program's output leave: digits, lines, and the lines of a list of rows.
-use mathlib.Core.Path.{_≡_, refl, sym, ap, ap₂, _∙_}
+use mathlib.Core.Path.{_≡_, refl, sym, ap, _∙_}
 use Prim.Native.Nat.{ℕ, suc, _+_, _*_, _/_, _^_, _≤_, _<_}
 use native.Mathlib.Numerals.{add-one}
 use native.Mathlib.Omega.{arith}
-use mathlib.Core.Bool.{cond}
 use mathlib.Core.List.{List, [], _∷_, _++_}
 use lib.ListN.{length, take, drop, getD, length-drop}
 use lib.Seq.{drop-cons, take-all}
-use lib.Dec.{eqb, leb}
+use lib.Dec.{leb}
 use borrow.Author.Tests.{eq-eqb, ne-eqb, leb-true, leb-false}
 use Rattle.io.specs.Digits.{digits, Fewest}
 use Rattle.text.specs.Tests.{cases}
-use Rattle.buffer.specs.Sink.{Sink, sink, put, emit}
+use Rattle.buffer.specs.Sink.{Sink, put, emit}
 use Rattle.buffer.specs.Sink.Laws.{emit-none, emit-append, then-emit}
 use Rattle.buffer.specs.Numbers.{smallerOf}
 use Rattle.rows_io.proofs.Smaller.{smaller-first, smaller-second}

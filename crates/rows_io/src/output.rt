@@ -1,7 +1,7 @@
 // What the program prints: each row's index, start and end, or `refused` and the number of the question that refuses.
 ghost use mathlib.Core.Path.{_≡_};
 ghost use Prim.Native.Nat.{_*_};
-ghost use lib.ListN.{length, take};
+ghost use lib.ListN.{take};
 ghost use Rattle.buffer.specs.Sink.{sink, emit};
 ghost use Rattle.buffer.specs.Numbers.{smallerOf};
 ghost use Rattle.rows_io.specs.Output.{decimal, rowLine, rowLines, refusal, answerText, printed};

@@ -16,7 +16,6 @@ use Rattle.spans.specs.Sequence.{leading, parameterByte}
 use Rattle.spans.specs.Sgr.Contracts.{more, numbers, Scanned, numbersAt, room, ParameterAt, parametersAt, ordersAt, ordersOf}
 use Rattle.spans.specs.declared.sgr.Parameter.{Parameter}
 use Rattle.spans.specs.declared.sgr.Orders.{Orders}
-use Rattle.spans.specs.declared.sgr.NextOrder.{NextOrder}
 use Rattle.spans.specs.declared.sgr.NextOrder.the-variants.{Order, End}
 use Rattle.spans.specs.declared.sgr.Sgr.{Sgr}
 use Rattle.spans.specs.declared.sgr.Meaning.{Meaning}

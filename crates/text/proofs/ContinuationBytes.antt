@@ -2,17 +2,17 @@
 -- ---- the bytes of a sequence: a first one, and continuation bytes
 use Prim.Native.Nat.{_+_, _-_, _<_, _≤_, suc, zero, ℕ}
 use native.Mathlib.Omega.{arith}
-use mathlib.Core.Bool.{Bool, _&&_, false, true}
+use mathlib.Core.Bool.{Bool, false, true}
 use mathlib.Core.List.{List, [], _∷_}
 use mathlib.Core.Logic.{_≢_}
 use mathlib.Core.Path.{_∙_, _≡_, refl, sym}
-use lib.Dec.{T, leb, leb→le}
+use lib.Dec.{leb, leb→le}
 use lib.ListN.{getD, length}
 use borrow.Author.Tests.{le-leb}
 use Rattle.text.specs.Backward.{back}
 use Rattle.text.specs.Code.{isTail}
 use Rattle.text.specs.Tests.{and-T, cases, true-T}
-use Rattle.text.specs.Utf8.{Range, fits, lengthIn, sequence, table}
+use Rattle.text.specs.Utf8.{sequence}
 use Rattle.text.specs.Utf8.Laws.{continuation-bad, sequence-le}
 use Rattle.text.specs.Utf8.Ascii.{sequence-tails}
 

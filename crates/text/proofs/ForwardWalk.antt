@@ -20,7 +20,7 @@ use Rattle.text.specs.Rules.{stateAfter, stateContext}
 use Rattle.text.specs.Scalar.{packedAt}
 use Rattle.text.specs.Segmentation.{NextCluster, NextClusterReady, moreOf, neverJoinsBefore, oneByteCluster}
 use Rattle.text.specs.Scalar.Laws.{NoScalar, PackedScalar, number-le, packed-past, packed-view}
-use Rattle.text.specs.Tests.{and-T, cases, is-true, or-T, true-T, in-range, every, every-one}
+use Rattle.text.specs.Tests.{and-T, cases, is-true, true-T, in-range, every, every-one}
 use Rattle.text.specs.TextParts.{Measured, column, place, textAt}
 use Rattle.text.specs.TextParts.Laws.{first-all}
 use Rattle.text.specs.Utf8.{Scalar, ascii, decode}

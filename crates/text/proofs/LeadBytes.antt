@@ -1,5 +1,5 @@
 -- Sequences by their first byte: their lengths and values.
-use Prim.Native.Nat.{_%_, _*_, _+_, _-_, _<_, _≤_, ℕ}
+use Prim.Native.Nat.{_%_, _*_, _+_, _<_, _≤_, ℕ}
 use native.Mathlib.Omega.{arith}
 use mathlib.Core.Bool.{Bool, _&&_, _||_, and-false, and-true, cond, false, true}
 use mathlib.Core.List.{List, [], _∷_}

@@ -1,6 +1,6 @@
 -- Forward segmentation: a cluster with the scalar behind it, and what single bytes say of clusters.
 use Prim.Native.Nat.{_+_, _<_, ℕ}
-use mathlib.Core.Bool.{Bool, _&&_, _||_, cond, not}
+use mathlib.Core.Bool.{Bool, _&&_, cond, not}
 use mathlib.Core.List.{List, [], _∷_}
 use mathlib.Core.Path.{_≡_}
 use lib.Dec.{eqb, ltb}

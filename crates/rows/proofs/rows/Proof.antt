@@ -2,7 +2,6 @@
 use mathlib.Core.Path.{refl}
 use mathlib.Core.Bool.{true}
 use mathlib.Core.List.{List, [], _∷_}
-use lib.ListN.{length}
 use base.Logic.{emp, id⊢}
 use contract.Monad.{factI}
 use types.Kit.{_$_, !, move, keep}

@@ -1,6 +1,6 @@
 -- What the program prints for an answer, as document 01 shows it, and for numbers.
 use mathlib.Core.Path.{_≡_, refl}
-use mathlib.Core.List.{List, [], _∷_}
+use mathlib.Core.List.{[], _∷_}
 use Rattle.rows_io.specs.Output.{decimal, rowLine, rowLines, refusal, answerText}
 
 -- the rows (0, 4) and (4, 6), with zeros behind them

@@ -2,7 +2,7 @@ use Rattle.drawing.proofs.LineDrawing.{replaceable}
 use Rattle.text.specs.Code.Laws.{scalar-at}
 use mathlib.Core.Path.{_≡_}
 use borrow.Author.Needs.{needs}
-use Rattle.drawing.proofs.LineDrawing.{Converting, convert-begin, convert-past, convert-bad, convert-fits, convert-some, convert-replaced, convert-kept}
+use Rattle.drawing.proofs.LineDrawing.{Converting, convert-begin, convert-past, convert-bad, convert-replaced, convert-kept}
 use lib.ListN.{length}
 use native.Mathlib.Omega.{arith}
 use Prim.Native.Nat.{_-_}

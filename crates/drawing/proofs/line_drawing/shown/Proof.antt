@@ -1,5 +1,4 @@
 use Rattle.drawing.proofs.LineDrawing.{shown-length, shown-copy, shown-own}
-use borrow.Author.Needs.{needs}
 use Rattle.drawing.proofs.line_drawing.shown.Statement.{statement}
 use Rattle.drawing.proofs.line_drawing.shown.Tie as tie
 

@@ -1,6 +1,5 @@
 use borrow.Author.Needs.{needs}
 use Rattle.drawing.proofs.WindowTexts.{columns-in, columns-out, columns-ready, styled-room}
-use Rattle.drawing.proofs.Columns.{columns-measured}
 use Rattle.drawing.proofs.write.write_columns.Statement.{statement}
 use Rattle.drawing.proofs.write.write_columns.Tie as tie
 

@@ -1,5 +1,4 @@
 use mathlib.Core.Path.{_≡_}
-use Prim.Native.Nat.{_-_}
 use lib.ListN.{length}
 use borrow.Author.Needs.{needs}
 use Rattle.vectors.proofs.input.all.Statement.{statement}
