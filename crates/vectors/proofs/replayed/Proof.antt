@@ -3,10 +3,6 @@ use lib.ListN.{length}
 use borrow.Author.Needs.{needs}
 use Rattle.vectors.proofs.replayed.Statement.{statement}
 use Rattle.vectors.proofs.replayed.Tie as tie
-use Rattle.vectors.proofs.replayed.Reads as reads
-use Rattle.vectors.proofs.replayed.Lts as lts
-use Rattle.vectors.proofs.fields.behind.Reads as behind-reads
-use Rattle.vectors.proofs.tried.Reads as tried-reads
 
 abbrev Inv-loop : tie.InvT-loop
 Inv-loop s counts₀ at₀ counts at = at ≤ length s

@@ -3,9 +3,6 @@ use Rattle.vectors.specs.Fields.{Past}
 use borrow.Author.Needs.{needs}
 use Rattle.vectors.proofs.fields.field.Statement.{statement}
 use Rattle.vectors.proofs.fields.field.Tie as tie
-use Rattle.vectors.proofs.fields.field.Reads as reads
-use Rattle.vectors.proofs.fields.field.Lts as lts
-use Rattle.vectors.proofs.fields.behind.Reads as behind-reads
 
 abbrev Inv-loop : tie.InvT-loop
 Inv-loop s at n i₀ k₀ i k = Past s at i

@@ -5,9 +5,6 @@ use lib.ListN.{length}
 use borrow.Author.Needs.{needs}
 use Rattle.vectors.proofs.fields.hex_bytes.Statement.{statement}
 use Rattle.vectors.proofs.fields.hex_bytes.Tie as tie
-use Rattle.vectors.proofs.fields.hex_bytes.Reads as reads
-use Rattle.vectors.proofs.fields.hex_bytes.Lts as lts
-use Rattle.vectors.proofs.fields.hex_byte.Reads as hex-byte-reads
 
 abbrev Inv-loop : tie.InvT-loop
 Inv-loop s at end out₀ i₀ n₀ out i n = (n ≤ length out₀) × (length out ≡ length out₀)

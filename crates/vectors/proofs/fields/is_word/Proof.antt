@@ -3,8 +3,6 @@ use lib.ListN.{length}
 use borrow.Author.Needs.{needs}
 use Rattle.vectors.proofs.fields.is_word.Statement.{statement}
 use Rattle.vectors.proofs.fields.is_word.Tie as tie
-use Rattle.vectors.proofs.fields.is_word.Reads as reads
-use Rattle.vectors.proofs.fields.is_word.Lts as lts
 
 abbrev Inv-loop : tie.InvT-loop
 Inv-loop s at word i₀ i = i ≤ length word

@@ -2,11 +2,6 @@ use Prim.Native.Nat.{_-_}
 use borrow.Author.Needs.{needs}
 use Rattle.vectors.proofs.fields.number.Statement.{statement}
 use Rattle.vectors.proofs.fields.number.Tie as tie
-use Rattle.vectors.proofs.fields.number.Reads as reads
-use Rattle.vectors.proofs.fields.number.Lts as lts
-use Rattle.std.proofs.num.wrapping_add_usize.Reads as wrapping-add-usize-reads
-use Rattle.vectors.proofs.fields.digit.Reads as digit-reads
-use Rattle.vectors.proofs.fields.times_ten.Reads as times-ten-reads
 
 abbrev Inv-loop : tie.InvT-loop
 Inv-loop s at end n₀ i₀ n i = Unit {0}

@@ -5,12 +5,6 @@ use lib.ListN.{length}
 use borrow.Author.Needs.{needs}
 use Rattle.vectors.proofs.fields.numbers.Statement.{statement}
 use Rattle.vectors.proofs.fields.numbers.Tie as tie
-use Rattle.vectors.proofs.fields.numbers.Reads as reads
-use Rattle.vectors.proofs.fields.numbers.Lts as lts
-use Rattle.vectors.proofs.fields.behind.Reads as behind-reads
-use Rattle.vectors.proofs.fields.number.Reads as number-reads
-use Rattle.vectors.proofs.fields.number_end.Reads as number-end-reads
-use Rattle.vectors.proofs.fields.past.Reads as past-reads
 
 abbrev Inv-loop : tie.InvT-loop
 Inv-loop s at out₀ end i₀ n₀ out i n = (n ≤ length out₀) × (length out ≡ length out₀) × (i ≤ length s)

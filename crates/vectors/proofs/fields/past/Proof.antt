@@ -3,8 +3,6 @@ use lib.ListN.{length}
 use borrow.Author.Needs.{needs}
 use Rattle.vectors.proofs.fields.past.Statement.{statement}
 use Rattle.vectors.proofs.fields.past.Tie as tie
-use Rattle.vectors.proofs.fields.past.Reads as reads
-use Rattle.vectors.proofs.fields.past.Lts as lts
 
 abbrev Inv-loop : tie.InvT-loop
 Inv-loop s at stop i₀ i = (at ≤ i) × (i ≤ length s)

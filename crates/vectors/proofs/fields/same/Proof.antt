@@ -3,8 +3,6 @@ use lib.ListN.{length}
 use borrow.Author.Needs.{needs}
 use Rattle.vectors.proofs.fields.same.Statement.{statement}
 use Rattle.vectors.proofs.fields.same.Tie as tie
-use Rattle.vectors.proofs.fields.same.Reads as reads
-use Rattle.vectors.proofs.fields.same.Lts as lts
 
 abbrev Inv-loop : tie.InvT-loop
 Inv-loop a b i₀ i = i ≤ length a

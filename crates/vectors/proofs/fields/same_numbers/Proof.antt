@@ -3,8 +3,6 @@ use lib.ListN.{length}
 use borrow.Author.Needs.{needs}
 use Rattle.vectors.proofs.fields.same_numbers.Statement.{statement}
 use Rattle.vectors.proofs.fields.same_numbers.Tie as tie
-use Rattle.vectors.proofs.fields.same_numbers.Reads as reads
-use Rattle.vectors.proofs.fields.same_numbers.Lts as lts
 
 abbrev Inv-loop : tie.InvT-loop
 Inv-loop a b i₀ i = Unit {0}

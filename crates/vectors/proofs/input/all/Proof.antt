@@ -3,9 +3,6 @@ use lib.ListN.{length}
 use borrow.Author.Needs.{needs}
 use Rattle.vectors.proofs.input.all.Statement.{statement}
 use Rattle.vectors.proofs.input.all.Tie as tie
-use Rattle.vectors.proofs.input.all.Reads as reads
-use Rattle.vectors.proofs.input.all.Lts as lts
-use Rattle.vectors.proofs.input.more.Reads as more-reads
 
 abbrev Inv-loop : tie.InvT-loop
 Inv-loop buf₀ state₀ turns₀ buf state turns = length buf ≡ length buf₀

@@ -2,10 +2,6 @@ use Rattle.vectors.specs.Fields.{prefix}
 use borrow.Author.Needs.{needs}
 use Rattle.vectors.proofs.input.lines.Statement.{statement}
 use Rattle.vectors.proofs.input.lines.Tie as tie
-use Rattle.vectors.proofs.input.lines.Reads as reads
-use Rattle.vectors.proofs.input.lines.Lts as lts
-use Rattle.vectors.proofs.input.whole_lines.Reads as whole-lines-reads
-use Rattle.vectors.proofs.replayed.Reads as replayed-reads
 
 whole-lines-requires : tie.Need-whole-lines-requires
 whole-lines-requires c κs = search needs

@@ -2,11 +2,6 @@ use Rattle.vectors.specs.Fields.{prefix}
 use borrow.Author.Needs.{needs}
 use Rattle.vectors.proofs.input.more.Statement.{statement}
 use Rattle.vectors.proofs.input.more.Tie as tie
-use Rattle.vectors.proofs.input.more.Reads as reads
-use Rattle.vectors.proofs.input.more.Lts as lts
-use Rattle.vectors.proofs.input.lines.Reads as lines-reads
-use Rattle.vectors.proofs.input.move_front.Reads as move-front-reads
-use Rattle.vectors.proofs.input.read_behind.Reads as read-behind-reads
 
 read-behind-requires : tie.Need-read-behind-requires
 read-behind-requires c κs = search needs

@@ -4,8 +4,6 @@ use lib.ListN.{length}
 use borrow.Author.Needs.{needs}
 use Rattle.vectors.proofs.input.move_front.Statement.{statement}
 use Rattle.vectors.proofs.input.move_front.Tie as tie
-use Rattle.vectors.proofs.input.move_front.Reads as reads
-use Rattle.vectors.proofs.input.move_front.Lts as lts
 
 abbrev Inv-loop : tie.InvT-loop
 Inv-loop s₀ from i₀ s i = (from ≤ i) × (length s ≡ length s₀)

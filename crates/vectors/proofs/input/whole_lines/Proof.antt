@@ -3,8 +3,6 @@ use lib.ListN.{length}
 use borrow.Author.Needs.{needs}
 use Rattle.vectors.proofs.input.whole_lines.Statement.{statement}
 use Rattle.vectors.proofs.input.whole_lines.Tie as tie
-use Rattle.vectors.proofs.input.whole_lines.Reads as reads
-use Rattle.vectors.proofs.input.whole_lines.Lts as lts
 
 abbrev Inv-loop : tie.InvT-loop
 Inv-loop s i₀ i = i ≤ length s

@@ -3,13 +3,6 @@ use lib.ListN.{length}
 use borrow.Author.Needs.{needs}
 use Rattle.vectors.proofs.published.decodes.Statement.{statement}
 use Rattle.vectors.proofs.published.decodes.Tie as tie
-use Rattle.vectors.proofs.published.decodes.Reads as reads
-use Rattle.vectors.proofs.published.decodes.Lts as lts
-use Rattle.text.proofs.utf8.first_sequence.Reads as first-sequence-reads
-use Rattle.vectors.proofs.fields.behind.Reads as behind-reads
-use Rattle.vectors.proofs.fields.past.Reads as past-reads
-use Rattle.vectors.proofs.published.is_listed.Reads as is-listed-reads
-use Rattle.vectors.proofs.published.taken.Reads as taken-reads
 
 abbrev Inv-loop : tie.InvT-loop
 Inv-loop line s at i₀ list₀ i list = (i ≤ length line) × (list ≤ length s)

@@ -3,12 +3,6 @@ use lib.ListN.{length}
 use borrow.Author.Needs.{needs}
 use Rattle.vectors.proofs.published.segments.Statement.{statement}
 use Rattle.vectors.proofs.published.segments.Tie as tie
-use Rattle.vectors.proofs.published.segments.Reads as reads
-use Rattle.vectors.proofs.published.segments.Lts as lts
-use Rattle.text.proofs.segmentation.next_boundary.Reads as next-boundary-reads
-use Rattle.vectors.proofs.fields.behind.Reads as behind-reads
-use Rattle.vectors.proofs.fields.number.Reads as number-reads
-use Rattle.vectors.proofs.fields.past.Reads as past-reads
 
 abbrev Inv-loop : tie.InvT-loop
 Inv-loop line s at i₀ list₀ i list = (i ≤ length line) × (list ≤ length s)

@@ -2,10 +2,6 @@ use Rattle.vectors.specs.Fields.{prefix}
 use borrow.Author.Needs.{needs}
 use Rattle.vectors.proofs.recorded.is_replayed.Statement.{statement}
 use Rattle.vectors.proofs.recorded.is_replayed.Tie as tie
-use Rattle.vectors.proofs.recorded.is_replayed.Reads as reads
-use Rattle.vectors.proofs.recorded.is_replayed.Lts as lts
-use Rattle.vectors.proofs.recorded.is_answered.Reads as is-answered-reads
-use Rattle.vectors.proofs.recorded.lent_by.Reads as lent-by-reads
 
 lent-by-requires : tie.Need-lent-by-requires
 lent-by-requires c κs = search needs
