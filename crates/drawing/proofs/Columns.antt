@@ -26,7 +26,7 @@ use Rattle.text.specs.TextParts.{textAt, Measured}
 use Rattle.text.specs.declared.class.Profile as code
 use Rattle.text.specs.Cluster.Laws.{clusters-nil}
 use Rattle.drawing.specs.Clip.{clipEnd, clipStart, clip}
-use Rattle.drawing.specs.Contracts.{allPrintable, ColumnsClip, bytesIn, textIn, clipText, clipOf, Clipped}
+use Rattle.drawing.specs.Clip.Contracts.{allPrintable, ColumnsClip, bytesIn, textIn, clipText, clipOf, Clipped}
 
 both-true : (a b : Bool) → a && b ≡ true → (a ≡ true) × (b ≡ true)
 both-true true b e = (refl, e)

@@ -20,12 +20,12 @@ use Rattle.spans.specs.Spans.{Content, text, control, invalid, unprintable, esc
 use Rattle.spans.specs.Spans.ContentLaw.{sequenceIn, textIn, contentIn, contentOf}
 use Rattle.spans.specs.Spans.RecordSpans.{sequenceIn-found}
 use Rattle.spans.specs.Sgr.Contracts.{ordersAt, orders-from}
-use Rattle.drawing.specs.Attributes as attributes
 use Rattle.drawing.specs.Attributes.{Style, file}
 use Rattle.drawing.specs.Change.{Change}
 use Rattle.drawing.specs.Draw.{State, Sent, sent, writeTruncated, writeMarks, renderSequence, textStyle, renderSpan, renderSpans}
 use Rattle.drawing.specs.Marks.{lineDrawn}
-use Rattle.drawing.specs.Contracts.{styleOf, composedStyle, composedText}
+use Rattle.drawing.specs.State.{styleOf}
+use Rattle.drawing.specs.Marks.Contracts.{composedStyle, composedText}
 use Rattle.drawing.specs.Rendering.{largest, currentOf, recordStyle, linkIn, recordSequence, renderRecord, renderRecords}
 use Rattle.drawing.specs.declared.render.Rendering.{Rendering}
 use Rattle.drawing.proofs.Sequences.{record-here}

@@ -31,7 +31,7 @@ use Rattle.text.specs.declared.utf8.Sequence.{Sequence}
 use Rattle.text.specs.Utf8.Laws.{bytes-cons, bytes-nil, bytes-one, scalar-bytes}
 use Rattle.text.specs.Utf8.Ascii.{valid-low}
 use Rattle.drawing.specs.Marks.{replacements, lineDrawn}
-use Rattle.drawing.specs.Contracts.{packedBytes, Replaceable, hasReplacements, CopyRoom, CopyOf}
+use Rattle.drawing.specs.LineDrawing.{packedBytes, Replaceable, hasReplacements, CopyRoom, CopyOf}
 
 -- ---- the table
 

@@ -12,7 +12,7 @@ use Rattle.spans.specs.declared.sgr.Color.the-variants.{Default}
 use Rattle.drawing.specs.Attributes.{plain}
 use Rattle.drawing.specs.Change.{Change, allAttributes, clearToEnd, encodeOne, encode}
 use Rattle.drawing.specs.Draw.{State, leftArrow, rightArrow, closeWindow, closeRows}
-use Rattle.drawing.specs.Contracts.{stateOf, newStep}
+use Rattle.drawing.specs.State.{stateOf, newStep}
 use Rattle.drawing.specs.Rendering.{Opened, closingWindow, closingRows, closingEdge, closing, Closed}
 use Rattle.drawing.specs.declared.attributes.Attributes.{Attributes}
 use Rattle.drawing.specs.declared.attributes.Style.the-variants.{File}

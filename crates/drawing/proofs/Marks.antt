@@ -27,7 +27,10 @@ use Rattle.drawing.specs.Clip.{spaces}
 use Rattle.drawing.specs.Marks.{hexDigit, byteMark, upperDigits, scalarMark}
 use Rattle.drawing.specs.Attributes.{control}
 use Rattle.drawing.specs.Draw.{writeMarks}
-use Rattle.drawing.specs.Contracts.{allPrintable, styleOf, stateOf, Wrote, ColumnsReady, writingColumns, eightSpaces, composedText, composedStyle, composedColumns, Composed, moved, ComposedWrote, scalarMarking, MarksWrote}
+use Rattle.drawing.specs.Clip.Contracts.{allPrintable}
+use Rattle.drawing.specs.State.{styleOf, stateOf, Wrote}
+use Rattle.drawing.specs.Write.{ColumnsReady, writingColumns, moved}
+use Rattle.drawing.specs.Marks.Contracts.{eightSpaces, composedText, composedStyle, composedColumns, Composed, ComposedWrote, scalarMarking, MarksWrote}
 use Rattle.drawing.specs.declared.attributes.Style as code
 use Rattle.drawing.specs.declared.attributes.Style.the-variants.{File, Control}
 use Rattle.drawing.specs.declared.state.AttributeState.{AttributeState}

@@ -12,7 +12,7 @@ use Rattle.spans.specs.Spans.{Record}
 use Rattle.spans.specs.Calls.{noRecord}
 use Rattle.drawing.specs.Change.{Change, encode}
 use Rattle.drawing.specs.Draw.{State, Sent, sent}
-use Rattle.drawing.specs.Contracts.{stateOf, Wrote}
+use Rattle.drawing.specs.State.{stateOf, Wrote}
 use Rattle.drawing.specs.Rendering.{SpanReady, renderRecord, renderRecords, SpanDrawn, closing, Closed, RenderRoom, Rendered}
 use Rattle.drawing.specs.declared.state.Drawn.{Drawn}
 use Rattle.drawing.specs.declared.state.Stepped.{Stepped}

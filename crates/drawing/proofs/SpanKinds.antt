@@ -20,7 +20,10 @@ use Rattle.spans.specs.Spans.{Record}
 use Rattle.spans.specs.Spans.ContentLaw.{textIn}
 use Rattle.spans.specs.Spans.RecordSpans.{textIn-is}
 use Rattle.drawing.specs.Draw.{State, writeTruncated}
-use Rattle.drawing.specs.Contracts.{styleOf, stateOf, Wrote, shownText, WriteReady, writing, composedText, composedStyle, ComposedWrote, MarksWrote}
+use Rattle.drawing.specs.State.{styleOf, stateOf, Wrote}
+use Rattle.drawing.specs.LineDrawing.{shownText}
+use Rattle.drawing.specs.Write.{WriteReady, writing}
+use Rattle.drawing.specs.Marks.Contracts.{composedText, composedStyle, ComposedWrote, MarksWrote}
 use Rattle.drawing.specs.Rendering.{recordStyle, recordSequence, SequenceDone, SpanReady, renderRecord, SpanDrawn}
 use Rattle.drawing.specs.declared.attributes.Style as code
 use Rattle.drawing.specs.declared.state.AttributeState.{AttributeState}

@@ -28,7 +28,7 @@ use Rattle.rows.specs.Calls.Reading.{line-room}
 use Rattle.drawing.specs.Change.{Change, encode}
 use Rattle.drawing.specs.Change as change
 use Rattle.drawing.specs.Draw.{State, Sent, renderSpans, initial, leftArrow, rightArrow, closeWindow, render, endOf, startOf, closeRows, renderWrapped}
-use Rattle.drawing.specs.Contracts.{stateOf, styleOf, newState}
+use Rattle.drawing.specs.State.{stateOf, styleOf, newState}
 use Rattle.drawing.specs.Rendering.{currentOf, opening, closing, Opened, RenderRoom, Rendered, renderRecords}
 use Rattle.drawing.specs.Requests.{wrappingOf, boundsEnd, boundsOf, windowRendering, rowsRendering, renderingOf, spansWrapped, firstSpans, RenderWrappedRoom, changesOf, Drew}
 use Rattle.drawing.specs.declared.Request.{Request}

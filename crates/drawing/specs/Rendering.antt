@@ -21,7 +21,9 @@ use Rattle.drawing.specs.Attributes.{linked}
 use Rattle.drawing.specs.Change.{Change, clearToEnd, encode}
 use Rattle.drawing.specs.Change as change
 use Rattle.drawing.specs.Draw.{State, Sent, sent, writeTruncated, writeMarks, renderSequence, leftArrow, rightArrow, closeWindow, closeRows}
-use Rattle.drawing.specs.Contracts.{styleOf, stateOf, Wrote, shownText, composedStyle, composedText, newState}
+use Rattle.drawing.specs.State.{styleOf, stateOf, Wrote, newState}
+use Rattle.drawing.specs.LineDrawing.{shownText}
+use Rattle.drawing.specs.Marks.Contracts.{composedStyle, composedText}
 use Rattle.drawing.specs.declared.attributes.Style as code
 use Rattle.drawing.specs.declared.attributes.Style.the-variants.{File, Match, CurrentMatch}
 use Rattle.drawing.specs.declared.state.AttributeState.{AttributeState}

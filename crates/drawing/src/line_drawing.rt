@@ -11,7 +11,7 @@ ghost use Rattle.buffer.specs.Sink.{sink, emit};
 ghost use Rattle.text.specs.Utf8.{bytesOf};
 ghost use Rattle.text.specs.TextParts.{textAt};
 ghost use Rattle.drawing.specs.Marks.{replacements, lineDrawn};
-ghost use Rattle.drawing.specs.Contracts.{packedBytes, Replaceable, hasReplacements, CopyRoom, CopyOf};
+ghost use Rattle.drawing.specs.LineDrawing.{packedBytes, Replaceable, hasReplacements, CopyRoom, CopyOf};
 
 // What replaces 5F to 7E: the two or three bytes of each as one number.
 const REPLACEMENTS: [u32; 32] = [

@@ -28,7 +28,7 @@ ghost use Prim.Native.Nat.{_+_, _≤_, _<_};
 ghost use lib.ListN.{length, take};
 ghost use Rattle.buffer.specs.Sink.{sink, emit};
 ghost use Rattle.drawing.specs.Change.{encode};
-ghost use Rattle.drawing.specs.Contracts.{stateOf};
+ghost use Rattle.drawing.specs.State.{stateOf};
 ghost use Rattle.drawing.specs.Rendering.{recordStyle, Linkable, linkedBy, withLineDrawing, erasedToEnd, SequenceDone, SpanReady, SpanDrawn, Opened, closingWindow, closingRows, closingEdge, Closed, RenderRoom, Rendered};
 
 // What is drawn: the window, the current match, the length of the line in the buffer that holds it; whether an arrow stands at the left

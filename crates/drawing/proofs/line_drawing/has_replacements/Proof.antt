@@ -2,7 +2,7 @@ use mathlib.Core.Path.{_≡_}
 use Prim.Native.Nat.{_-_, _≤_}
 use native.Mathlib.Omega.{arith}
 use lib.ListN.{length, drop}
-use Rattle.drawing.specs.Contracts.{hasReplacements}
+use Rattle.drawing.specs.LineDrawing.{hasReplacements}
 use Rattle.drawing.proofs.LineDrawing.{replacement-met, replacement-not, replacements-end}
 use borrow.Author.Needs.{needs}
 use Rattle.drawing.proofs.line_drawing.has_replacements.Statement.{statement}

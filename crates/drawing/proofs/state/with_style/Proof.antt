@@ -46,7 +46,7 @@ use denote.Exit.{yes}
 use Rattle.drawing.specs.declared.attributes.Style.{Style}
 use Rattle.drawing.specs.declared.state.AttributeState.{AttributeState}
 use Rattle.drawing.specs.declared.state.Stepped.{Stepped}
-use Rattle.drawing.specs.Contracts.{styling, Wrote}
+use Rattle.drawing.specs.State.{styling, Wrote}
 use Rattle.drawing.proofs.attributes.Style as E
 use Rattle.drawing.proofs.attributes.Style.Laws as E′
 use Rattle.drawing.proofs.state.AttributeState as T
