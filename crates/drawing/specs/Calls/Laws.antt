@@ -1,5 +1,5 @@
 -- A drawing by what the call `read` answers: the same refusals first, then its own questions.
-use mathlib.Core.Path.{_≡_, refl, ap, _∙_}
+use mathlib.Core.Path.{_≡_, refl, sym, ap, _∙_}
 use Prim.Native.Nat.{ℕ, suc, _-_}
 use mathlib.Core.List.{List, [], _∷_, _++_}
 use lib.ListN.{length, replicate}
@@ -7,10 +7,11 @@ use lib.Dec.{leb}
 use Rattle.text.specs.Class.{Profile}
 use Rattle.text.specs.Overstrike.{convert}
 use Rattle.text.specs.Calls.{Question, ask, decide, lent, counted}
+use Rattle.text.specs.Calls.Laws.{counted-accepted, counted-refused, decided-before, decided-behind, lent-accepted, lent-refused}
 use Rattle.spans.specs.Spans.{Span, records}
 use Rattle.spans.specs.Search.{read}
 use Rattle.spans.specs.Calls.{noRecord, readCall}
-use Rattle.spans.specs.Calls.Laws.{asks, all-yes, some-no, q1, q2, q3, q4, number-by, read-accepted}
+use Rattle.spans.specs.Calls.Laws.{read-accepted, read-number, readQuestions}
 use Rattle.drawing.specs.Change.{Change, whole, encode}
 use Rattle.drawing.specs.Calls.{Drawn, drawing}
 
@@ -21,38 +22,38 @@ module _ (P : Profile) (conv places room : ℕ) (matches : List ℕ) (qs : List 
   abbrev list : List ℕ
   list = encode (draw found)
 
-  -- what the questions after the fourth decide
-  abbrev pub further : ℕ
-  further = decide (qs ++ (ask 8 (whole (draw found)) ∷ ask 9 (leb (length list) room) ∷ []))
+  -- the questions after the fourth, and what they decide
+  abbrev others : List Question
+  others = qs ++ (ask 8 (whole (draw found)) ∷ ask 9 (leb (length list) room) ∷ [])
 
-  abbrev decides : ℕ → ℕ
-  decides n = asks (q1 P conv places matches line) (q2 P conv places matches line) (q3 P conv places matches line) (q4 P conv places matches line) n
+  abbrev pub further : ℕ
+  further = decide others
 
   -- what the call leaves if it decides r
   abbrev drawnBy : ℕ → Drawn
   drawnBy r = record { number = r; count = counted (length list) r; conv = lent 0 conv (convert P line) r; spans = lent noRecord places (records found) r; list = lent 0 room list r }
 
-  drawing-by : drawing P conv places room matches qs draw line ≡ drawnBy (decides further)
-  unfolding drawing decide
+  drawing-by : drawing P conv places room matches qs draw line ≡ drawnBy (decide (readQuestions P conv places matches line ++ others))
+  unfolding drawing
   drawing-by = refl
 
   -- refused with number n
   abbrev pub undrawn : ℕ → Drawn
   undrawn n = record { number = n; count = 0; conv = replicate conv 0; spans = replicate places noRecord; list = replicate room 0 }
 
+  no-drawing : (r : ℕ) → drawnBy (suc r) ≡ undrawn (suc r)
+  no-drawing r = simp (lent-refused, counted-refused)
+
   pub drawing-unread : (r : ℕ) → readCall P conv places matches line .number ≡ suc r → drawing P conv places room matches qs draw line ≡ undrawn (suc r)
-  unfolding lent counted
-  drawing-unread r e = drawing-by ∙ ap drawnBy (some-no (q1 P conv places matches line) (q2 P conv places matches line) (q3 P conv places matches line) (q4 P conv places matches line) further r (number-by P conv places matches line e))
+  drawing-unread r e = drawing-by ∙ ap drawnBy (decided-before (readQuestions P conv places matches line) others r (sym (read-number P conv places matches line) ∙ e)) ∙ no-drawing r
 
   module _ (fine : readCall P conv places matches line .number ≡ 0) where
-    accepting : decides further ≡ further
-    accepting = all-yes (q1 P conv places matches line) (q2 P conv places matches line) (q3 P conv places matches line) (q4 P conv places matches line) further (number-by P conv places matches line fine)
+    accepting : decide (readQuestions P conv places matches line ++ others) ≡ further
+    accepting = decided-behind (readQuestions P conv places matches line) others tt (sym (read-number P conv places matches line) ∙ fine)
 
     pub drawing-refused : (r : ℕ) → further ≡ suc r → drawing P conv places room matches qs draw line ≡ undrawn (suc r)
-    unfolding lent counted
-    drawing-refused r e = drawing-by ∙ ap drawnBy (accepting ∙ e)
+    drawing-refused r e = drawing-by ∙ ap drawnBy (accepting ∙ e) ∙ no-drawing r
 
     pub drawing-accepted : further ≡ 0
         → drawing P conv places room matches qs draw line ≡ record { number = 0; count = length list; conv = readCall P conv places matches line .conv; spans = readCall P conv places matches line .spans; list = list ++ replicate (room - length list) 0 }
-    unfolding lent counted
-    drawing-accepted e = rw (read-accepted P conv places matches line fine) (drawing-by ∙ ap drawnBy (accepting ∙ e))
+    drawing-accepted e = rw (read-accepted P conv places matches line fine) (drawing-by ∙ ap drawnBy (accepting ∙ e) ∙ simp (lent-accepted, counted-accepted))

@@ -15,7 +15,9 @@ use Rattle.text.specs.Overstrike.{convert}
 use Rattle.spans.specs.Spans.{spans}
 use Rattle.rows.specs.Rows.{Row, rows}
 use Rattle.spans.specs.Calls.{noRecord, readCall}
-use Rattle.spans.specs.Calls.Laws.{number-by}
+use Rattle.text.specs.Calls.{question1}
+use Rattle.text.specs.Calls.Laws.{decide-no}
+use Rattle.spans.specs.Calls.Laws.{read-number}
 use Rattle.rows.specs.Calls.{Wrapped, rowsCall, modeAndWidth, modeOf, numbersOf}
 use Rattle.rows.specs.Calls.Laws.{rows-refused, rows-five, rows-six, rows-accepted}
 use Rattle.rows.specs.Wrap.Laws.{numbersOf-length}
@@ -107,7 +109,7 @@ call f line = rowsCall profile01 32768 2048 8192 (widthOf f) (f .mode) line
 
 too-long : (f : FirstLine) (line : List ℕ) → 4096 < length line → call f line ≡ record { number = 1; count = 0; conv = replicate 32768 0; spans = replicate 2048 noRecord; rows = replicate 8192 0 }
 too-long f line h =
-    let one : readCall profile01 32768 2048 [] line .number ≡ 1 = sym (number-by profile01 32768 2048 [] line refl) ∙ rw (lt-leb (length line) 4096 h) in
+    let one : readCall profile01 32768 2048 [] line .number ≡ 1 = read-number profile01 32768 2048 [] line ∙ decide-no (question1 line) _ (lt-leb (length line) 4096 h) in
     rows-refused profile01 32768 2048 line (widthOf f) (f .mode) 8192 0 one
 
 pub as-far : (f : FirstLine) (line : List ℕ) → printed f (take 4097 line) ≡ printed f line
