@@ -1,0 +1,4 @@
+pub mod Records
+pub mod WellFormed
+pub mod Row
+pub mod Calls
