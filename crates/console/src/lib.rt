@@ -3,7 +3,7 @@ ghost use mathlib.Core.Path.{_≡_};
 ghost use lib.ListN.{length};
 ghost use Rattle.text.specs.Width.{profile01};
 ghost use Rattle.text.specs.Calls.{convertCall};
-ghost use Rattle.text.specs.Code.{converted};
+ghost use Rattle.text.specs.Calls.Code.{converted};
 ghost use Rattle.spans.specs.Calls.{readCall};
 ghost use Rattle.spans.specs.Calls.Contracts.{readAs};
 ghost use Rattle.rows.specs.Calls.{rowsCall, heightCall};

@@ -20,8 +20,9 @@ use Rattle.text.specs.Class.Ascii.{AsciiClasses}
 use Rattle.text.specs.Width.{widthOf}
 use Rattle.text.specs.Cluster.{clusters}
 use Rattle.text.specs.Cluster.Printable.{Printable, printable-clusters, printable-one, printable-width, run-printable}
-use Rattle.text.specs.Code.{runOf, profileOf, printable}
-use Rattle.text.specs.Code.Profile01.{ascii-classes}
+use Rattle.text.specs.Utf8.Code.{runOf}
+use Rattle.text.specs.Class.Code.{profileOf, printable}
+use Rattle.text.specs.Class.Profile01.{ascii-classes}
 use Rattle.text.specs.TextParts.{textAt, Measured}
 use Rattle.text.specs.declared.class.Profile as code
 use Rattle.text.specs.Cluster.Laws.{clusters-nil}

@@ -12,7 +12,7 @@ use Rattle.text.specs.Tests.{cases}
 use Rattle.text.specs.Each.{All, all-nil, all-cons}
 use Rattle.text.specs.Utf8.{Scalar}
 use Rattle.text.specs.Class.{Profile}
-use Rattle.text.specs.Code.{profileOf}
+use Rattle.text.specs.Class.Code.{profileOf}
 use Rattle.spans.specs.Sgr.{parameters, orders}
 use Rattle.spans.specs.Sequence.{Sequence, sgr, eraseToEnd, ignored, hyperlink, lineDrawing, found, parse}
 use Rattle.spans.specs.Sequence.Laws.{parse-orders, parse-drawing, parse-some}
@@ -24,7 +24,7 @@ use Rattle.drawing.specs.Attributes.{Style, file}
 use Rattle.drawing.specs.Change.{Change}
 use Rattle.drawing.specs.Draw.{State, Sent, sent, writeTruncated, writeMarks, renderSequence, textStyle, renderSpan, renderSpans}
 use Rattle.drawing.specs.Marks.{lineDrawn}
-use Rattle.drawing.specs.State.{styleOf}
+use Rattle.drawing.specs.Attributes.Code.{styleOf}
 use Rattle.drawing.specs.Marks.Contracts.{composedStyle, composedText}
 use Rattle.drawing.specs.Rendering.{largest, currentOf, recordStyle, linkIn, recordSequence, renderRecord, renderRecords}
 use Rattle.drawing.specs.declared.render.Rendering.{Rendering}

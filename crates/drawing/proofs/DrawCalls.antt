@@ -17,7 +17,7 @@ use Rattle.text.specs.Width.{profile01}
 use Rattle.text.specs.declared.Answer.{Answer}
 use Rattle.text.specs.declared.Column.{Column}
 use Rattle.spans.specs.Spans.{Span, Record, records}
-use Rattle.spans.specs.Spans.RecordSpans.{Held, spansIn-none, spansIn-records}
+use Rattle.spans.specs.Spans.RecordSpans.{HasContents, spansIn-none, spansIn-records}
 use Rattle.spans.specs.Calls.{Read, noRecord, readCall}
 use Rattle.spans.specs.Calls.Contracts.{readAs}
 use Rattle.rows.specs.Calls.Contracts.{lineRoom}
@@ -137,7 +137,7 @@ module _ (size places : ℕ) (matches line : List ℕ) (a : Answer) (cs : List �
   module _ (cs-length : length cs ≡ size) where
     -- the records are those of the spans of the line
     module _ (fine : a .number ≡ 0) where
-      held : Held (take (lineRoom (length cs)) cs) ss
+      held : HasContents (take (lineRoom (length cs)) cs) ss
       held = rw (ap (λ (n : ℕ). take (lineRoom n) cs) cs-length ∙ reading.line-part size places matches line a cs rs read fine) (reading.held-in size places matches line a cs rs read fine)
 
       spans-are : firstSpans rs cs (a .count) ≡ ss

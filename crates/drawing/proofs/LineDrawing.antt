@@ -19,10 +19,12 @@ use Rattle.text.specs.Utf8.Valid.{Valid, run-text}
 use Rattle.text.specs.Class.{Profile}
 use Rattle.text.specs.Width.{widthOf}
 use Rattle.text.specs.Cluster.Walk.{size-is}
-use Rattle.text.specs.Code.{runOf, size, profileOf, printable, firstSequence}
-use Rattle.text.specs.Code.Laws.{scalar-at, none-at, none-past, run-valid, run-fits, front-bytes, size-cons, size-nil, width-cons}
+use Rattle.text.specs.Utf8.Code.{runOf, size, firstSequence}
+use Rattle.text.specs.Class.Code.{profileOf, printable}
+use Rattle.text.specs.Utf8.Code.Laws.{scalar-at, none-at, none-past, run-valid, run-fits, front-bytes, size-cons, size-nil}
+use Rattle.text.specs.Width.Laws.{width-cons}
 use Rattle.text.specs.Class.Ascii.{printable-columns}
-use Rattle.text.specs.Code.Profile01.{ascii-classes}
+use Rattle.text.specs.Class.Profile01.{ascii-classes}
 use Rattle.text.specs.Utf8.FirstByte.{high-code}
 use Rattle.text.specs.Width.Symbols.{symbol, symbol-columns}
 use Rattle.text.specs.TextParts.{textAt}

@@ -16,10 +16,11 @@ use Rattle.text.specs.Tests.{cases}
 use Rattle.text.specs.Utf8.{ascii, asciis, decode, bytesOf}
 use Rattle.text.specs.Utf8.AsciiTexts.{asciis-append, asciis-bytes, asciis-cons, asciis-nil, asciis-replicate}
 use Rattle.text.specs.Cluster.Printable.{printable-width, run-printable}
-use Rattle.text.specs.Code.Profile01.{ascii-classes}
+use Rattle.text.specs.Class.Profile01.{ascii-classes}
 use Rattle.text.specs.Width.{widthOf}
-use Rattle.text.specs.Code.{runOf, profileOf, firstSequence, printable}
-use Rattle.text.specs.Code.Laws.{scalar-at, none-at, none-past}
+use Rattle.text.specs.Utf8.Code.{runOf, firstSequence}
+use Rattle.text.specs.Class.Code.{profileOf, printable}
+use Rattle.text.specs.Utf8.Code.Laws.{scalar-at, none-at, none-past}
 use Rattle.text.specs.TextParts.{textAt}
 use Rattle.text.specs.declared.utf8.Sequence.{Sequence}
 use Rattle.text.specs.declared.class.Profile as profile
@@ -28,7 +29,8 @@ use Rattle.drawing.specs.Marks.{hexDigit, byteMark, upperDigits, scalarM
 use Rattle.drawing.specs.Attributes.{control}
 use Rattle.drawing.specs.Draw.{writeMarks}
 use Rattle.drawing.specs.Clip.Contracts.{allPrintable}
-use Rattle.drawing.specs.State.{styleOf, stateOf, Wrote}
+use Rattle.drawing.specs.Attributes.Code.{styleOf}
+use Rattle.drawing.specs.State.{stateOf, Wrote}
 use Rattle.drawing.specs.Write.{ColumnsReady, writingColumns, moved}
 use Rattle.drawing.specs.Marks.Contracts.{eightSpaces, composedText, composedStyle, composedColumns, Composed, ComposedWrote, scalarMarking, MarksWrote}
 use Rattle.drawing.specs.declared.attributes.Style as code

@@ -59,7 +59,7 @@ module _ (d : Rendering) (buffer : List ℕ) (spans : List Record) (n : ℕ) (l�
 
   module _ (i : ℕ) (l : List ℕ) (t : Stepped) (s : SpansDrawn d line spans n l₀ t₀ i l t) where
     pub turn-room : i < n → SpanReady buffer d t
-    turn-room h = record { held = room .held; short = room .short; room = omega (arith, s .near, room .near, room .few, room .short) }
+    turn-room h = record { fits = room .fits; short = room .short; room = omega (arith, s .near, room .near, room .few, room .short) }
 
     next-span : i < n → take (i + 1) (take n spans) ≡ take i (take n spans) ++ getD spans i noRecord ∷ []
     next-span h =

@@ -19,7 +19,8 @@ use Rattle.spans.specs.declared.sequence.Sequence as sequence
 use Rattle.spans.specs.declared.sequence.Sequence.the-variants as sequences
 use Rattle.drawing.specs.Attributes.{linked}
 use Rattle.drawing.specs.Draw.{State, renderSequence}
-use Rattle.drawing.specs.State.{stateOf, obeyed}
+use Rattle.drawing.specs.State.{stateOf}
+use Rattle.drawing.specs.Orders.{obeyed}
 use Rattle.drawing.specs.Rendering.{Linkable, linkedBy, withLineDrawing, erasedToEnd, linkIn, recordSequence, SequenceDone}
 use Rattle.drawing.specs.declared.attributes.Attributes.{Attributes}
 use Rattle.drawing.specs.declared.state.AttributeState.{AttributeState}

@@ -12,15 +12,17 @@ use borrow.Author.Tests.{ne-eqb}
 use Rattle.text.specs.Tests.{cases}
 use Rattle.text.specs.Utf8.{Scalar}
 use Rattle.text.specs.Width.{widthOf}
-use Rattle.text.specs.Code.{profileOf}
-use Rattle.text.specs.Code.Laws.{width-size, run-valid, run-fits}
+use Rattle.text.specs.Class.Code.{profileOf}
+use Rattle.text.specs.Width.Laws.{width-size}
+use Rattle.text.specs.Utf8.Code.Laws.{run-valid, run-fits}
 use Rattle.text.specs.TextParts.{textAt}
 use Rattle.text.specs.declared.class.Profile as profile
 use Rattle.spans.specs.Spans.{Record}
 use Rattle.spans.specs.Spans.ContentLaw.{textIn}
 use Rattle.spans.specs.Spans.RecordSpans.{textIn-is}
 use Rattle.drawing.specs.Draw.{State, writeTruncated}
-use Rattle.drawing.specs.State.{styleOf, stateOf, Wrote}
+use Rattle.drawing.specs.Attributes.Code.{styleOf}
+use Rattle.drawing.specs.State.{stateOf, Wrote}
 use Rattle.drawing.specs.LineDrawing.{shownText}
 use Rattle.drawing.specs.Write.{WriteReady, writing}
 use Rattle.drawing.specs.Marks.Contracts.{composedText, composedStyle, ComposedWrote, MarksWrote}
@@ -47,7 +49,7 @@ module _ (d : Rendering) (buffer l : List ℕ) (t : Stepped) (r : Record) (ready
   part = take (r .len) (drop (r .place .0) line)
 
   line-length : length line ≡ d .len
-  line-length = length-take-le (d .len) buffer (ready .held)
+  line-length = length-take-le (d .len) buffer (ready .fits)
 
   part-length : (s : List ℕ) → s ≡ part → length s ≤ d .len
   part-length s e = rw (e, length-take, length-drop, line-length) (omega arith)

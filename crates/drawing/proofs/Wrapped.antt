@@ -11,16 +11,16 @@ use Rattle.buffer.specs.Sink.{sink, emit}
 use Rattle.buffer.specs.Sink.Laws.{then-emit}
 use Rattle.text.specs.Tests.{cases}
 use Rattle.text.specs.Width.{profile01}
-use Rattle.text.specs.Code.{profileOf}
-use Rattle.text.specs.Code.Profile01.{profile-is}
+use Rattle.text.specs.Class.Code.{profileOf}
+use Rattle.text.specs.Class.Profile01.{profile-is}
 use Rattle.text.specs.declared.Column.{Column}
 use Rattle.spans.specs.Spans.{Span, Record, records}
-use Rattle.spans.specs.Spans.RecordSpans.{Held, spansIn-held}
+use Rattle.spans.specs.Spans.RecordSpans.{HasContents, spansIn-contents}
 use Rattle.rows.specs.Rows.{Row, rows}
 use Rattle.rows.specs.Calls.{modeOf}
-use Rattle.rows.specs.Wrap.{RowList, kept, SpansRoom, MadeWrap, beginning}
+use Rattle.rows.specs.Wrap.{RowList, rowList, SpansRoom, MadeWrap, beginning}
 use Rattle.rows.specs.Calls.Contracts.{lineRoom}
-use Rattle.rows.specs.Wrap.Laws.{rows-kept, withAllRows, keeps-all, last-stays, first-stays, end-kept, start-kept}
+use Rattle.rows.specs.Wrap.Laws.{rows-written, withAllRows, written-all, last-stays, first-stays, end-written, start-written}
 use Rattle.rows.specs.declared.wrap.RowCounts.{RowCounts}
 use Rattle.rows.specs.declared.wrap.WrapState.{WrapState}
 use Rattle.rows.specs.declared.wrap.Wrapping.{Wrapping}
@@ -28,7 +28,8 @@ use Rattle.rows.specs.Calls.Reading.{line-room}
 use Rattle.drawing.specs.Change.{Change, encode}
 use Rattle.drawing.specs.Change as change
 use Rattle.drawing.specs.Draw.{State, Sent, renderSpans, initial, leftArrow, rightArrow, closeWindow, render, endOf, startOf, closeRows, renderWrapped}
-use Rattle.drawing.specs.State.{stateOf, styleOf, newState}
+use Rattle.drawing.specs.State.{stateOf, newState}
+use Rattle.drawing.specs.Attributes.Code.{styleOf}
 use Rattle.drawing.specs.Rendering.{currentOf, opening, closing, Opened, RenderRoom, Rendered, renderRecords}
 use Rattle.drawing.specs.Requests.{wrappingOf, boundsEnd, boundsOf, windowRendering, rowsRendering, renderingOf, spansWrapped, firstSpans, RenderWrappedRoom, changesOf, Drew}
 use Rattle.drawing.specs.declared.Request.{Request}
@@ -86,7 +87,7 @@ module _ (rs : List Record) (line : List ℕ) (q : Request) (count : ℕ) (enoug
   wrap-room last t e n f =
       let h : n ≤ count = cases (q .wrapped) (λ b. omega (arith, rw b at f)) (λ b. omega (arith, rw b at f)) in
       let r = line-room line (w .len) len-is in
-      rw e record { there = omega (arith, enough .there); few = omega (arith, enough .few); short = r .0; held = r .1; low = omega arith; near = omega arith; more = omega arith }
+      rw e record { there = omega (arith, enough .there); few = omega (arith, enough .few); short = r .0; fits = r .1; low = omega arith; near = omega arith; more = omega arith }
 
   same-len : (y : RowCounts) (d : Rendering) → d ≡ renderingOf q y (w .len) → d .len ≡ w .len
   unfolding renderingOf rowsRendering windowRendering
@@ -95,7 +96,7 @@ module _ (rs : List Record) (line : List ℕ) (q : Request) (count : ℕ) (enoug
   pub render-room : (y : RowCounts) (d : Rendering) → d ≡ renderingOf q y (w .len) → (l l′ : List ℕ) (t : Stepped) → Opened d l l′ t → RenderRoom rs line d t count
   render-room y d e l l′ t o =
       let r = line-room line (d .len) (same-len y d e ∙ len-is) in
-      record { there = enough .there; few = enough .few; short = r .0; held = r .1; near = rw (o .state) (omega arith) }
+      record { there = enough .there; few = enough .few; short = r .0; fits = r .1; near = rw (o .state) (omega arith) }
 
   module _ (last : ℕ) (last-is : last ≡ q .first + q .count - 1) (t : WrapState) (t-is : t ≡ beginning (q .first) last) (n : ℕ) (n-is : n ≡ spansWrapped q count) (none : List ℕ) (y : RowCounts)
       (made : MadeWrap (profileOf (w .profile)) (w .width .0) (w .mode) (take (w .len) line) (take n rs) [] t none y)
@@ -106,14 +107,14 @@ module _ (rs : List Record) (line : List ℕ) (q : Request) (count : ℕ) (enoug
     abbrev ss : List Span
     ss = firstSpans rs line count
 
-    held : Held text ss
-    held = spansIn-held text (take count rs) (enough .held)
+    held : HasContents text ss
+    held = spansIn-contents text (take count rs) (enough .held)
 
     abbrev wanted : List Row
     wanted = rows profile01 (q .width) (modeOf (q .mode)) ss
 
     abbrev nothing-yet : RowList
-    nothing-yet = kept [] (beginning (q .first) last .tally)
+    nothing-yet = rowList [] (beginning (q .first) last .tally)
 
     abbrev z : RowCounts
     z = withAllRows nothing-yet wanted .tally
@@ -125,7 +126,7 @@ module _ (rs : List Record) (line : List ℕ) (q : Request) (count : ℕ) (enoug
           rw (enough .held, ← m, ← t-is) (rw (w-is, profile-is) at made)
 
       y-is : y ≡ z
-      y-is = ap (λ (k : RowList). k .tally) (made-is .same ∙ rows-kept profile01 (q .width) text [] (q .first) last ss (q .mode) (enough .limits .mode) held ∙ keeps-all nothing-yet wanted)
+      y-is = ap (λ (k : RowList). k .tally) (made-is .same ∙ rows-written profile01 (q .width) text [] (q .first) last ss (q .mode) (enough .limits .mode) held ∙ written-all nothing-yet wanted)
 
       few-rows : z .count < 0xFFFF_FFFF_FFFF_FFFF
       few-rows = rw y-is at (made-is .more)
@@ -135,14 +136,14 @@ module _ (rs : List Record) (line : List ℕ) (q : Request) (count : ℕ) (enoug
       end-is =
           ap (λ (x : RowCounts). boundsOf x .end .0) y-is ∙ column-cond (ltb (z .last) (z .count)) _ _
           ∙ ap (λ (i : ℕ). cond (ltb i (z .count)) (z .end .0) (z .ended .0)) (last-stays wanted nothing-yet)
-          ∙ end-kept endOf (λ e i. refl) nothing-yet wanted few-rows refl (λ e r rs. refl) (λ e i r rs. refl) ∙ ap (λ (i : ℕ). endOf 0 i wanted) last-is
+          ∙ end-written endOf (λ e i. refl) nothing-yet wanted few-rows refl (λ e r rs. refl) (λ e i r rs. refl) ∙ ap (λ (i : ℕ). endOf 0 i wanted) last-is
 
       start-is : boundsOf y .start .0 ≡ startOf (boundsOf y .end .0) (q .first) wanted
       unfolding startOf
       start-is =
           ap (λ (x : RowCounts). boundsOf x .start .0) y-is ∙ column-cond (ltb (z .first) (z .count)) (z .start) (boundsEnd z)
           ∙ ap (λ (i : ℕ). cond (ltb i (z .count)) (z .start .0) (boundsEnd z .0)) (first-stays wanted nothing-yet)
-          ∙ start-kept startOf (λ e i. refl) nothing-yet wanted few-rows refl (λ e r rs. refl) (λ e i r rs. refl) (boundsEnd z .0) ∙ ap (λ (x : RowCounts). startOf (boundsEnd x .0) (q .first) wanted) (sym y-is)
+          ∙ start-written startOf (λ e i. refl) nothing-yet wanted few-rows refl (λ e r rs. refl) (λ e i r rs. refl) (boundsEnd z .0) ∙ ap (λ (x : RowCounts). startOf (boundsEnd x .0) (q .first) wanted) (sym y-is)
 
     changes-are : Changes q d ss
     unfolding renderingOf

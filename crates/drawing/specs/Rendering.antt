@@ -9,7 +9,7 @@ use lib.Dec.{eqb, leb, ltb}
 use Rattle.buffer.specs.Sink.{sink, emit}
 use Rattle.text.specs.Utf8.{Scalar}
 use Rattle.text.specs.Class.{Profile}
-use Rattle.text.specs.Code.{profileOf}
+use Rattle.text.specs.Class.Code.{profileOf}
 use Rattle.spans.specs.Sequence.{Sequence, sgr, eraseToEnd, ignored, hyperlink, lineDrawing, Found, found, missing, parse}
 use Rattle.spans.specs.Spans.{Record}
 use Rattle.spans.specs.Spans.ContentLaw.{textIn}
@@ -21,7 +21,8 @@ use Rattle.drawing.specs.Attributes.{linked}
 use Rattle.drawing.specs.Change.{Change, clearToEnd, encode}
 use Rattle.drawing.specs.Change as change
 use Rattle.drawing.specs.Draw.{State, Sent, sent, writeTruncated, writeMarks, renderSequence, leftArrow, rightArrow, closeWindow, closeRows}
-use Rattle.drawing.specs.State.{styleOf, stateOf, Wrote, newState}
+use Rattle.drawing.specs.Attributes.Code.{styleOf}
+use Rattle.drawing.specs.State.{stateOf, Wrote, newState}
 use Rattle.drawing.specs.LineDrawing.{shownText}
 use Rattle.drawing.specs.Marks.Contracts.{composedStyle, composedText}
 use Rattle.drawing.specs.declared.attributes.Style as code
@@ -89,7 +90,7 @@ pub record SequenceDone (line : List ℕ) (kind place : ℕ) (t r : AttributeSta
 
 -- the line that a buffer holds, and room for the columns of a span
 pub record SpanReady (buffer : List ℕ) (d : Rendering) (t : Stepped) : Type 0 where
-  pub held : d .len ≤ length buffer
+  pub fits : d .len ≤ length buffer
   pub short : d .len ≤ 32768
   pub room : t .state .position .0 + (20 * d .len + 16) < 2 ^ 64
 
@@ -151,7 +152,7 @@ pub record RenderRoom (spans : List Record) (buffer : List ℕ) (d : Rendering) 
   pub there : n ≤ length spans
   pub few : n ≤ 32768
   pub short : d .len ≤ 32768
-  pub held : d .len ≤ length buffer
+  pub fits : d .len ≤ length buffer
   pub near : t .state .position .0 ≤ 4294967296
 
 pub record Rendered (d : Rendering) (buffer : List ℕ) (rs : List Record) (l : List ℕ) (t : Stepped) (l′ : List ℕ) (r : Drawn) : Type 0 where

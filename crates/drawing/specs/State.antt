@@ -1,26 +1,19 @@
--- What the contracts of src/state.rt and src/orders.rt say: the attribute state, and what is sent with it.
+-- What the contracts of src/state.rt say: the attribute state, and what is sent with it.
 use mathlib.Core.Path.{_≡_}
 use Prim.Native.Nat.{ℕ}
-use mathlib.Core.Bool.{true, false, not, _||_}
+use mathlib.Core.Bool.{false, not, _||_}
 use mathlib.Core.List.{List}
 use Rattle.buffer.specs.Sink.{sink, emit}
-use Rattle.text.specs.Code.{whole}
 use Rattle.spans.specs.declared.sgr.Color.the-variants.{Default}
-use Rattle.spans.specs.declared.sgr.Sgr.{Sgr}
-use Rattle.drawing.specs.Attributes.{applyAll, plain, Style, file, control, match, currentMatch}
+use Rattle.drawing.specs.Attributes.{plain}
+use Rattle.drawing.specs.Attributes.Code.{styleOf}
 use Rattle.drawing.specs.Change.{encode}
 use Rattle.drawing.specs.Change as change
 use Rattle.drawing.specs.Draw.{State, Sent, state, style}
 use Rattle.drawing.specs.declared.attributes.Style as code
-use Rattle.drawing.specs.declared.attributes.Style.the-variants.{File, Control, Match, CurrentMatch}
+use Rattle.drawing.specs.declared.attributes.Style.the-variants.{File}
 use Rattle.drawing.specs.declared.state.AttributeState.{AttributeState}
 use Rattle.drawing.specs.declared.state.Stepped.{Stepped}
-
-unfoldable pub styleOf : code.Style → Style
-styleOf File = file
-styleOf Control = control
-styleOf Match = match
-styleOf CurrentMatch = currentMatch
 
 unfoldable pub stateOf : AttributeState → State
 unfolding styleOf
@@ -35,10 +28,6 @@ pub record Wrote (l : List ℕ) (at : ℕ) (t : AttributeState) (x : Sent) (l′
   pub bytes : sink l′ r ≡ emit (sink l at) (encode (x .changes))
   pub state : stateOf t′ ≡ x .after
   pub torn : t′ .torn ≡ (t .torn || not (change.whole (x .changes)))
-
--- the state after style orders
-abbrev pub obeyed : AttributeState → List Sgr → AttributeState
-obeyed t os = record { attrs = applyAll (t .attrs) os; drawing = t .drawing; changed = true; style = t .style; fill = t .fill; torn = t .torn; position = t .position }
 
 -- AttributeState::new
 abbrev pub newState : AttributeState

@@ -13,8 +13,8 @@ use Rattle.buffer.specs.Sink.Laws.{cleared-none, cleared-all, cleared-behind}
 use Rattle.text.specs.Tests.{cases, and-T, true-T, is-true}
 use Rattle.text.specs.Width.{profile01}
 use Rattle.text.specs.Class.{Profile}
-use Rattle.text.specs.Code.{profileOf}
-use Rattle.text.specs.Code.Profile01.{profile-is}
+use Rattle.text.specs.Class.Code.{profileOf}
+use Rattle.text.specs.Class.Profile01.{profile-is}
 use Rattle.text.specs.Overstrike.{convert}
 use Rattle.text.specs.declared.Answer.{Answer}
 use Rattle.spans.specs.Spans.{Span, spans, Record, records}
@@ -24,9 +24,9 @@ use Rattle.rows.specs.Rows.{Row, rows}
 use Rattle.rows.specs.Calls.{modeOf, modeAndWidth, numbersOf, rowsCall, heightCall}
 use Rattle.rows.specs.Calls.Laws.{height-refused, height-five, height-accepted, rows-refused, rows-five, rows-six, rows-accepted}
 use Rattle.text.specs.TextParts.{column}
-use Rattle.rows.specs.Wrap.{RowList, kept, withRows, beginning, SpansRoom, MadeWrap}
+use Rattle.rows.specs.Wrap.{RowList, rowList, withRows, beginning, SpansRoom, MadeWrap}
 use Rattle.rows.specs.Calls.Contracts.{largest, lineRoom, wrappingOf, decided, outcomeOf, answerOf, Called}
-use Rattle.rows.specs.Wrap.Laws.{rows-kept, keeps-count, keeps-numbers, numbersOf-length}
+use Rattle.rows.specs.Wrap.Laws.{rows-written, written-count, written-numbers, numbersOf-length}
 use Rattle.rows.specs.declared.Request.{Request}
 use Rattle.rows.specs.declared.Outcome.{Outcome}
 use Rattle.rows.specs.declared.wrap.RowCounts.{RowCounts}
@@ -76,7 +76,7 @@ module _ (size places : ℕ) (line found : List ℕ) (a : Answer) (cs : List ℕ
     call-room l =
         let c = reading.count-in size places [] line a cs rs read-is (a .number) refl in
         let h = line-room cs (w .len) (ap (λ (x : Wrapping). x .len) w-is ∙ ap lineRoom (sym l)) in
-        rw t-is (record { there = c .0; few = c .1; short = h .0; held = h .1; low = omega arith; near = omega arith; more = omega arith })
+        rw t-is (record { there = c .0; few = c .1; short = h .0; fits = h .1; low = omega arith; near = omega arith; more = omega arith })
 
     module _ (l l′ : List ℕ) (tally : RowCounts) (made : MadeWrap (profileOf (w .profile)) (w .width .0) (w .mode) (take (w .len) cs) (take (a .count) rs) l t l′ tally)
         (o : Outcome) (o-is : o ≡ outcomeOf (decided q (a .number) (tally .count) (length l)) (tally .count) (length l))
@@ -85,7 +85,7 @@ module _ (size places : ℕ) (line found : List ℕ) (a : Answer) (cs : List ℕ
       rowsFound = rows profile01 (q .width) (modeOf (q .mode)) ss
 
       abbrev none-yet : RowList
-      none-yet = kept l (beginning 0 0 .tally)
+      none-yet = rowList l (beginning 0 0 .tally)
 
       module _ (fine : a .number ≡ 0) (asked : modeAndWidth (q .mode) (q .width) ≡ true) where
         mode-low : q .mode ≤ 2
@@ -99,18 +99,18 @@ module _ (size places : ℕ) (line found : List ℕ) (a : Answer) (cs : List ℕ
             let m = subst (λ (P : Profile). MadeWrap P (w .width .0) (w .mode) (take (w .len) cs) (take (a .count) rs) l t l′ tally) (profile-is (w .profile)) made in
             rw (← unmatched-spans profile01 s, ← reading.line-part size places [] line a cs rs read-is fine, ← reading.spans-part size places [] line a cs rs read-is fine, ← t-is) (rw w-is at m)
 
-        kept-is : kept l′ tally ≡ withRows none-yet (reverse rowsFound)
-        kept-is = made-is .same ∙ rows-kept profile01 (q .width) (s ++ after) l 0 0 ss (q .mode) mode-low (rw (unmatched-spans profile01 s) at (reading.held-in size places [] line a cs rs read-is fine))
+        rows-are : rowList l′ tally ≡ withRows none-yet (reverse rowsFound)
+        rows-are = made-is .same ∙ rows-written profile01 (q .width) (s ++ after) l 0 0 ss (q .mode) mode-low (rw (unmatched-spans profile01 s) at (reading.held-in size places [] line a cs rs read-is fine))
 
         few-rows : withRows none-yet (reverse rowsFound) .tally .count < largest
-        few-rows = rw (ap (λ (k : RowList). k .tally .count) kept-is) at (made-is .more)
+        few-rows = rw (ap (λ (k : RowList). k .tally .count) rows-are) at (made-is .more)
 
         rows-count : tally .count ≡ length rowsFound
-        rows-count = ap (λ (k : RowList). k .tally .count) kept-is ∙ keeps-count none-yet refl (reverse rowsFound) few-rows ∙ length-reverse rowsFound
+        rows-count = ap (λ (k : RowList). k .tally .count) rows-are ∙ written-count none-yet refl (reverse rowsFound) few-rows ∙ length-reverse rowsFound
 
         rows-numbers : 2 * length rowsFound ≤ length l → l′ ≡ numbersOf rowsFound ++ drop (2 * length (reverse rowsFound)) l
         rows-numbers h =
-            ap (λ (k : RowList). k .numbers) kept-is ∙ keeps-numbers l (beginning 0 0 .tally) refl (reverse rowsFound) (rw (length-reverse rowsFound) h) few-rows
+            ap (λ (k : RowList). k .numbers) rows-are ∙ written-numbers l (beginning 0 0 .tally) refl (reverse rowsFound) (rw (length-reverse rowsFound) h) few-rows
             ∙ ap (λ (x : List Row). numbersOf x ++ drop (2 * length (reverse rowsFound)) l) (reverse-reverse rowsFound)
 
       outcome-at : (n : ℕ) → decided q (a .number) (tally .count) (length l) ≡ n → o ≡ outcomeOf n (tally .count) (length l)

@@ -13,8 +13,10 @@ use Rattle.text.specs.Tests.{and-T, true-T, is-true}
 use Rattle.text.specs.Utf8.{decode}
 use Rattle.text.specs.Class.{Profile, whitespace}
 use Rattle.text.specs.Width.{widthOf}
-use Rattle.text.specs.Code.{size, firstSequence, profileOf, sequenceOf}
-use Rattle.text.specs.Code.Laws.{scalar-at, none-at, none-past, size-nil, size-cons, width-nil, width-cons, width-two}
+use Rattle.text.specs.Utf8.Code.{size, firstSequence, sequenceOf}
+use Rattle.text.specs.Class.Code.{profileOf}
+use Rattle.text.specs.Utf8.Code.Laws.{scalar-at, none-at, none-past, size-nil, size-cons}
+use Rattle.text.specs.Width.Laws.{width-nil, width-cons, width-two}
 use Rattle.text.specs.declared.BytePlace.{BytePlace}
 use Rattle.text.specs.declared.Column.{Column}
 use Rattle.text.specs.TextParts.{place, column, textAt}
@@ -22,7 +24,7 @@ use Rattle.text.specs.declared.utf8.Sequence.{Sequence}
 use Rattle.text.specs.declared.class.Profile as code
 use Rattle.rows.specs.Words.Laws.{belongs, stillOf, still-none, still-on, still-ends, still-hyphen, still-turns}
 use Rattle.rows.specs.Words.Contracts.{byteBelongs, WordAt}
-use Rattle.text.specs.Code.FirstSequence.{ascii-first}
+use Rattle.text.specs.Utf8.Code.FirstSequence.{ascii-first}
 use Rattle.text.specs.Class.Ranges.{printable-no-space, space-is}
 use Rattle.text.specs.Class.Document01.{printable-width}
 

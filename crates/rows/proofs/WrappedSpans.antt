@@ -18,7 +18,7 @@ use Rattle.spans.specs.Calls.{noRecord}
 use Rattle.rows.specs.Rows.{Wrap, tabbed}
 use Rattle.rows.specs.Rows.Laws.{Natural, unbroken-over, tabbed-over, splitText-over}
 use Rattle.text.specs.TextParts.{textAt}
-use Rattle.rows.specs.Wrap.{held, on, Stepped, unbrokenOf, textOf, recordIn, spanOf, spansOf, lastRowList, LastRow, SpanRoom, SpansRoom, MadeWrap}
+use Rattle.rows.specs.Wrap.{wrapRows, on, Stepped, unbrokenOf, textOf, recordIn, spanOf, spansOf, lastRowList, LastRow, SpanRoom, SpansRoom, MadeWrap}
 use Rattle.rows.specs.declared.wrap.RowCounts.{RowCounts}
 use Rattle.rows.specs.declared.wrap.WrapState.{WrapState}
 use Rattle.rows.proofs.WrappedTexts.{renamed, on-id, turn, done}
@@ -50,7 +50,7 @@ module _ (P : Profile) (width mode : ℕ) (buffer : List ℕ) (len : ℕ) (r : R
   pub span-unwrapped : mode ≡ 0 → Stepped l t (spanOf P width mode line r) (2 * len + 8) (2 * len + 1) l t
   unfolding spanOf
   span-unwrapped e =
-      record { same = sym (on-id (spanOf P width mode line r) (held l t) (λ w. rw (eq-eqb mode 0 e))); low = there .room .low; near = omega arith; more = omega arith }
+      record { same = sym (on-id (spanOf P width mode line r) (wrapRows l t) (λ w. rw (eq-eqb mode 0 e))); low = there .room .low; near = omega arith; more = omega arith }
 
   module _ (e : mode ≢ 0) where
     by-kind : (f : Wrap → Wrap) (n m : ℕ) (l′ : List ℕ) (t′ : WrapState) → ((w : Wrap) → f w ≡ recordIn P width (eqb mode 2) line r w) → n ≤ 2 * len + 8 → m ≤ 2 * len + 1
@@ -81,7 +81,7 @@ module _ (P : Profile) (width mode : ℕ) (buffer : List ℕ) (len : ℕ) (r : R
     unfolding recordIn
     span-none a b c d x y =
         by-kind (λ w. w) 0 0 l t (λ w. rw (ne-eqb (r .kind) 1 a, ne-eqb (r .kind) 2 b, ne-eqb (r .kind) 3 c, ne-eqb (r .kind) 4 d, ne-eqb (r .kind) 5 x, ne-eqb (r .kind) 10 y)) (omega arith) (omega arith)
-        (record { same = sym (on-id (λ w. w) (held l t) (λ w. refl)); low = there .room .low; near = omega arith; more = omega arith })
+        (record { same = sym (on-id (λ w. w) (wrapRows l t) (λ w. refl)); low = there .room .low; near = omega arith; more = omega arith })
 
 -- ---- all spans
 
@@ -111,7 +111,7 @@ module _ (P : Profile) (width mode : ℕ) (line : List ℕ) where
 -- the loop over the first n spans
 pub record Spanning (P : Profile) (width mode : ℕ) (line : List ℕ) (spans : List Record) (n : ℕ) (l₀ : List ℕ) (t₀ : WrapState) (i : ℕ) (l : List ℕ) (t : WrapState) : Type 0 where
   pub inside : i ≤ n
-  pub work : on (spansOf P width mode line (drop i (take n spans))) (held l t) ≡ on (spansOf P width mode line (take n spans)) (held l₀ t₀)
+  pub work : on (spansOf P width mode line (drop i (take n spans))) (wrapRows l t) ≡ on (spansOf P width mode line (take n spans)) (wrapRows l₀ t₀)
   pub low : t .start .0 ≤ t .position .0
   pub near : t .position .0 ≤ t₀ .position .0 + 65544 * i
   pub more : t .tally .count ≤ t₀ .tally .count + 65537 * i
@@ -125,7 +125,7 @@ module _ (P : Profile) (width mode : ℕ) (buffer : List ℕ) (len : ℕ) (spans
 
   module _ (i : ℕ) (l : List ℕ) (t : WrapState) (s : Spanning P width mode the-line spans n l₀ t₀ i l t) where
     pub turn-room : i < n → SpanRoom buffer len t
-    turn-room h = record { held = room .held; room = record { low = s .low; room = omega (arith, s .near, room .near, room .few, room .short) } }
+    turn-room h = record { fits = room .fits; room = record { low = s .low; room = omega (arith, s .near, room .near, room .few, room .short) } }
 
     next-span : i < n → drop i (take n spans) ≡ getD spans i noRecord ∷ drop (i + 1) (take n spans)
     next-span h =
@@ -138,7 +138,7 @@ module _ (P : Profile) (width mode : ℕ) (buffer : List ℕ) (len : ℕ) (spans
     spans-turn l′ t′ h k =
         record {
           inside = omega arith;
-          work = turn (spansOf P width mode the-line (drop i (take n spans))) (held l t) (s .work) (spanOf P width mode the-line (getD spans i noRecord)) (spansOf P width mode the-line (drop (i + 1) (take n spans))) (held l′ t′)
+          work = turn (spansOf P width mode the-line (drop i (take n spans))) (wrapRows l t) (s .work) (spanOf P width mode the-line (getD spans i noRecord)) (spansOf P width mode the-line (drop (i + 1) (take n spans))) (wrapRows l′ t′)
               (spansOf-more P width mode the-line (drop i (take n spans)) (drop (i + 1) (take n spans)) (getD spans i noRecord) (next-span h)) (spansOf-over P width mode the-line (drop (i + 1) (take n spans))) (k .same);
           low = k .low;
           near = omega (arith, k .near, s .near, room .short);
@@ -149,6 +149,6 @@ module _ (P : Profile) (width mode : ℕ) (buffer : List ℕ) (len : ℕ) (spans
     spans-end l′ r e k =
         let z : drop i (take n spans) ≡ [] = drop-of-length-le (take n spans) {i = i} (rw (length-take-le n spans (room .there)) (omega arith)) in
         record {
-          same = k .same ∙ ap (lastRowList mode) (done (spansOf P width mode the-line (drop i (take n spans))) (held l t) (s .work) (spansOf-none P width mode the-line (drop i (take n spans)) z));
+          same = k .same ∙ ap (lastRowList mode) (done (spansOf P width mode the-line (drop i (take n spans))) (wrapRows l t) (s .work) (spansOf-none P width mode the-line (drop i (take n spans)) z));
           more = omega (arith, k .more, s .more, room .more, room .few);
         }

@@ -16,22 +16,24 @@ use Rattle.text.specs.Width.{widthOf}
 use Rattle.text.specs.Cluster.{clusters}
 use Rattle.text.specs.Cluster.Laws.{clusters-nil}
 use Rattle.text.specs.Cluster.Spaces.{spaces-begin}
-use Rattle.text.specs.Code.{size, firstOf, profileOf}
-use Rattle.text.specs.Code.Laws.{none-past, run-valid, run-front, size-nil, size-cons, width-append}
+use Rattle.text.specs.Utf8.Code.{size}
+use Rattle.text.specs.Segmentation.{firstOf, NextClusterReady, NextCluster}
+use Rattle.text.specs.Class.Code.{profileOf}
+use Rattle.text.specs.Utf8.Code.Laws.{none-past, run-valid, run-front, size-nil, size-cons}
+use Rattle.text.specs.Width.Laws.{width-append}
 use Rattle.text.specs.declared.BytePlace.{BytePlace}
 use Rattle.text.specs.declared.TextPart.{TextPart}
 use Rattle.text.specs.declared.segmentation.ClusterStep.{ClusterStep}
 use Rattle.text.specs.TextParts.{place, column, textAt}
 use Rattle.text.specs.TextParts.Laws.{first-there, behind-part}
 use Rattle.text.specs.Scalar.{packedAt}
-use Rattle.text.specs.Segmentation.{NextClusterReady, NextCluster}
 use Rattle.text.specs.Scalar.Laws.{packed-inside, packed-none, first-some}
 use Rattle.rows.specs.Words.{Word, words}
 use Rattle.rows.specs.Words.Laws.{firstWord, restWords, first-word-all, first-word-some, words-first}
 use Rattle.rows.specs.Rows.{Row, Wrap, wrap, pushed, unbroken, byClusters, byWords, longWord, oneWord, splitText}
 use Rattle.rows.specs.Rows.Laws.{over, Natural, byClusters-over, longWord-over, byWords-over}
 use Rattle.rows.specs.Words.Contracts.{WordAt, bothOf}
-use Rattle.rows.specs.Wrap.{WordRoom, RowList, kept, withRow, withRows, Held, held, on, Room, Stepped, advanced, unbrokenOf, clustersOf, longWordOf, oneWordOf, wordsOf, textOf}
+use Rattle.rows.specs.Wrap.{WordRoom, RowList, rowList, withRow, withRows, WrapRows, wrapRows, on, Room, Stepped, advanced, unbrokenOf, clustersOf, longWordOf, oneWordOf, wordsOf, textOf}
 use Rattle.text.specs.declared.class.Profile as profile
 use Rattle.rows.specs.declared.wrap.WrapState.{WrapState}
 use Rattle.rows.proofs.WordClusters.{word-clusters}
@@ -39,53 +41,53 @@ use Rattle.rows.proofs.PushedRows.{stays}
 
 -- ---- one after the other
 
-keeps-append : (k : RowList) (a b : List Row) → withRows k (a ++ b) ≡ withRows (withRows k b) a
+written-append : (k : RowList) (a b : List Row) → withRows k (a ++ b) ≡ withRows (withRows k b) a
 unfolding withRows
-keeps-append k [] b = refl
-keeps-append k (r ∷ a) b = ap (λ (x : RowList). withRow x r) (keeps-append k a b)
+written-append k [] b = refl
+written-append k (r ∷ a) b = ap (λ (x : RowList). withRow x r) (written-append k a b)
 
-holding : RowList → Wrap → Held
-holding k t = record { kept = withRows k (t .rows); start = t .start; position = t .position }
+holding : RowList → Wrap → WrapRows
+holding k t = record { rows = withRows k (t .rows); start = t .start; position = t .position }
 
 holding-over : (k : RowList) (rs : List Row) (t : Wrap) → holding k (over rs t) ≡ holding (withRows k rs) t
 unfolding holding over
-holding-over k rs t = ap (λ (x : RowList). record { kept = x; start = t .start; position = t .position }) (keeps-append k (t .rows) rs)
+holding-over k rs t = ap (λ (x : RowList). record { rows = x; start = t .start; position = t .position }) (written-append k (t .rows) rs)
 
-on-at : (f g : Wrap → Wrap) (h : Held) → f (wrap [] (h .start) (h .position)) ≡ g (wrap [] (h .start) (h .position)) → on f h ≡ on g h
+on-at : (f g : Wrap → Wrap) (h : WrapRows) → f (wrap [] (h .start) (h .position)) ≡ g (wrap [] (h .start) (h .position)) → on f h ≡ on g h
 unfolding on holding
-on-at f g h e = ap (holding (h .kept)) e
+on-at f g h e = ap (holding (h .rows)) e
 
-pub on-then : (f g : Wrap → Wrap) (h : Held) → Natural g → on g (on f h) ≡ on (λ (t : Wrap). g (f t)) h
+pub on-then : (f g : Wrap → Wrap) (h : WrapRows) → Natural g → on g (on f h) ≡ on (λ (t : Wrap). g (f t)) h
 unfolding on holding over
 on-then f g h n =
     let t : Wrap = f (wrap [] (h .start) (h .position)) in
-    sym (ap (holding (h .kept)) (n (t .rows) (wrap [] (t .start) (t .position))) ∙ holding-over (h .kept) (t .rows) (g (wrap [] (t .start) (t .position))))
+    sym (ap (holding (h .rows)) (n (t .rows) (wrap [] (t .start) (t .position))) ∙ holding-over (h .rows) (t .rows) (g (wrap [] (t .start) (t .position))))
 
-pub on-id : (f : Wrap → Wrap) (h : Held) → ((t : Wrap) → f t ≡ t) → on f h ≡ h
+pub on-id : (f : Wrap → Wrap) (h : WrapRows) → ((t : Wrap) → f t ≡ t) → on f h ≡ h
 unfolding on holding withRows
-on-id f h e = ap (holding (h .kept)) (e (wrap [] (h .start) (h .position)))
+on-id f h e = ap (holding (h .rows)) (e (wrap [] (h .start) (h .position)))
 
 -- what is left to do: a turn, and the end
-module _ (run : Wrap → Wrap) (h : Held) {e : Held} (work : on run h ≡ e) where
-  pub turn : (step rest : Wrap → Wrap) (h′ : Held) → ((t : Wrap) → run t ≡ rest (step t)) → Natural rest → h′ ≡ on step h → on rest h′ ≡ e
+module _ (run : Wrap → Wrap) (h : WrapRows) {e : WrapRows} (work : on run h ≡ e) where
+  pub turn : (step rest : Wrap → Wrap) (h′ : WrapRows) → ((t : Wrap) → run t ≡ rest (step t)) → Natural rest → h′ ≡ on step h → on rest h′ ≡ e
   turn step rest h′ q n s = ap (on rest) s ∙ on-then step rest h n ∙ sym (on-at run (λ (t : Wrap). rest (step t)) h (q (wrap [] (h .start) (h .position)))) ∙ work
 
   pub done : ((t : Wrap) → run t ≡ t) → h ≡ e
   done q = sym (on-id run h q) ∙ work
 
 -- two steps are one
-then-same : (f g F : Wrap → Wrap) (h h₁ h₂ : Held) → h₁ ≡ on f h → h₂ ≡ on g h₁ → Natural g → F (wrap [] (h .start) (h .position)) ≡ g (f (wrap [] (h .start) (h .position))) → h₂ ≡ on F h
+then-same : (f g F : Wrap → Wrap) (h h₁ h₂ : WrapRows) → h₁ ≡ on f h → h₂ ≡ on g h₁ → Natural g → F (wrap [] (h .start) (h .position)) ≡ g (f (wrap [] (h .start) (h .position))) → h₂ ≡ on F h
 then-same f g F h h₁ h₂ p q n e = q ∙ ap (on g) p ∙ on-then f g h n ∙ sym (on-at F (λ (t : Wrap). g (f t)) h e)
 
 -- the same step under another name
 pub renamed : (l l′ : List ℕ) (t t′ : WrapState) (f g : Wrap → Wrap) (n m j k : ℕ) → ((w : Wrap) → f w ≡ g w) → n ≤ j → m ≤ k → Stepped l t f n m l′ t′ → Stepped l t g j k l′ t′
 renamed l l′ t t′ f g n m j k e h i s =
-    record { same = s .same ∙ on-at f g (held l t) (e (wrap [] (t .start .0) (t .position .0))); low = s .low; near = omega (arith, s .near); more = omega (arith, s .more) }
+    record { same = s .same ∙ on-at f g (wrapRows l t) (e (wrap [] (t .start .0) (t .position .0))); low = s .low; near = omega (arith, s .near); more = omega (arith, s .more) }
 
 pub record Stepping (F : List Scalar → Wrap → Wrap) (text l₀ : List ℕ) (t₀ : WrapState) (p : BytePlace) (l : List ℕ) (t : WrapState) : Type 0 where
   pub inside : p .0 ≤ length text
   pub long : length l ≡ length l₀
-  pub work : on (F (textAt text (p .0))) (held l t) ≡ on (F (textAt text 0)) (held l₀ t₀)
+  pub work : on (F (textAt text (p .0))) (wrapRows l t) ≡ on (F (textAt text 0)) (wrapRows l₀ t₀)
   pub low : t .start .0 ≤ t .position .0
   pub near : t .position .0 ≤ t₀ .position .0 + 2 * p .0
 
@@ -120,7 +122,7 @@ module _ (P : Profile) (width : ℕ) (text l₀ : List ℕ) (t₀ : WrapState) (
   break-done : now-text ≡ [] → Stepped l₀ t₀ (clustersOf P width (textAt text 0)) (2 * length text) (length text) l t
   break-done e =
       record {
-        same = done (clustersOf P width now-text) (held l t) (b .so .work) (clusters-none P width now-text e);
+        same = done (clustersOf P width now-text) (wrapRows l t) (b .so .work) (clusters-none P width now-text e);
         low = b .so .low;
         near = omega (arith, b .so .near, b .so .inside);
         more = omega (arith, b .more, b .so .inside);
@@ -150,8 +152,8 @@ module _ (P : Profile) (width : ℕ) (text l₀ : List ℕ) (t₀ : WrapState) (
           so = record {
             inside = m .inside;
             long = k ∙ b .so .long;
-            work = ap (λ (x : List Scalar). on (clustersOf P width x) (held l′ t′)) r
-                ∙ turn (clustersOf P width now-text) (held l t) (b .so .work) (unbrokenOf width (g .part .width .0)) (clustersOf P width (f .rest)) (held l′ t′) (clusters-more P width now-text (f .rest) (g .part .width .0) (f .clusters) (m .width)) (clusters-natural P width (f .rest)) (s .same);
+            work = ap (λ (x : List Scalar). on (clustersOf P width x) (wrapRows l′ t′)) r
+                ∙ turn (clustersOf P width now-text) (wrapRows l t) (b .so .work) (unbrokenOf width (g .part .width .0)) (clustersOf P width (f .rest)) (wrapRows l′ t′) (clusters-more P width now-text (f .rest) (g .part .width .0) (f .clusters) (m .width)) (clusters-natural P width (f .rest)) (s .same);
             low = s .low;
             near = omega (arith, s .near, b .so .near, m .small, m .end);
           };
@@ -202,7 +204,7 @@ module _ (P : Profile) (width : ℕ) (text : List ℕ) (at : BytePlace) (v : Tex
   unfolding oneWordOf oneWord longWordOf
   one-wraps l l₁ l₂ t₁ t₂ c q h a b =
       record {
-        same = then-same pushed (longWordOf P width theWord) (oneWordOf P width theWord) (held l t) (held l₁ t₁) (held l₂ t₂) (a .same) (b .same) (longWord-over P width theWord)
+        same = then-same pushed (longWordOf P width theWord) (oneWordOf P width theWord) (wrapRows l t) (wrapRows l₁ t₁) (wrapRows l₂ t₂) (a .same) (b .same) (longWord-over P width theWord)
             (rw (← word-end, sym q ∙ h));
         low = b .low;
         near = omega (arith, a .near, b .near);
@@ -231,7 +233,7 @@ module _ (f : profile.Profile) (width : ℕ) (text : List ℕ) (at : BytePlace) 
       let u : Wrap = wrap [] (t .start .0) (t .position .0) in
       let z : longWordOf P width broken u ≡ byClusters P width (byClusters P width u (clusters P (broken .word))) (clusters P (broken .sep)) = rw (← word-end P width text at v t w, sym q ∙ h) in
       record {
-        same = a .same ∙ on-at (clustersOf P width (textAt (take (v .end .0 - at .0) (drop (at .0) text)) 0)) (longWordOf P width broken) (held l t)
+        same = a .same ∙ on-at (clustersOf P width (textAt (take (v .end .0 - at .0) (drop (at .0) text)) 0)) (longWordOf P width broken) (wrapRows l t)
             (ap (λ (s : List Scalar). byClusters P width u (clusters P s)) (both-part P text (at .0) v (w .there))
             ∙ ap (byClusters P width u) (word-clusters P (spaces-begin f) (textAt text (at .0)))
             ∙ clusters-append P width (clusters P (broken .word)) (clusters P (broken .sep)) u
@@ -267,7 +269,7 @@ module _ (P : Profile) (width : ℕ) (text l₀ : List ℕ) (t₀ : WrapState) (
   word-done : textAt text (p .0) ≡ [] → Stepped l₀ t₀ (wordsOf P width (textAt text 0)) (2 * length text) (2 * length text) l t
   word-done e =
       record {
-        same = done (wordsOf P width (textAt text (p .0))) (held l t) (b .so .work) (words-none P width (textAt text (p .0)) e);
+        same = done (wordsOf P width (textAt text (p .0))) (wrapRows l t) (b .so .work) (words-none P width (textAt text (p .0)) e);
         low = b .so .low;
         near = omega (arith, b .so .near, b .so .inside);
         more = omega (arith, b .more, b .so .inside);
@@ -298,8 +300,8 @@ module _ (P : Profile) (width : ℕ) (text l₀ : List ℕ) (t₀ : WrapState) (
           so = record {
             inside = w .inside;
             long = k ∙ b .so .long;
-            work = ap (λ (x : List Scalar). on (wordsOf P width x) (held l′ t′)) (behind-all P text (p .0) v w)
-                ∙ turn (wordsOf P width (textAt text (p .0))) (held l t) (b .so .work) (oneWordOf P width (firstWord (textAt text (p .0)))) (wordsOf P width (restWords (textAt text (p .0)))) (held l′ t′) (words-more P width (textAt text (p .0)) (f .0) (f .1) (f .2)) (words-natural P width (restWords (textAt text (p .0)))) (s .same);
+            work = ap (λ (x : List Scalar). on (wordsOf P width x) (wrapRows l′ t′)) (behind-all P text (p .0) v w)
+                ∙ turn (wordsOf P width (textAt text (p .0))) (wrapRows l t) (b .so .work) (oneWordOf P width (firstWord (textAt text (p .0)))) (wordsOf P width (restWords (textAt text (p .0)))) (wrapRows l′ t′) (words-more P width (textAt text (p .0)) (f .0) (f .1) (f .2)) (words-natural P width (restWords (textAt text (p .0)))) (s .same);
             low = s .low;
             near = omega (arith, s .near, b .so .near, w .end);
           };

@@ -46,13 +46,13 @@ pub record RowList : Type 0 where
   pub numbers : List ℕ
   pub tally : RowCounts
 
-abbrev pub kept : List ℕ → RowCounts → RowList
-kept l t = record { numbers = l; tally = t }
+abbrev pub rowList : List ℕ → RowCounts → RowList
+rowList l t = record { numbers = l; tally = t }
 
 -- one more row
 unfoldable pub withRow : RowList → Row → RowList
 unfolding pairAt countedRow
-withRow k r = kept (pairAt (k .numbers) (k .tally .count) r) (countedRow (k .tally) r)
+withRow k r = rowList (pairAt (k .numbers) (k .tally .count) r) (countedRow (k .tally) r)
 
 -- more rows, the last one first
 unfoldable pub withRows : RowList → List Row → RowList
@@ -62,21 +62,21 @@ withRows k (r ∷ rs) = withRow (withRows k rs) r
 
 -- ---- a step of wrapping
 
--- what is kept, where the present row starts, and the position
-pub record Held : Type 0 where
-  pub kept : RowList
+-- the rows pushed, where the present row starts, and the position
+pub record WrapRows : Type 0 where
+  pub rows : RowList
   pub start : ℕ
   pub position : ℕ
 
-abbrev pub held : List ℕ → WrapState → Held
-held l t = record { kept = kept l (t .tally); start = t .start .0; position = t .position .0 }
+abbrev pub wrapRows : List ℕ → WrapState → WrapRows
+wrapRows l t = record { rows = rowList l (t .tally); start = t .start .0; position = t .position .0 }
 
--- wrapping goes on: the rows that it pushes are kept behind those kept before
-unfoldable pub on : (Wrap → Wrap) → Held → Held
+-- wrapping goes on: the rows that it pushes stand behind those pushed before
+unfoldable pub on : (Wrap → Wrap) → WrapRows → WrapRows
 unfolding withRows
 on f h =
     let t : Wrap = f (wrap [] (h .start) (h .position)) in
-    record { kept = withRows (h .kept) (t .rows); start = t .start; position = t .position }
+    record { rows = withRows (h .rows) (t .rows); start = t .start; position = t .position }
 
 -- the steps, with the state last
 unfoldable pub unbrokenOf : ℕ → ℕ → Wrap → Wrap
@@ -120,7 +120,7 @@ advanced t n = record { start = t .start; position = column (t .position .0 + n)
 
 -- a step of at most n columns and m rows
 pub record Stepped (l : List ℕ) (t : WrapState) (f : Wrap → Wrap) (n m : ℕ) (l′ : List ℕ) (t′ : WrapState) : Type 0 where
-  pub same : held l′ t′ ≡ on f (held l t)
+  pub same : wrapRows l′ t′ ≡ on f (wrapRows l t)
   pub low : t′ .start .0 ≤ t′ .position .0
   pub near : t′ .position .0 ≤ t .position .0 + n
   pub more : t′ .tally .count ≤ t .tally .count + m
@@ -129,7 +129,7 @@ pub record Stepped (l : List ℕ) (t : WrapState) (f : Wrap → Wrap) (n m : ℕ
 
 -- room for a span of a line of len bytes, which a buffer holds
 pub record SpanRoom (buffer : List ℕ) (len : ℕ) (t : WrapState) : Type 0 where
-  pub held : len ≤ length buffer
+  pub fits : len ≤ length buffer
   pub room : Room t (2 * len + 8)
 
 module _ (P : Profile) (width : ℕ) where
@@ -153,15 +153,15 @@ module _ (P : Profile) (width : ℕ) where
   spansOf mode line (r ∷ rs) t = spansOf mode line rs (spanOf mode line r t)
 
 -- the last row, unless it is empty and not the only one
-unfoldable pub lastRowList : ℕ → Held → RowList
+unfoldable pub lastRowList : ℕ → WrapRows → RowList
 unfolding withRow
 lastRowList mode h =
-    cond (eqb mode 0) (withRow (h .kept) (row 0 0xFFFF_FFFF_FFFF_FFFF))
-    (cond (ltb (h .start) (h .position)) (withRow (h .kept) (row (h .start) (h .position)))
-    (cond (eqb (h .kept .tally .count) 0) (withRow (h .kept) (row (h .start) (h .position))) (h .kept)))
+    cond (eqb mode 0) (withRow (h .rows) (row 0 0xFFFF_FFFF_FFFF_FFFF))
+    (cond (ltb (h .start) (h .position)) (withRow (h .rows) (row (h .start) (h .position)))
+    (cond (eqb (h .rows .tally .count) 0) (withRow (h .rows) (row (h .start) (h .position))) (h .rows)))
 
 pub record LastRow (l : List ℕ) (t : WrapState) (mode : ℕ) (l′ : List ℕ) (r : RowCounts) : Type 0 where
-  pub same : kept l′ r ≡ lastRowList mode (held l t)
+  pub same : rowList l′ r ≡ lastRowList mode (wrapRows l t)
   pub more : r .count ≤ t .tally .count + 1
 
 -- ---- all spans
@@ -180,11 +180,11 @@ pub record SpansRoom (spans : List Record) (buffer : List ℕ) (len : ℕ) (t : 
   pub there : n ≤ length spans
   pub few : n ≤ 32768
   pub short : len ≤ 32768
-  pub held : len ≤ length buffer
+  pub fits : len ≤ length buffer
   pub low : t .start .0 ≤ t .position .0
   pub near : t .position .0 ≤ 4294967296
   pub more : t .tally .count ≤ 4294967296
 
 pub record MadeWrap (P : Profile) (width mode : ℕ) (line : List ℕ) (rs : List Record) (l : List ℕ) (t : WrapState) (l′ : List ℕ) (r : RowCounts) : Type 0 where
-  pub same : kept l′ r ≡ lastRowList mode (on (spansOf P width mode line rs) (held l t))
+  pub same : rowList l′ r ≡ lastRowList mode (on (spansOf P width mode line rs) (wrapRows l t))
   pub more : r .count < 0xFFFF_FFFF_FFFF_FFFF

@@ -9,7 +9,7 @@ use text::width::width;
 ghost use mathlib.Core.Path.{_≡_};
 ghost use Prim.Native.Nat.{_<_};
 ghost use lib.ListN.{length};
-ghost use Rattle.text.specs.Code.{profileOf};
+ghost use Rattle.text.specs.Class.Code.{profileOf};
 ghost use Rattle.rows.specs.Words.Laws.{belongs};
 ghost use Rattle.rows.specs.Words.Contracts.{byteBelongs, WordAt};
 

@@ -11,12 +11,12 @@ ghost use mathlib.Core.Path.{_≡_};
 ghost use Prim.Native.Nat.{_+_, _-_, _*_, _<_};
 ghost use lib.Dec.{eqb, leb};
 ghost use lib.ListN.{length, take, drop};
-ghost use Rattle.text.specs.Code.{profileOf};
+ghost use Rattle.text.specs.Class.Code.{profileOf};
 ghost use Rattle.text.specs.TextParts.{textAt};
 ghost use Rattle.rows.specs.Words.Laws.{firstWord};
 ghost use mathlib.Core.Bool.{cond};
 ghost use Rattle.rows.specs.Rows.{row, tabbed, pushed};
-ghost use Rattle.rows.specs.Wrap.{kept, withRow, nextCount, countedRow, Room, Stepped, advanced, unbrokenOf, WordRoom, clustersOf, longWordOf, oneWordOf, wordsOf, textOf, spanOf, LastRow, beginning, SpanRoom, SpansRoom, MadeWrap};
+ghost use Rattle.rows.specs.Wrap.{rowList, withRow, nextCount, countedRow, Room, Stepped, advanced, unbrokenOf, WordRoom, clustersOf, longWordOf, oneWordOf, wordsOf, textOf, spanOf, LastRow, beginning, SpanRoom, SpansRoom, MadeWrap};
 
 // What is kept of the rows pushed: their number, the start of the row `first`, the end of the row `last`, the end of the row pushed last.
 pub struct RowCounts {
@@ -75,7 +75,7 @@ fn count_row(t: RowCounts, start: Column, end: Column) -> RowCounts
 
 // Pushes a row: its pair is written where it fits.
 fn push_row(rows: &mut [usize], tally: RowCounts, start: Column, end: Column) -> RowCounts
-    ensures { λ r. ⌜ kept (now (rows .exit)) r ≡ withRow (kept (now (rows .entry)) tally) (row (start .0) (end .0)) ⌝ }
+    ensures { λ r. ⌜ rowList (now (rows .exit)) r ≡ withRow (rowList (now (rows .entry)) tally) (row (start .0) (end .0)) ⌝ }
 {
     let n = tally.count;
     if n < rows.len() / 2 {

@@ -6,7 +6,7 @@ use lib.ListN.{length, take, drop}
 use lib.Dec.{leb}
 pub mod Laws
 
--- a little-endian littleEndian
+-- a little-endian number
 unfoldable pub littleEndian : List ℕ → ℕ
 littleEndian [] = 0
 littleEndian (b ∷ s) = b + 256 * littleEndian s

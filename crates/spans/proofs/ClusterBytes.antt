@@ -14,9 +14,9 @@ use Rattle.text.specs.Class.{Profile}
 use Rattle.text.specs.Width.{widthOf}
 use Rattle.text.specs.Cluster.{clusters}
 use Rattle.text.specs.Cluster.Walk.{cluster-bytes, cluster-length, cluster-run, cluster-some}
-use Rattle.text.specs.Code.{printable, profileOf}
-use Rattle.text.specs.Code.Laws.{run-nil}
-use Rattle.text.specs.Code.Profile01.{ascii-classes}
+use Rattle.text.specs.Class.Code.{printable, profileOf}
+use Rattle.text.specs.Utf8.Code.Laws.{run-nil}
+use Rattle.text.specs.Class.Profile01.{ascii-classes}
 use Rattle.text.specs.Cluster.Ascii.{control-width, newline-width}
 use Rattle.text.specs.Utf8.Ascii.{ascii-run}
 use Rattle.text.specs.Utf8.Runs.{run-fits}

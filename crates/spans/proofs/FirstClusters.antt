@@ -10,8 +10,8 @@ use Rattle.text.specs.Utf8.Runs.{run-fits}
 use Rattle.text.specs.Class.{Profile}
 use Rattle.text.specs.Cluster.Laws.{clusters-nil, clusters-none}
 use Rattle.text.specs.Cluster.Walk.{size-is, cluster-length, next-clusters}
-use Rattle.text.specs.Code.{size}
-use Rattle.text.specs.Code.Laws.{run-nil, size-nil}
+use Rattle.text.specs.Utf8.Code.{size}
+use Rattle.text.specs.Utf8.Code.Laws.{run-nil, size-nil}
 use Rattle.spans.specs.Spans.FirstSpan.{extent}
 use Rattle.spans.specs.Reader.{clustersAt}
 

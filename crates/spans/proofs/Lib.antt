@@ -10,6 +10,6 @@ pub mod TextEnd
 pub mod SkippedClusters
 pub mod SpanSteps
 pub mod Searching
-pub mod StretchCursor
+pub mod SegmentCursor
 pub mod ReadCall
 pub mod Listed

@@ -22,9 +22,11 @@ use Rattle.text.specs.Cluster.{classOf, clusters}
 use Rattle.text.specs.Cluster.Laws.{clusters-nil, clusters-one}
 use Rattle.text.specs.Cluster.Ascii.{c0-cluster, control-width, syllable-cluster, syllable-width}
 use Rattle.text.specs.Cluster.Walk.{first-size}
-use Rattle.text.specs.Code.{profileOf, printable, size, firstSize}
-use Rattle.text.specs.Code.Laws.{run-behind, run-fits, run-nil, run-valid, size-cons, size-nil}
-use Rattle.text.specs.Code.Profile01.{ascii-classes, syllable-columns}
+use Rattle.text.specs.Class.Code.{profileOf, printable}
+use Rattle.text.specs.Utf8.Code.{size}
+use Rattle.text.specs.Segmentation.{firstSize}
+use Rattle.text.specs.Utf8.Code.Laws.{run-behind, run-fits, run-nil, run-valid, size-cons, size-nil}
+use Rattle.text.specs.Class.Profile01.{ascii-classes, syllable-columns}
 use Rattle.text.specs.TextParts.{textAt}
 use Rattle.text.specs.TextParts.Laws.{ascii-at}
 use Rattle.text.specs.declared.class.Profile as code

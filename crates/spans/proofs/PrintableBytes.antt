@@ -11,7 +11,7 @@ use lib.Dec.{ltb}
 use borrow.Author.Tests.{le-ltb, lt-ltb, ltb-false, ltb-true}
 use Rattle.text.specs.Tests.{cases}
 use Rattle.text.specs.Class.Ascii.{printable-range}
-use Rattle.text.specs.Code.{profileOf, printable}
+use Rattle.text.specs.Class.Code.{profileOf, printable}
 use Rattle.text.specs.declared.class.Profile as code
 use Rattle.spans.specs.Reader.{PrintableTo, printableSize}
 use Rattle.spans.proofs.PlainClusters.{printable-to}

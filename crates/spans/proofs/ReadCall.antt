@@ -16,17 +16,18 @@ use Rattle.text.specs.Overstrike.{convert}
 use Rattle.text.specs.Overstrike.Length.{convert-size}
 use Rattle.text.specs.Calls.{Question, decide, lent, counted, question1, question2, Converted, convertCall}
 use Rattle.text.specs.Calls.Laws.{convert-accepted, convert-number, convert-refused, convertQuestions, counted-accepted, counted-refused, decide-nil, decide-no, decide-yes, decided-before, decided-behind, first-yes, lent-accepted, lent-refused}
-use Rattle.text.specs.Code.{profileOf, converted}
-use Rattle.text.specs.Code.Profile01.{profile-is}
+use Rattle.text.specs.Class.Code.{profileOf}
+use Rattle.text.specs.Calls.Code.{converted}
+use Rattle.text.specs.Class.Profile01.{profile-is}
 use Rattle.text.specs.declared.Answer.{Answer}
 use Rattle.text.specs.declared.class.Profile as code
 use Rattle.spans.specs.Search.{searchedLength, inOrder, read}
 use Rattle.spans.specs.Spans.{Span, Record, recordOf, records}
 use Rattle.spans.specs.Calls.{noRecord, question3, Read, readCall}
-use Rattle.spans.specs.Stretches.{remaining, Sound, NextRecordReady, firstRecord, RecordStep, BeginReady, Begun}
+use Rattle.spans.specs.Segments.{remaining, Sound, NextRecordReady, firstRecord, RecordStep, BeginReady, Begun}
 use Rattle.spans.specs.Calls.Contracts.{refusedBy, thirdQuestion, Planned, Holds, recordsOf, NextReadingReady, ReadingStep, ParseSpansReady, SpansParsed, numberOf, Finished, readAs, firstQuestions, Prepared}
-use Rattle.spans.specs.declared.stretches.Cursor.{Cursor}
-use Rattle.spans.specs.declared.stretches.NextRecord.{NextRecord}
+use Rattle.spans.specs.declared.segments.Cursor.{Cursor}
+use Rattle.spans.specs.declared.segments.NextRecord.{NextRecord}
 use Rattle.spans.specs.declared.Reading.{Reading}
 use Rattle.spans.specs.declared.NextReading.{NextReading}
 

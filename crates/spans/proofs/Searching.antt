@@ -13,7 +13,7 @@ use lib.Dec.{eqb, leb, ltb, eqb→eq, ltb→lt, nltb→le}
 use borrow.Author.Tests.{eq-eqb, ne-eqb, lt-ltb, le-ltb}
 use Rattle.text.specs.Tests.{cases, and-T, true-T}
 use Rattle.spans.specs.Sequence.{leading, past}
-use Rattle.spans.specs.Search.{Stretch, stretch, sequenceByte, escapeMatch, addStretch, escapesFrom, trimmed, escapes, lengthOf, searchedLength, inOrder, offsetFrom}
+use Rattle.spans.specs.Search.{EscapeRange, escapeRange, sequenceByte, escapeMatch, addEscape, escapesFrom, trimmed, escapes, lengthOf, searchedLength, inOrder, offsetFrom}
 use Rattle.spans.specs.Sequence.Contracts.{Skipped}
 use Rattle.spans.specs.Search.Contracts.{EscapeMatchReady, EscapeMatched, escapesAt, escapesOf, EscapeInside, NextEscape, EscapesLength, pairInOrder, offsetOn, OffsetsFrom, OffsetReady, OffsetAt}
 use Rattle.spans.specs.declared.search.Escape.{Escape}
@@ -72,16 +72,16 @@ skip-over (b ∷ s) = λ p k. go (λ p k. skip-over s p k) p k
     go ih p zero = ap (λ (q : ℕ). escapesFrom q 0 (b ∷ s)) (sym (add-zero p))
     go ih p (suc k) = let q : suc p + k ≡ p + suc k = omega arith in ih (suc p) k ∙ ap (λ (q : ℕ). escapesFrom q 0 (drop k s)) q
 
-escapes-at : (s : List ℕ) (i n : ℕ) → i < length s → n ≡ escapeMatch (drop i s) → escapesAt s i ≡ addStretch i n (λ k. escapesFrom (suc i) k (drop (suc i) s))
+escapes-at : (s : List ℕ) (i n : ℕ) → i < length s → n ≡ escapeMatch (drop i s) → escapesAt s i ≡ addEscape i n (λ k. escapesFrom (suc i) k (drop (suc i) s))
 unfolding escapesFrom
 escapes-at s i n h e = let d : drop i s ≡ getD s i 0 ∷ drop (suc i) s = drop-cons s i 0 h in rw (e, d)
 
-stretch-at : (s : List ℕ) (i n : ℕ) → n ≢ 0 → addStretch i n (λ k. escapesFrom (suc i) k (drop (suc i) s)) ≡ stretch i (i + n) ∷ escapesAt s (i + n)
-unfolding addStretch
-stretch-at s i zero h = absurd (h refl)
-stretch-at s i (suc k) h =
+segment-at : (s : List ℕ) (i n : ℕ) → n ≢ 0 → addEscape i n (λ k. escapesFrom (suc i) k (drop (suc i) s)) ≡ escapeRange i (i + n) ∷ escapesAt s (i + n)
+unfolding addEscape
+segment-at s i zero h = absurd (h refl)
+segment-at s i (suc k) h =
     let q : suc i + k ≡ i + suc k = omega arith in
-    ap (λ (l : List Stretch). stretch i (i + suc k) ∷ l) (skip-over (drop (suc i) s) (suc i) k ∙ ap₂ (λ (p : ℕ) (l : List ℕ). escapesFrom p 0 l) q (drop-drop k (suc i) s ∙ ap (λ (p : ℕ). drop p s) q))
+    ap (λ (l : List EscapeRange). escapeRange i (i + suc k) ∷ l) (skip-over (drop (suc i) s) (suc i) k ∙ ap₂ (λ (p : ℕ) (l : List ℕ). escapesFrom p 0 l) q (drop-drop k (suc i) s ∙ ap (λ (p : ℕ). drop p s) q))
 
 escapes-none : (s : List ℕ) (i : ℕ) → length s ≤ i → escapesAt s i ≡ []
 unfolding escapesFrom
@@ -96,7 +96,7 @@ escape-begins s at = record { same = refl; low = omega arith }
 
 module _ (s : List ℕ) (at i : ℕ) (z : EscapeLoop s at i) where
   pub escape-more : (n : ℕ) → i < length s → EscapeMatched s i n → n ≡ 0 → EscapeLoop s at (i + 1)
-  unfolding addStretch
+  unfolding addEscape
   escape-more n h m e =
       record { same = ap (escapesAt s) (add-one i) ∙ sym (escapes-at s i n h (m .same) ∙ rw e) ∙ z .same; low = omega (arith, z .low) }
 
@@ -104,7 +104,7 @@ module _ (s : List ℕ) (at i : ℕ) (z : EscapeLoop s at i) where
   unfolding escapesOf
   escape-found n h m e =
       record {
-        same = sym (escapes-at s i n h (m .same) ∙ stretch-at s i n e) ∙ z .same;
+        same = sym (escapes-at s i n h (m .same) ∙ segment-at s i n e) ∙ z .same;
         lies = λ t. record { low = z .low; some = omega arith; inside = m .fits };
       }
 
@@ -350,7 +350,7 @@ module _ (s : List ℕ) (x : ℕ) (o : Offsets) (next : Escape) (z : OffsetLoop 
       where
         later : (y : ℕ) → escapesOf s e ≡ escapesAt s (next .upto)
             → offsetFrom (next .upto) (y - o .passed - (next .from - o .origin)) (escapesAt s (next .upto)) ≡ offsetOn s (record { origin = next .upto; passed = o .passed + (next .from - o .origin); next = e }) y
-        later y q = let d : y - o .passed - (next .from - o .origin) ≡ y - (o .passed + (next .from - o .origin)) = omega arith in ap₂ (λ (r : ℕ) (l : List Stretch). offsetFrom (next .upto) r l) d (sym q)
+        later y q = let d : y - o .passed - (next .from - o .origin) ≡ y - (o .passed + (next .from - o .origin)) = omega arith in ap₂ (λ (r : ℕ) (l : List EscapeRange). offsetFrom (next .upto) r l) d (sym q)
 
     pub offset-falls : length s - next .upto < length s - o .origin
     offset-falls = omega (arith, lies-next .low, lies-next .some, lies-next .inside)

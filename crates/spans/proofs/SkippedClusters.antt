@@ -15,8 +15,11 @@ use Rattle.text.specs.Class.{Profile}
 use Rattle.text.specs.Cluster.{clusters, joinAll}
 use Rattle.text.specs.Cluster.Laws.{join-length, join-nil}
 use Rattle.text.specs.Cluster.Walk.{size-is, first-size, cluster-some}
-use Rattle.text.specs.Code.{profileOf, size, firstSize}
-use Rattle.text.specs.Code.Boundaries.{Boundary, lone-boundary}
+use Rattle.text.specs.Class.Code.{profileOf}
+use Rattle.text.specs.Utf8.Code.{size}
+use Rattle.text.specs.Segmentation.{firstSize}
+use Rattle.text.specs.Segmentation.Boundaries.{Boundary, lone-boundary}
+use Rattle.text.specs.Class.Profile01.{ascii-classes}
 use Rattle.text.specs.declared.class.Profile as code
 use Rattle.spans.specs.Spans.FirstSpan.{extent, skipped}
 use Rattle.spans.specs.Reader.{clustersAt, runAt, InRun, SkipToReady, SkippedTo}
@@ -86,7 +89,7 @@ module _ (p : code.Profile) (t : List ℕ) (at stop : ℕ) (z : SkipToReady t at
   skip-jump h =
       let n : ℕ = stop - 1 - at in
       let k : at + n ≡ stop - 1 = omega arith in
-      let b : Boundary p (drop at t) n = lone-boundary p (drop at t) n (omega (arith, z .ahead, size-is (runOf (decode (drop at t))))) (rw (getD-drop at t n 0, k) (z .begins h)) in
+      let b : Boundary (profileOf p) (drop at t) n = lone-boundary (profileOf p) (ascii-classes p) (drop at t) n (omega (arith, z .ahead, size-is (runOf (decode (drop at t))))) (rw (getD-drop at t n 0, k) (z .begins h)) in
       let d : drop n (drop at t) ≡ drop (stop - 1) t = drop-drop n at t ∙ ap (λ (i : ℕ). drop i t) k in
       let c : clustersAt (profileOf p) (drop at t) ≡ b .before ++ clustersAt (profileOf p) (drop (stop - 1) t) = rw d at (b .clusters) in
       let r : size (runOf (decode (drop at t))) ≡ n + size (runOf (decode (drop (stop - 1) t))) = size-is (runOf (decode (drop at t))) ∙ rw (d, ← size-is (runOf (decode (drop (stop - 1) t)))) at (b .run) in

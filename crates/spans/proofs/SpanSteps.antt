@@ -1,4 +1,4 @@
--- The next span of a stretch, kind by kind.
+-- The next span of a segment, kind by kind.
 use mathlib.Core.Path.{_≡_, refl, sym, ap, ap₂, _∙_}
 use Prim.Native.Nat.{ℕ, suc, _+_, _-_, _≤_, _<_}
 use native.Mathlib.Nat.{add-zero}
@@ -16,12 +16,11 @@ use Rattle.text.specs.Utf8.{Scalar, decode, runOf, bytesOf}
 use Rattle.text.specs.Class.{Profile}
 use Rattle.text.specs.Cluster.{joinAll}
 use Rattle.text.specs.Cluster.Walk.{first-is, size-is, first-size, first-none, cluster-some, cluster-behind}
-use Rattle.text.specs.Code.{profileOf, firstSize}
-use Rattle.text.specs.Segmentation.{neverJoinsBefore}
-use Rattle.text.specs.Code.Laws.{size-nil}
+use Rattle.text.specs.Class.Code.{profileOf}
+use Rattle.text.specs.Segmentation.{firstSize, neverJoinsBefore, NextCluster}
+use Rattle.text.specs.Utf8.Code.Laws.{size-nil}
 use Rattle.text.specs.Scalar.{packedAt}
 use Rattle.text.specs.Scalar.Laws.{packed-none}
-use Rattle.text.specs.Segmentation.{NextCluster}
 use Rattle.text.specs.declared.segmentation.ClusterStep.{ClusterStep}
 use Rattle.text.specs.TextParts.{textAt}
 use Rattle.text.specs.declared.class.Profile as code

@@ -16,8 +16,9 @@ use Rattle.text.specs.Utf8.Laws.{bytes-one}
 use Rattle.text.specs.Utf8.Runs.{front-bytes}
 use Rattle.text.specs.Class.Ascii.{syllableOrOther}
 use Rattle.text.specs.Cluster.{classOf}
-use Rattle.text.specs.Code.{profileOf, size}
-use Rattle.text.specs.Code.Laws.{none-past, size-cons, size-nil}
+use Rattle.text.specs.Class.Code.{profileOf}
+use Rattle.text.specs.Utf8.Code.{size}
+use Rattle.text.specs.Utf8.Code.Laws.{none-past, size-cons, size-nil}
 use Rattle.text.specs.Scalar.{packedAt}
 use Rattle.text.specs.Scalar.Laws.{NoScalar, PackedScalar, packed-scalar, packed-view}
 use Rattle.text.specs.TextParts.{textAt}

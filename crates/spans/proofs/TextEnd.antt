@@ -19,12 +19,14 @@ use Rattle.text.specs.Cluster.{clusters}
 use Rattle.text.specs.Cluster.Laws.{clusters-nil}
 use Rattle.text.specs.Cluster.Ascii.{printable-width}
 use Rattle.text.specs.Cluster.Walk.{size-is, cluster-some}
-use Rattle.text.specs.Code.{profileOf, size, firstOf, printable}
-use Rattle.text.specs.Code.Laws.{FirstCluster, size-cons, size-nil}
-use Rattle.text.specs.Code.Profile01.{ascii-classes}
+use Rattle.text.specs.Class.Code.{profileOf, printable}
+use Rattle.text.specs.Utf8.Code.{size}
+use Rattle.text.specs.Segmentation.{firstOf, NextCluster, NextClusterReady}
+use Rattle.text.specs.Segmentation.Laws.{FirstCluster}
+use Rattle.text.specs.Utf8.Code.Laws.{size-cons, size-nil}
+use Rattle.text.specs.Class.Profile01.{ascii-classes}
 use Rattle.text.specs.Scalar.{packedAt}
 use Rattle.text.specs.Scalar.Laws.{first-some, packed-inside, packed-none}
-use Rattle.text.specs.Segmentation.{NextCluster, NextClusterReady}
 use Rattle.text.specs.TextParts.{textAt}
 use Rattle.text.specs.TextParts.Laws.{ascii-at, first-there}
 use Rattle.text.specs.declared.segmentation.ClusterStep.{ClusterStep}

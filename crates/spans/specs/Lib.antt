@@ -4,5 +4,5 @@ pub mod Spans
 pub mod Search
 pub mod Calls
 pub mod Reader
-pub mod Stretches
+pub mod Segments
 pub mod Numbers

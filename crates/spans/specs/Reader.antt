@@ -11,8 +11,9 @@ use Rattle.text.specs.Utf8.{Scalar, decode, runOf, bytesOf}
 use Rattle.text.specs.Class.{Profile, number}
 use Rattle.text.specs.Class.Ascii.{syllableOrOther}
 use Rattle.text.specs.Cluster.{clusters}
-use Rattle.text.specs.Code.{size, firstSize, printable}
-use Rattle.text.specs.Segmentation.{neverJoinsBefore}
+use Rattle.text.specs.Utf8.Code.{size}
+use Rattle.text.specs.Segmentation.{firstSize, neverJoinsBefore}
+use Rattle.text.specs.Class.Code.{printable}
 use Rattle.spans.specs.Sequence.{Found}
 use Rattle.spans.specs.Spans.{spansAt, Record, aRecord, records}
 use Rattle.spans.specs.Spans.FirstSpan.{plainCluster, plainSize, skipped}
@@ -143,7 +144,7 @@ pub record NextSpanReady (t : List ℕ) (c : Place) : Type 0 where
 abbrev pub isMatch : Matched → Bool
 isMatch m = eqb (m .kind) 2
 
--- the match that a stretch is, if it is one
+-- the match that a segment is, if it is one
 unfoldable pub matchIn : Matched → Option ℕ
 matchIn m = cond (isMatch m) (some (m .number)) none
 
@@ -151,7 +152,7 @@ matchIn m = cond (isMatch m) (some (m .number)) none
 unfoldable pub textRecord : Matched → ℕ → ℕ → Record
 textRecord m at n = cond (isMatch m) (aRecord 2 at n (m .number)) (aRecord 1 at n 0)
 
--- the records of the spans from a place to the stretch's end
+-- the records of the spans from a place to the segment's end
 unfoldable pub recordsFrom : Profile → Matched → List ℕ → ℕ → List Record
 unfolding records spansAt matchIn
 recordsFrom P m t at = records (spansAt P (matchIn m) at (drop at t))

@@ -24,23 +24,23 @@ escapeMatch s =
     let n : ℕ = leading sequenceByte (drop 2 s) in
     cond (eqb (getD s 0 0) 0x1B && (eqb (getD s 1 0) 0x5B && (leb n 32 && eqb (getD s (2 + n) 0) 0x6D))) (3 + n) 0
 
-pub record Stretch : Type 0 where
+pub record EscapeRange : Type 0 where
   pub from : ℕ
   pub upto : ℕ
 
-abbrev pub stretch : ℕ → ℕ → Stretch
-stretch a b = record { from = a; upto = b }
+abbrev pub escapeRange : ℕ → ℕ → EscapeRange
+escapeRange a b = record { from = a; upto = b }
 
 -- a match of n bytes at place p, where n is not 0; then what follows, n - 1 bytes of it being this match's
-unfoldable pub addStretch : ℕ → ℕ → (ℕ → List Stretch) → List Stretch
-addStretch p zero go = go zero
-addStretch p (suc n) go = stretch p (p + suc n) ∷ go n
+unfoldable pub addEscape : ℕ → ℕ → (ℕ → List EscapeRange) → List EscapeRange
+addEscape p zero go = go zero
+addEscape p (suc n) go = escapeRange p (p + suc n) ∷ go n
 
 -- the matches in bytes that stand at place p, after k bytes that are passed over
-unfoldable pub escapesFrom : ℕ → ℕ → List ℕ → List Stretch
-unfolding addStretch escapeMatch
+unfoldable pub escapesFrom : ℕ → ℕ → List ℕ → List EscapeRange
+unfolding addEscape escapeMatch
 escapesFrom p k [] = []
-escapesFrom p zero (b ∷ s) = addStretch p (escapeMatch (b ∷ s)) (λ k. escapesFrom (suc p) k s)
+escapesFrom p zero (b ∷ s) = addEscape p (escapeMatch (b ∷ s)) (λ k. escapesFrom (suc p) k s)
 escapesFrom p (suc k) (b ∷ s) = escapesFrom (suc p) k s
 
 -- ---- the text searched
@@ -52,11 +52,11 @@ trimmed (a ∷ []) = cond (eqb a 0x0A) 0 1
 trimmed (a ∷ b ∷ []) = cond (eqb b 0x0A) (cond (eqb a 0x0D) 0 1) 2
 trimmed (a ∷ b ∷ c ∷ s) = suc (trimmed (b ∷ c ∷ s))
 
-unfoldable pub escapes : List ℕ → List Stretch
+unfoldable pub escapes : List ℕ → List EscapeRange
 unfolding escapesFrom trimmed
 escapes s = escapesFrom 0 0 (take (trimmed s) s)
 
-unfoldable pub lengthOf : List Stretch → ℕ
+unfoldable pub lengthOf : List EscapeRange → ℕ
 lengthOf [] = 0
 lengthOf (e ∷ es) = e .upto - e .from + lengthOf es
 
@@ -74,7 +74,7 @@ inOrder most e (a ∷ b ∷ ms) = leb e a && (leb a b && (leb b most && inOrder 
 -- ---- Line::new_search
 
 -- convert_offset: `origin` is original_offset, `rest` remaining_offset
-unfoldable pub offsetFrom : ℕ → ℕ → List Stretch → ℕ
+unfoldable pub offsetFrom : ℕ → ℕ → List EscapeRange → ℕ
 offsetFrom origin rest [] = origin + rest
 offsetFrom origin rest (e ∷ es) =
     let further : ℕ = offsetFrom (e .upto) (rest - (e .from - origin)) es in
@@ -86,8 +86,8 @@ module _ (P : Profile) where
   unfolding spansAt
   readPart m a b s = spansAt P m a (take (b - a) (drop a s))
 
-  -- the matches from number k on, and the stretches between and behind them, from place `start`
-  unfoldable pub readMatches : List Stretch → ℕ → ℕ → List ℕ → List ℕ → List Span
+  -- the matches from number k on, and the segments between and behind them, from place `start`
+  unfoldable pub readMatches : List EscapeRange → ℕ → ℕ → List ℕ → List ℕ → List Span
   unfolding readPart offsetFrom
   readMatches es start k [] s = readPart none start (length s) s
   readMatches es start k (a ∷ []) s = []

@@ -5,10 +5,10 @@ use search::Escape;
 use search::Offsets;
 use search::in_order;
 use search::searched_len;
-use stretches::Cursor;
-use stretches::begin;
-use stretches::has_next;
-use stretches::next_record;
+use segments::Cursor;
+use segments::begin;
+use segments::has_next;
+use segments::next_record;
 use text::Answer;
 use text::BytePlace;
 use text::class::Profile;
@@ -25,9 +25,9 @@ ghost use Rattle.spans.specs.Calls.Contracts.{refusedBy, Planned, Prepar
 pub mod numbers;
 pub mod reader;
 pub mod search;
+pub mod segments;
 pub mod sequence;
 pub mod sgr;
-pub mod stretches;
 
 // A record of the span list: the span's kind, 1 to 13 in the order of the source's Span; the byte place and the length, in the converted
 // line, of the bytes it was read from; and the match number, 0 where the kind isn't Match.

@@ -1,4 +1,4 @@
-// parse_spans: the spans of a stretch of a line, one after the other. A stretch ends where the slice ends.
+// parse_spans: the spans of a segment of a line, one after the other. A segment ends where the slice ends.
 use super::Span;
 use super::sequence::Sequence;
 use super::sequence::sequence_at;
@@ -17,7 +17,7 @@ ghost use mathlib.Core.Path.{_≡_};
 ghost use Prim.Native.Nat.{_+_, _-_, _≤_, _<_};
 ghost use lib.ListN.{length, getD, drop};
 ghost use Rattle.text.specs.Class.Ascii.{syllableOrOther};
-ghost use Rattle.text.specs.Code.{profileOf};
+ghost use Rattle.text.specs.Class.Code.{profileOf};
 ghost use Rattle.spans.specs.Sequence.{missing};
 ghost use Rattle.spans.specs.Spans.{aRecord};
 ghost use Rattle.spans.specs.Spans.FirstSpan.{plainSize};
@@ -35,7 +35,7 @@ pub struct Place {
     pub run: usize,
 }
 
-// The kind of a stretch's texts, 1 Text or 2 Match, and the number of the match that it is or that follows it. (A flag of one byte
+// The kind of a segment's texts, 1 Text or 2 Match, and the number of the match that it is or that follows it. (A flag of one byte
 // would leave bytes unused, and the copies of these make every step slower.)
 pub struct Matched {
     pub kind: usize,
@@ -302,7 +302,7 @@ fn invalid_span(c: Place) -> NextSpan
     }
 }
 
-// The next span of a stretch that is match m or none.
+// The next span of a segment that is match m or none.
 pub(crate) fn next_span(profile: Profile, t: &[u8], c: Place, m: Matched) -> NextSpan
     requires { ⌜ NextSpanReady (now t) c ⌝ }
     ensures { λ r. ⌜ SpanStep (profileOf profile) (now (t .entry)) m (c .at) r ⌝ }

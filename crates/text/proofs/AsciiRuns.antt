@@ -12,7 +12,7 @@ use borrow.Author.Tests.{lt-leb, le-leb, ltb-true, ltb-false, lt-ltb, le-ltb}
 use Rattle.text.specs.Tests.{cases, and-T, is-true, true-T}
 use Rattle.text.specs.Utf8.{decode}
 use Rattle.text.specs.Utf8.Ascii.{low-sequence}
-use Rattle.text.specs.Code.{asciiLength, asciiFour, firstSequence, runOf, size}
+use Rattle.text.specs.Utf8.Code.{asciiLength, asciiFour, firstSequence, runOf, size}
 use Rattle.text.specs.declared.utf8.Sequence.{Sequence}
 use Rattle.text.proofs.SequenceBytes.{run-more, run-room, size-end, size-on, size-stop}
 

@@ -12,7 +12,8 @@ use Rattle.text.specs.Backward.{ScalarStart, back, backward, joinsAt, od
 use Rattle.text.specs.Class.{Profile, among, number}
 use Rattle.text.specs.Cluster.{Context, after, context, joined, joins, joinsNext}
 use Rattle.text.specs.Cluster.Walk.{size-is}
-use Rattle.text.specs.Code.{firstSequence, isTail, profileOf, sequenceOf, size, whole}
+use Rattle.text.specs.Utf8.Code.{firstSequence, isTail, sequenceOf, size, whole}
+use Rattle.text.specs.Class.Code.{profileOf}
 use Rattle.text.specs.Rules.{contextOf, stateContext}
 use Rattle.text.specs.Scalar.{packedAt}
 use Rattle.text.specs.Scalar.Laws.{NoScalar, PackedScalar, packed-past, packed-view}
@@ -21,13 +22,14 @@ use Rattle.text.specs.Tests.{and-T, cases, true-T}
 use Rattle.text.specs.TextParts.{textAt}
 use Rattle.text.specs.Utf8.{Scalar, decode, decodeFrom, runOf}
 use Rattle.text.specs.declared.utf8.Sequence.{Sequence}
-use Rattle.text.specs.Code.Boundaries.{alone, alone-numbers, lone, lone-low}
+use Rattle.text.specs.Segmentation.Boundaries.{alone, alone-numbers, lone, lone-low}
+use Rattle.text.specs.Class.Profile01.{ascii-classes}
 use Rattle.text.proofs.ForwardWalk.{class-le}
 use Rattle.text.proofs.Runs.{back-scalar, no-head, run-drop, run-head, run-inside, size-pos, size-reverse}
 use Rattle.text.proofs.ContinuationBytes.{back-here}
 use Rattle.text.proofs.Texts.{run-prefix}
 use Rattle.text.specs.declared.class.Profile as code
-use Rattle.text.specs.Code.FirstSequence.{ascii-sequence, low-tail}
+use Rattle.text.specs.Utf8.Code.FirstSequence.{ascii-sequence, low-tail}
 
 unfoldable pub flip : Bool → Bool → Bool
 flip true b = not b
@@ -232,5 +234,5 @@ last-lone v t b r w h e f z =
     let low : isTail b ≡ false = low-tail b (lone-low b l) in
     let one : sequenceOf b 1 ≡ firstSequence (decode (drop (length t - 1) t)) = ascii-sequence t (length t - 1) b (omega arith) e (lone-low b l) in
     let a = last-begin P t (length t - 1) w h (back-here t (length t) (length t - 1) b (omega arith) refl e low) in
-    let j : false ≡ joinsAt P t (length t - 1) = joins-alone P t (length t - 1) (a .start) (ap (λ (u : Sequence). alone (number (P .class (u .code)))) (sym one) ∙ lone v b l) in
+    let j : false ≡ joinsAt P t (length t - 1) = joins-alone P t (length t - 1) (a .start) (ap (λ (u : Sequence). alone (number (P .class (u .code)))) (sym one) ∙ lone P (ascii-classes v) b l) in
     last-stop P t (length t - 1) _ false j refl a

@@ -10,7 +10,7 @@ use lib.Dec.{leb, leb→le}
 use lib.ListN.{getD, length}
 use borrow.Author.Tests.{le-leb}
 use Rattle.text.specs.Backward.{back}
-use Rattle.text.specs.Code.{isTail}
+use Rattle.text.specs.Utf8.Code.{isTail}
 use Rattle.text.specs.Tests.{and-T, cases, true-T}
 use Rattle.text.specs.Utf8.{sequence}
 use Rattle.text.specs.Utf8.Laws.{continuation-bad, sequence-le}

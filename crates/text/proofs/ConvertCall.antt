@@ -12,7 +12,7 @@ use lib.Seq.{drop-cons, length-take-le, take-all, take-suc, take-suc-set}
 use borrow.Author.Tests.{le-leb, lt-leb}
 use Rattle.text.specs.Calls.{Converted, convertCall, counted, decide, lent}
 use Rattle.text.specs.Class.{Profile, number}
-use Rattle.text.specs.Code.{converted, refusal}
+use Rattle.text.specs.Calls.Code.{converted, refusal}
 use Rattle.text.specs.Overstrike.Code.{LineCopied, Wrote}
 use Rattle.text.specs.Overstrike.{convert, convertPieces, hasBackspace}
 use Rattle.text.specs.Utf8.{decode, runs}

@@ -14,9 +14,11 @@ use Rattle.text.specs.Cluster.{clusters, clustersAfter}
 use Rattle.text.specs.Cluster.Laws.{clusters-first, further}
 use Rattle.text.specs.Cluster.Walk.{size-is}
 use Rattle.text.specs.Backward.{backward}
-use Rattle.text.specs.Code.{firstOf, firstSequence, firstSize, profileOf, size, whole}
+use Rattle.text.specs.Segmentation.{firstOf, firstSize}
+use Rattle.text.specs.Utf8.Code.{firstSequence, size, whole}
+use Rattle.text.specs.Class.Code.{profileOf}
 use Rattle.text.specs.Overstrike.Code.{FinishReady, Finished, Part, PieceDone, PieceReady, Sound, SpanDone, StepReady, Stepped, Wrote, conversion, finishOn, partOf, pendingOf, plain, stateOf, styleOf}
-use Rattle.text.specs.Code.Laws as laws
+use Rattle.text.specs.Utf8.Code.Laws as laws
 use Rattle.text.specs.TextParts.Laws.{first-none}
 use Rattle.text.specs.Overstrike.{State, convertPieces, convertRun, none, normal, state, step, steps}
 use Rattle.text.specs.Overstrike.Length.{finish-size, start-weight, step-weight, weight}
@@ -32,7 +34,7 @@ use Rattle.text.proofs.Runs.{Head, no-head, part-slice, run-drop, run-h
 use Rattle.text.proofs.OverstrikeSteps.{front-size, front-text, part-none}
 use Rattle.text.proofs.Texts.{run-prefix}
 use Rattle.text.proofs.SequenceBytes.{run-good, run-more, run-size, scalarAt}
-use Rattle.text.specs.Code.Laws.{none-at, none-past, size-cons, size-nil}
+use Rattle.text.specs.Utf8.Code.Laws.{none-at, none-past, size-cons, size-nil}
 
 -- ---- the run of a text and what stands behind it
 

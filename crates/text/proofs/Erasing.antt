@@ -13,7 +13,8 @@ use borrow.Author.Tests.{eq-eqb, eqb-true, le-ltb, lt-ltb, ltb-false, ne-eqb}
 use Rattle.text.specs.Backward.{Erased, ParityPlace, ErasedTo, back, backward, betweenIndicators, endsInPair, parityAfter, parityBefore, indicatorAt, withoutLast}
 use Rattle.text.specs.Class.{Profile, isControl, number}
 use Rattle.text.specs.Cluster.{Context, context, joins}
-use Rattle.text.specs.Code.{firstSequence, profileOf, sequenceOf, size, whole}
+use Rattle.text.specs.Utf8.Code.{firstSequence, sequenceOf, size, whole}
+use Rattle.text.specs.Class.Code.{profileOf}
 use Rattle.text.specs.Overstrike.{backspace, eraseFrom}
 use Rattle.text.specs.Overstrike.Code.{BackReady, Front, FrontParity}
 use Rattle.text.specs.Segmentation.{neverJoinsBefore}
@@ -26,9 +27,9 @@ use Rattle.text.proofs.RegionalIndicators.{parity-front, parity-more, p
 use Rattle.text.proofs.Runs.{back-scalar, run-drop, run-head, run-inside, size-reverse}
 use Rattle.text.proofs.Texts.{run-append, run-prefix, whole-append, whole-prefix}
 use Rattle.text.specs.declared.class.Profile as code
-use Rattle.text.specs.Code.FirstSequence.{ascii-sequence}
-use Rattle.text.specs.Code.Boundaries.{lone-low}
-use Rattle.text.specs.Code.Laws.{none-past}
+use Rattle.text.specs.Utf8.Code.FirstSequence.{ascii-sequence}
+use Rattle.text.specs.Segmentation.Boundaries.{lone-low}
+use Rattle.text.specs.Utf8.Code.Laws.{none-past}
 
 -- the last cluster's first scalar, and what erasing says of it
 record First (P : Profile) (cs rev out : List Scalar) : Type 0 where

@@ -6,33 +6,36 @@ use mathlib.Core.Bool.{Bool, _&&_, _||_, and-false, cond, false, not, true}
 use mathlib.Core.List.{List, [], _∷_}
 use mathlib.Core.Logic.{_≢_, _⊎_, ⊎-elim}
 use mathlib.Core.Path.{_∙_, _≡_, ap, refl, sym}
-use lib.Dec.{T, eqb, eqb→eq, leb, leb→le, ltb, ltb→lt}
+use lib.Dec.{T, eqb, eqb→eq, ltb, ltb→lt}
 use lib.ListN.{List·getD-eq-default, drop, getD, length, length-drop, take}
 use borrow.Author.Tests.{eq-eqb, eqb-false, eqb-true, le-ltb, ltb-false, ltb-true, ne-eqb, not-true}
-use Rattle.text.specs.Class.{Profile, among, number, other}
+use Rattle.text.specs.Class.{Profile, among, number}
 use Rattle.text.specs.Cluster.{Context, after, classOf, clusters, clustersAfter, context, joined, joins, start}
 use Rattle.text.specs.Cluster.Laws.{clusters-first, further}
-use Rattle.text.specs.Code.{firstOf, firstSequence, firstSize, printable, profileOf, size, sequenceOf}
-use Rattle.text.specs.Rules.{contextOf}
-use Rattle.text.specs.Code.Laws.{none-past, plain-cluster, plain-width, run-fits, run-valid, width-size, width-two}
+use Rattle.text.specs.Segmentation.{firstOf, firstSize, NextCluster, NextClusterReady, moreOf, neverJoinsBefore, oneByteCluster}
+use Rattle.text.specs.Utf8.Code.{firstSequence, size, sequenceOf}
+use Rattle.text.specs.Class.Code.{printable, profileOf}
+use Rattle.text.specs.Rules.{contextOf, stateAfter, stateContext}
+use Rattle.text.specs.Utf8.Code.Laws.{none-past, run-fits, run-valid}
+use Rattle.text.specs.Cluster.Printable.{printable-first, printable-one as one-column}
+use Rattle.text.specs.Class.Profile01.{ascii-classes}
+use Rattle.text.specs.Width.Laws.{width-size, width-two}
 use Rattle.text.specs.Each.{All, all-split}
-use Rattle.text.specs.Rules.{stateAfter, stateContext}
 use Rattle.text.specs.Scalar.{packedAt}
-use Rattle.text.specs.Segmentation.{NextCluster, NextClusterReady, moreOf, neverJoinsBefore, oneByteCluster}
 use Rattle.text.specs.Scalar.Laws.{NoScalar, PackedScalar, number-le, packed-past, packed-view}
 use Rattle.text.specs.Tests.{and-T, cases, is-true, true-T, in-range, every, every-one}
 use Rattle.text.specs.TextParts.{Measured, column, place, textAt}
 use Rattle.text.specs.TextParts.Laws.{first-all}
 use Rattle.text.specs.Utf8.{Scalar, ascii, decode}
 use Rattle.text.specs.Utf8.Valid.{Valid}
-use Rattle.text.specs.Width.{profile01, widthOf}
-use Rattle.text.specs.Code.Boundaries.{alone-numbers, apart, breaks, lone, lone-low, other-alone}
+use Rattle.text.specs.Width.{widthOf}
+use Rattle.text.specs.Segmentation.Boundaries.{alone-numbers, apart, breaks, lone, lone-low, other-alone}
 use Rattle.lending.specs.Conditions.{met, on-false, on-true}
 use Rattle.text.proofs.PackedScalars.{first-packed, printable-one}
 use Rattle.text.proofs.SequenceBytes.{run-good, run-size, scalarAt}
 use Rattle.text.specs.declared.segmentation.ClusterStep.{ClusterStep}
 use Rattle.text.specs.declared.class.Profile as code
-use Rattle.text.specs.Code.FirstSequence.{ascii-sequence}
+use Rattle.text.specs.Utf8.Code.FirstSequence.{ascii-sequence}
 
 -- ---- a packed scalar
 
@@ -135,12 +138,10 @@ module _ (f : code.Profile) (s : List ℕ) (at : ℕ) where
   -- a printable byte before another
   pub plain-measured : (a b : ℕ) (p q : Bool) → a ≡ getD s at 0 → b ≡ getD s (at + 1) 0 → p ≡ printable a → p ≡ true → q ≡ printable b → q ≡ true → at < length s
       → Measured (profileOf f) s at (firstAt (profileOf f) s at) (record { end = place (at + 1); width = column 1 })
-  unfolding size widthOf profileOf profile01
+  unfolding size
   plain-measured a b p q ea eb hp tp hq tq here =
-      let x = and-T (leb 0x20 a) (leb a 0x7E) (true-T (sym hp ∙ tp)) in
-      let y = and-T (leb 0x20 b) (leb b 0x7E) (true-T (sym hq ∙ tq)) in
-      let e : firstAt (profileOf f) s at ≡ ascii a ∷ [] = plain-cluster f s at a b ea eb (leb→le _ _ (x .0)) (leb→le _ _ (x .1)) (leb→le _ _ (y .0)) (leb→le _ _ (y .1)) in
-      measured (at + 1) 1 here (rw e (omega arith)) (rw (e, plain-width a (leb→le _ _ (x .0)) (leb→le _ _ (x .1))) (omega arith))
+      let e : firstAt (profileOf f) s at ≡ ascii a ∷ [] = printable-first (profileOf f) (ascii-classes f) s at a b ea eb (sym hp ∙ tp) (sym hq ∙ tq) in
+      measured (at + 1) 1 here (rw e (omega arith)) (rw (e, one-column (profileOf f) (ascii-classes f) a (sym hp ∙ tp)) refl)
 
 -- ---- the loop
 
@@ -294,14 +295,14 @@ module _ (v : code.Profile) (s : List ℕ) (p : ℕ) (here : p < length s) where
       (λ f.
       let l : a < 0x20 = ltb-true _ _ f in
       let n : a ≢ 13 = eqb-false _ _ (not-true _ (rw f at (sym e ∙ t))) in
-      first-byte P s p a here refl (omega (arith, l)) (more-none P (textAt s (p + 1)) c (after start c) (λ d. breaks v a (after start c) d l n)))
+      first-byte P s p a here refl (omega (arith, l)) (more-none P (textAt s (p + 1)) c (after start c) (λ d. breaks P (ascii-classes v) a (after start c) d l n)))
       (λ f.
       let w = and-T (ltb a 0x80) (ltb (getD s (p + 1) 0) 0x80) (true-T (rw f at (sym e ∙ t))) in
       let l : a < 128 = ltb→lt _ _ (w .0) in
       let m : getD s (p + 1) 0 < 128 = ltb→lt _ _ (w .1) in
       let h : 0x20 ≤ a = ltb-false _ _ f in
       let n : a ≢ 13 = λ x. absurd (omega (arith, x, h)) in
-      first-byte P s p a here refl l (more-ascii P s (p + 1) c (after start c) (apart v a (getD s (p + 1) 0) (after start c) l m n) m))
+      first-byte P s p a here refl l (more-ascii P s (p + 1) c (after start c) (apart P (ascii-classes v) a (getD s (p + 1) 0) (after start c) l m n) m))
 
   -- a byte below 80, LF apart, behind the first scalar
   pub one-scalar : (u b : ℕ) (r : Bool) → u ≡ packedAt (profileOf v) s p → b ≡ getD s (p + u % 8) 0 → r ≡ neverJoinsBefore b → r ≡ true → p + u % 8 ≡ p + firstSize (profileOf v) (textAt s p)
@@ -309,7 +310,7 @@ module _ (v : code.Profile) (s : List ℕ) (p : ℕ) (here : p < length s) where
   one-scalar u b r read e f t =
       let w = walk-begin v s p u (record { inside = here; scalar = read }) in
       let l : neverJoinsBefore b ≡ true = sym f ∙ t in
-      let m : moreOf (profileOf v) (u / 8 % 16) (stateContext (u / 8 % 16)) (textAt s (p + u % 8)) ≡ [] = more-ascii (profileOf v) s (p + u % 8) (u / 8 % 16) (stateContext (u / 8 % 16)) (alone-numbers (u / 8 % 16) (stateContext (u / 8 % 16)) _ (rw e at (lone v b l))) (rw e at (lone-low b l)) in
+      let m : moreOf (profileOf v) (u / 8 % 16) (stateContext (u / 8 % 16)) (textAt s (p + u % 8)) ≡ [] = more-ascii (profileOf v) s (p + u % 8) (u / 8 % 16) (stateContext (u / 8 % 16)) (alone-numbers (u / 8 % 16) (stateContext (u / 8 % 16)) _ (rw e at (lone (profileOf v) (ascii-classes v) b l))) (rw e at (lone-low b l)) in
       sym (rw (m, add-zero) at (w .ends))
 
   pub walked : (r : ClusterStep) → NextCluster (profileOf v) s p r → r .part .end .0 ≡ p + firstSize (profileOf v) (textAt s p)

@@ -8,13 +8,13 @@ use mathlib.Core.Path.{_∙_, _≡_, ap, refl, sym}
 use lib.Dec.{T, leb, leb→le, ltb, ltb→lt}
 use lib.ListN.{drop, getD, length, take}
 use borrow.Author.Tests.{le-leb, le-ltb, leb-false, leb-true, lt-leb, lt-ltb, ne-eqb}
-use Rattle.text.specs.Code.{firstSequence, fourBytes, isTail, sequenceFor, sequenceOf, threeBytes, twoBytes}
+use Rattle.text.specs.Utf8.Code.{firstSequence, fourBytes, isTail, sequenceFor, sequenceOf, threeBytes, twoBytes}
 use Rattle.text.specs.Tests.{and-T, cases, iff, is-true, or-T, true-T}
 use Rattle.text.specs.Utf8.{decode, more, to, value, within}
 use Rattle.text.specs.declared.utf8.Sequence.{Sequence}
 use Rattle.text.proofs.SequenceBytes.{by-chain, chain, decode-at}
 use Rattle.text.specs.declared.class.Profile as code
-use Rattle.text.specs.Code.FirstSequence.{ascii-first}
+use Rattle.text.specs.Utf8.Code.FirstSequence.{ascii-first}
 
 -- ---- the table by the first byte
 

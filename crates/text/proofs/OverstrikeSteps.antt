@@ -13,7 +13,7 @@ use borrow.Author.Tests.{eq-eqb, ne-eqb}
 use Rattle.text.specs.Class.{Profile}
 use Rattle.text.specs.Cluster.Walk.{size-is}
 use Rattle.text.specs.Backward.{ParityPlace, backward}
-use Rattle.text.specs.Code.{whole}
+use Rattle.text.specs.Utf8.Code.{whole}
 use Rattle.text.specs.Overstrike.Code.{BackReady, BackspaceStep, FinishReady, Finished, Front, FrontParity, Part, Pushed, Sound, StepReady, Stepped, Strike, StruckStep, backspaceOn, clusterOn, conversion, finishOn, orderOf, partOf, pendingOf, plain, pushedOn, stateOf, styleOf}
 use Rattle.text.specs.Overstrike.{State, Style, ambiguous, backspace, bold, boldUnderline, bolded, finish, held, none, normal, onBackspace, onCluster, order, push, state, step, strike, struck, underline, underlined}
 use Rattle.text.specs.Overstrike.Length.{cost, cost-normal, order-size, waiting, weight}

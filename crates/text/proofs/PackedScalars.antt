@@ -9,13 +9,14 @@ use lib.Dec.{T, eqb, leb}
 use lib.ListN.{getD, length}
 use borrow.Author.Tests.{eq-eqb, eqb-true, ne-eqb}
 use Rattle.text.specs.Class.{Profile, class01, controls, extends, number}
-use Rattle.text.specs.Code.{fourBytes, isTail, profileOf, sequenceFor, threeBytes, twoBytes}
+use Rattle.text.specs.Utf8.Code.{fourBytes, isTail, sequenceFor, threeBytes, twoBytes}
+use Rattle.text.specs.Class.Code.{profileOf}
 use Rattle.text.specs.Scalar.{packed, packedAs, packedAt}
 use Rattle.text.specs.Width.{width01}
 use Rattle.text.specs.Tests.{in-range, every, every-one}
 use Rattle.text.proofs.LeadBytes.{four-at, no-second, no-third, three-at, two-at}
 use Rattle.text.specs.declared.class.Profile as code
-use Rattle.text.specs.Code.FirstSequence.{ascii-sequence}
+use Rattle.text.specs.Utf8.Code.FirstSequence.{ascii-sequence}
 use Rattle.text.specs.Class.Ranges.{clear}
 use Rattle.text.specs.Class.Document01.{other-class, quiet-test, syllable-class, syllable-width, wide-width}
 

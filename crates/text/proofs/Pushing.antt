@@ -10,7 +10,7 @@ use lib.ListN.{drop, getD, length, length-append, length-set, set, take}
 use lib.Seq.{length-take-le, take-all, take-at, take-suc, take-suc-set}
 use Rattle.buffer.specs.Sink.{Copied}
 use Rattle.text.specs.Backward.{backward}
-use Rattle.text.specs.Code.{whole}
+use Rattle.text.specs.Utf8.Code.{whole}
 use Rattle.text.specs.Overstrike.Code.{Front, Pushed, changedStyle, orderOf, styleOf}
 use Rattle.text.specs.Overstrike.{bold, order, push, underline}
 use Rattle.text.specs.Tests.{or-false}

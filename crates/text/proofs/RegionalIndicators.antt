@@ -13,7 +13,8 @@ use borrow.Author.Tests.{eqb-true, leb-false, leb-true}
 use Rattle.text.specs.Backward.{ParityPlace, back, indicatorAt, withoutLast}
 use Rattle.text.specs.Class.{Class, Profile, among, class01, classL, classLV, classLVT, classT, classV, control, controls, cr, extend, extends, inAny, isControl, lf, number, other, regionalIndicator, zwj}
 use Rattle.text.specs.Cluster.{Context, classOf, context, joined, joins}
-use Rattle.text.specs.Code.{firstSequence, profileOf, size}
+use Rattle.text.specs.Utf8.Code.{firstSequence, size}
+use Rattle.text.specs.Class.Code.{profileOf}
 use Rattle.text.specs.Overstrike.{push}
 use Rattle.text.specs.Scalar.{packedAt}
 use Rattle.text.specs.Scalar.Laws.{NoScalar, PackedScalar, packed-inside, packed-view}

@@ -10,15 +10,15 @@ use lib.ListN.{drop, length, take}
 use lib.Seq.{drop-drop, getD-drop, length-take-le, slice, take-nil}
 use borrow.Author.Tests.{leb-false, leb-true}
 use Rattle.text.specs.Backward.{back}
-use Rattle.text.specs.Code.{firstSequence, runOf, size}
+use Rattle.text.specs.Utf8.Code.{firstSequence, runOf, size}
 use Rattle.text.specs.Tests.{cases}
 use Rattle.text.specs.Utf8.{Scalar, decode, decodeFrom, sequence, value}
 use Rattle.text.specs.Utf8.Laws.{sequence-le}
 use Rattle.text.specs.declared.utf8.Sequence.{Sequence}
 use Rattle.text.proofs.ContinuationBytes.{back-to, seq-lead, seq-tails}
 use Rattle.text.proofs.SequenceBytes.{run-more, run-none}
-use Rattle.text.specs.Code.FirstSequence.{first-by}
-use Rattle.text.specs.Code.Laws.{none-past}
+use Rattle.text.specs.Utf8.Code.FirstSequence.{first-by}
+use Rattle.text.specs.Utf8.Code.Laws.{none-past}
 
 pub record Head (s : List ℕ) (d : Scalar) (es : List Scalar) : Type 0 where
   pub some : 1 ≤ length (d .bytes)

@@ -10,9 +10,9 @@ use lib.Dec.{leb}
 use lib.ListN.{drop, getD, length, length-drop, take}
 use lib.Seq.{drop-drop, getD-drop, length-take-le}
 use borrow.Author.Tests.{le-leb}
-use Rattle.text.specs.Code.{firstSequence, runOf, sequenceOf, size}
-use Rattle.text.specs.Code.FirstSequence.{first-by}
-use Rattle.text.specs.Code.Laws.{none-at, none-past}
+use Rattle.text.specs.Utf8.Code.{firstSequence, runOf, sequenceOf, size}
+use Rattle.text.specs.Utf8.Code.FirstSequence.{first-by}
+use Rattle.text.specs.Utf8.Code.Laws.{none-at, none-past}
 use Rattle.text.specs.Utf8.{Scalar, decode, fits, lengthIn, scalar, sequence, table, value}
 use Rattle.text.specs.Utf8.Laws.{decode-bad, decode-good, sequence-le}
 use Rattle.text.specs.declared.utf8.Sequence.{Sequence}

@@ -3,8 +3,8 @@ use mathlib.Core.List.{List, _++_}
 use mathlib.Core.Path.{_∙_, _≡_, ap, ap₂, refl, sym}
 use Prim.Native.Nat.{ℕ}
 use lib.ListN.{take}
-use Rattle.text.specs.Code.{size, whole}
-use Rattle.text.specs.Code.Laws.{front-bytes, front-whole, run-front, run-valid, run-wells}
+use Rattle.text.specs.Utf8.Code.{size, whole}
+use Rattle.text.specs.Utf8.Code.Laws.{front-bytes, front-whole, run-front, run-valid, run-wells}
 use Rattle.text.specs.Utf8.{Scalar, bytesOf, decode, runOf}
 use Rattle.text.specs.Utf8.Laws.{bytesOf-append}
 use Rattle.text.specs.Utf8.Valid.{decode-text}

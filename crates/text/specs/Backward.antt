@@ -7,7 +7,8 @@ use lib.Dec.{eqb, leb, ltb}
 use lib.ListN.{getD, length, take}
 use Rattle.text.specs.Class.{Profile}
 use Rattle.text.specs.Cluster.{context, joins, joinsNext}
-use Rattle.text.specs.Code.{isTail, profileOf, runOf, size, whole}
+use Rattle.text.specs.Utf8.Code.{isTail, runOf, size, whole}
+use Rattle.text.specs.Class.Code.{profileOf}
 use Rattle.text.specs.Overstrike.{backspace}
 use Rattle.text.specs.Scalar.{packedAt}
 use Rattle.text.specs.Segmentation.{neverJoinsBefore}

@@ -7,6 +7,7 @@ use lib.Dec.{leb}
 use Rattle.text.specs.Class.{Profile}
 use Rattle.text.specs.Overstrike.{convert}
 pub mod Laws
+pub mod Code
 
 -- a question put to a call, and the number of its refusal
 pub record Question : Type 0 where

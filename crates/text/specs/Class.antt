@@ -7,6 +7,8 @@ use Rattle.text.specs.Utf8.{Range, to, within}
 pub mod Ranges
 pub mod Document01
 pub mod Ascii
+pub mod Code
+pub mod Profile01
 
 pub data Class : Type 0 where
   cr lf control extend zwj classL classV classT classLV classLVT regionalIndicator other : Class

@@ -7,7 +7,6 @@ pub mod Width
 pub mod Cluster
 pub mod Overstrike
 pub mod Calls
-pub mod Code
 pub mod Rules
 pub mod Scalar
 pub mod TextParts

@@ -5,7 +5,7 @@ use mathlib.Core.List.{List}
 use lib.Dec.{eqb}
 use lib.ListN.{drop}
 use Rattle.text.specs.Class.{Profile, number}
-use Rattle.text.specs.Code.{firstSequence}
+use Rattle.text.specs.Utf8.Code.{firstSequence}
 use Rattle.text.specs.Utf8.{decode}
 use Rattle.text.specs.declared.utf8.Sequence.{Sequence}
 pub mod Laws

@@ -7,11 +7,13 @@ use lib.Dec.{eqb, ltb}
 use lib.ListN.{getD, length}
 use Rattle.text.specs.Class.{Profile}
 use Rattle.text.specs.Cluster.{Context, after, classOf, clusters, joined}
-use Rattle.text.specs.Code.{firstOf}
 use Rattle.text.specs.Scalar.{packedAt}
 use Rattle.text.specs.TextParts.{Measured, textAt}
 use Rattle.text.specs.Utf8.{Scalar}
+use Rattle.text.specs.Utf8.Code.{size}
 use Rattle.text.specs.declared.segmentation.ClusterStep.{ClusterStep}
+pub mod Laws
+pub mod Boundaries
 
 -- a control below 20, CR apart, or else a byte below 80 and behind it another or nothing
 abbrev pub oneByteCluster : List ℕ → ℕ → Bool
@@ -21,7 +23,15 @@ oneByteCluster s i = cond (ltb (getD s i 0) 0x20) (not (eqb (getD s i 0) 0x0D)) 
 abbrev pub neverJoinsBefore : ℕ → Bool
 neverJoinsBefore b = ltb b 0x80 && not (eqb b 0x0A)
 
+unfoldable pub firstOf : List (List Scalar) → List Scalar
+firstOf [] = []
+firstOf (g ∷ gs) = g
+
 module _ (P : Profile) where
+  -- the bytes of a text's first cluster
+  unfoldable pub firstSize : List Scalar → ℕ
+  firstSize s = size (firstOf (clusters P s))
+
   -- the scalars that belong to the cluster before them, which ends in class p with context k
   unfoldable pub moreOf : ℕ → Context → List Scalar → List Scalar
   moreOf p k [] = []

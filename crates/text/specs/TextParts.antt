@@ -6,7 +6,7 @@ use lib.ListN.{length, drop}
 use Rattle.text.specs.Utf8.{Scalar, decode}
 use Rattle.text.specs.Class.{Profile}
 use Rattle.text.specs.Width.{widthOf}
-use Rattle.text.specs.Code.{runOf, size}
+use Rattle.text.specs.Utf8.Code.{runOf, size}
 use Rattle.text.specs.declared.BytePlace.{BytePlace}
 use Rattle.text.specs.declared.Column.{Column}
 use Rattle.text.specs.declared.TextPart.{TextPart}

@@ -11,6 +11,7 @@ pub mod Runs
 pub mod Ascii
 pub mod AsciiTexts
 pub mod FirstByte
+pub mod Code
 
 -- ---- the table of well-formed sequences
 

@@ -5,6 +5,7 @@ use mathlib.Core.List.{List, [], _∷_}
 use Rattle.text.specs.Utf8.{Range, to, Scalar}
 use Rattle.text.specs.Class.{cr, lf, control, extend, zwj, classV, classT, number, among, Profile, inAny, class01}
 pub mod Symbols
+pub mod Laws
 
 unfoldable pub wides : List Range
 wides =

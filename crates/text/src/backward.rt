@@ -14,7 +14,8 @@ ghost use Prim.Native.Nat.{_%_, _/_, _≤_, _<_};
 ghost use mathlib.Core.List.{reverse};
 ghost use lib.ListN.{length};
 ghost use Rattle.text.specs.Utf8.{decode};
-ghost use Rattle.text.specs.Code.{profileOf, runOf, size, whole};
+ghost use Rattle.text.specs.Class.Code.{profileOf};
+ghost use Rattle.text.specs.Utf8.Code.{runOf, size, whole};
 ghost use Rattle.text.specs.Scalar.{packedAt};
 ghost use Rattle.text.specs.Backward.{back, ScalarStart, oddTo, joinsAt, withoutLast, ParityPlace, indicatorAt, endsInPair, betweenIndicators, parityBefore, Erased};
 

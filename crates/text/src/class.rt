@@ -2,7 +2,7 @@
 ghost use mathlib.Core.Path.{_≡_};
 ghost use Prim.Native.Nat.{_≤_, _<_};
 ghost use Rattle.text.specs.Class.{number, inAny, controls, extends, whitespace, isControl};
-ghost use Rattle.text.specs.Code.{jamo, printable, profileOf, syllable};
+ghost use Rattle.text.specs.Class.Code.{jamo, printable, profileOf, syllable};
 
 // The version of the text profile that classes and widths are taken from: 0 is document 01's.
 pub struct Profile {

@@ -3,7 +3,7 @@ ghost use mathlib.Core.Path.{_≡_};
 ghost use lib.ListN.{length};
 ghost use Rattle.text.specs.Width.{profile01};
 ghost use Rattle.text.specs.Calls.{convertCall};
-ghost use Rattle.text.specs.Code.{converted, refusal};
+ghost use Rattle.text.specs.Calls.Code.{converted, refusal};
 
 mod backward;
 pub mod class;

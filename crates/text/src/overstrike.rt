@@ -12,7 +12,7 @@ ghost use lib.ListN.{length, take};
 ghost use Rattle.text.specs.Utf8.{sameBytes, decode, runs};
 ghost use Rattle.text.specs.Overstrike.{bolded, underlined, ambiguous, backspace, step, convertPieces, convert};
 ghost use Rattle.text.specs.Backward.{backward};
-ghost use Rattle.text.specs.Code.{profileOf};
+ghost use Rattle.text.specs.Class.Code.{profileOf};
 ghost use Rattle.text.specs.Overstrike.Code.{BackReady, BackspaceStep, FinishReady, Finished, FrontParity, LineCopied, PieceDone, PieceReady, Pushed, SpanDone, StepReady, Stepped, Strike, StruckStep, Wrote, changedStyle, conversion, orderOf, partOf, plain, stateOf, styleOf};
 
 // An overstrike style.

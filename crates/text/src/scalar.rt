@@ -20,7 +20,7 @@ use super::width::width;
 ghost use mathlib.Core.Path.{_≡_};
 ghost use Prim.Native.Nat.{_≤_, _<_};
 ghost use lib.ListN.{length};
-ghost use Rattle.text.specs.Code.{profileOf};
+ghost use Rattle.text.specs.Class.Code.{profileOf};
 ghost use Rattle.text.specs.Scalar.{packedAs, packedAt};
 
 // A scalar packed into one number: its length in bytes, 8 times its class and 128 times its width. These are without the length.

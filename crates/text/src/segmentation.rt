@@ -13,9 +13,9 @@ ghost use mathlib.Core.Path.{_≡_};
 ghost use Prim.Native.Nat.{_+_, _<_};
 ghost use lib.ListN.{length};
 ghost use Rattle.text.specs.Cluster.{clusters};
-ghost use Rattle.text.specs.Code.{firstOf, firstSize, profileOf};
+ghost use Rattle.text.specs.Segmentation.{firstOf, firstSize, NextCluster, NextClusterReady, neverJoinsBefore, oneByteCluster};
+ghost use Rattle.text.specs.Class.Code.{profileOf};
 ghost use Rattle.text.specs.TextParts.{textAt, Measured};
-ghost use Rattle.text.specs.Segmentation.{NextCluster, NextClusterReady, neverJoinsBefore, oneByteCluster};
 
 // A cluster, and the scalar behind it, packed.
 pub struct ClusterStep {

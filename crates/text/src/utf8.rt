@@ -3,7 +3,7 @@ ghost use mathlib.Core.Path.{_≡_};
 ghost use Prim.Native.Nat.{_+_, _<_, _≤_};
 ghost use lib.ListN.{length, getD, drop};
 ghost use Rattle.text.specs.Utf8.{decode};
-ghost use Rattle.text.specs.Code.{asciiFour, asciiLength, firstSequence, fourBytes, isTail, runOf, sequenceFor, size, threeBytes, twoBytes};
+ghost use Rattle.text.specs.Utf8.Code.{asciiFour, asciiLength, firstSequence, fourBytes, isTail, runOf, sequenceFor, size, threeBytes, twoBytes};
 
 // A well-formed sequence: its scalar and the number of its bytes. Where none begins the length is 0.
 pub struct Sequence {

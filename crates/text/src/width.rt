@@ -13,7 +13,7 @@ ghost use mathlib.Core.Path.{_≡_};
 ghost use mathlib.Core.List.{[], _∷_};
 ghost use Rattle.text.specs.Class.{number, among, inAny, cr, lf, control, extend, zwj, classV, classT};
 ghost use Rattle.text.specs.Width.{wides};
-ghost use Rattle.text.specs.Code.{profileOf};
+ghost use Rattle.text.specs.Class.Code.{profileOf};
 
 fn in_wides(x: u32) -> bool
     ensures { λ r. ⌜ r ≡ inAny wides x ⌝ }

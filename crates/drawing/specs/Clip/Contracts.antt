@@ -8,7 +8,8 @@ use lib.ListN.{length, take, drop}
 use Rattle.text.specs.Utf8.{Scalar, decode}
 use Rattle.text.specs.Class.{Profile}
 use Rattle.text.specs.Cluster.{clusters}
-use Rattle.text.specs.Code.{runOf, whole, printable}
+use Rattle.text.specs.Utf8.Code.{runOf, whole}
+use Rattle.text.specs.Class.Code.{printable}
 use Rattle.text.specs.TextParts.{textAt, Measured}
 use Rattle.text.specs.declared.TextPart.{TextPart}
 use Rattle.drawing.specs.Clip.{spaces, clipEnd}

@@ -6,7 +6,7 @@ use mathlib.Core.List.{List}
 use lib.ListN.{length, take, replicate}
 use lib.Dec.{eqb}
 use Rattle.text.specs.Utf8.{Scalar}
-use Rattle.text.specs.Code.{profileOf, printable}
+use Rattle.text.specs.Class.Code.{profileOf, printable}
 use Rattle.text.specs.TextParts.{textAt}
 use Rattle.drawing.specs.Clip.{spaces}
 use Rattle.drawing.specs.Marks.{byteMark, scalarMark}
@@ -18,7 +18,8 @@ use Rattle.drawing.specs.declared.state.AttributeState.{AttributeState}
 use Rattle.drawing.specs.declared.state.Stepped.{Stepped}
 use Rattle.drawing.specs.declared.write.Window.{Window}
 use Rattle.drawing.specs.Clip.Contracts.{allPrintable}
-use Rattle.drawing.specs.State.{styleOf, stateOf, Wrote}
+use Rattle.drawing.specs.Attributes.Code.{styleOf}
+use Rattle.drawing.specs.State.{stateOf, Wrote}
 
 abbrev pub eightSpaces : List ℕ
 eightSpaces = replicate 8 0x20

@@ -1,4 +1,4 @@
--- What is kept of a line's spans is kept of the definition's rows; the count is their number, and the list holds their pairs.
+-- The rows that a line's spans push are the definition's; the count is their number, and the list has their pairs.
 use mathlib.Core.Path.{_≡_, refl, sym, ap, _∙_}
 use mathlib.Core.Logic.{_≢_}
 use Prim.Native.Nat.{ℕ, zero, suc, _+_, _*_, _/_, _≤_, _<_}
@@ -12,14 +12,15 @@ use lib.Seq.{set-append-seam, drop-cons}
 use lib.Dec.{eqb, ltb}
 use borrow.Author.Tests.{lt-ltb, le-ltb, eq-eqb, ne-eqb, ltb-true, ltb-false}
 use Rattle.text.specs.Tests.{cases}
-use Rattle.text.specs.Each.{All, all-nil, all-cons}
+use Rattle.text.specs.Each.{all-nil, all-cons}
 use Rattle.text.specs.Class.{Profile}
 use Rattle.spans.specs.Sequence.{sgr, eraseToEnd, ignored, hyperlink, lineDrawing}
+use Rattle.spans.specs.Spans.RecordSpans.{HasContents}
 use Rattle.spans.specs.Spans.{Content, text, control, invalid, unprintable, escape, tab, crlf, lf, Span, Record, aRecord, kindOf, matchOf, recordOf, records}
 use Rattle.spans.specs.Spans.ContentLaw.{textIn, contentIn, contentOf}
-use Rattle.rows.specs.Rows.{Row, row, Wrap, wrap, split, splits, splitText, lastRow, wrapped, rows}
+use Rattle.rows.specs.Rows.{Row, Wrap, wrap, split, splits, splitText, lastRow, wrapped, rows}
 use Rattle.rows.specs.Calls.{modeOf, numbersOf}
-use Rattle.rows.specs.Wrap.{nextCount, countedRow, pairAt, RowList, kept, withRow, withRows, held, on, recordIn, spanOf, spansOf, lastRowList, beginning}
+use Rattle.rows.specs.Wrap.{nextCount, countedRow, pairAt, RowList, rowList, withRow, withRows, wrapRows, on, recordIn, spanOf, spansOf, lastRowList, beginning}
 use Rattle.rows.specs.declared.wrap.RowCounts.{RowCounts}
 
 -- ---- what a record does is what its span does
@@ -42,11 +43,7 @@ module _ (P : Profile) (width : ℕ) (w : Bool) (line : List ℕ) (t : Wrap) (p 
   content-split lf e = refl
 
 module _ (P : Profile) (width mode : ℕ) (line : List ℕ) where
-  -- spans that hold what their records say of the line
-  abbrev pub Held-in : List Span → Type 0
-  Held-in ss = All (λ (s : Span). contentOf line (recordOf s) ≡ s .content) ss
-
-  records-split : (mode ≢ 0) → {ss : List Span} → Held-in ss → (t : Wrap) → spansOf P width mode line (records ss) t ≡ splits P width (eqb mode 2) t ss
+  records-split : (mode ≢ 0) → {ss : List Span} → HasContents line ss → (t : Wrap) → spansOf P width mode line (records ss) t ≡ splits P width (eqb mode 2) t ss
   unfolding spansOf spanOf splits records recordOf
   records-split z all-nil t = refl
   records-split z (all-cons {a = s} {s = ss} h a) t =
@@ -68,45 +65,45 @@ count-some k r e =
     (λ h. let z = rw h at e in let b = ltb-false (k .tally .count) 0xFFFF_FFFF_FFFF_FFFF h in omega arith)
 
 -- a count that has not reached the largest usize is the number of the rows
-pub keeps-count : (k : RowList) → k .tally .count ≡ 0 → (rs : List Row) → withRows k rs .tally .count < 0xFFFF_FFFF_FFFF_FFFF → withRows k rs .tally .count ≡ length rs
+pub written-count : (k : RowList) → k .tally .count ≡ 0 → (rs : List Row) → withRows k rs .tally .count < 0xFFFF_FFFF_FFFF_FFFF → withRows k rs .tally .count ≡ length rs
 unfolding withRows withRow countedRow nextCount
-keeps-count k z [] h = z
-keeps-count k z (r ∷ rs) h =
+written-count k z [] h = z
+written-count k z (r ∷ rs) h =
     cases (ltb (withRows k rs .tally .count) 0xFFFF_FFFF_FFFF_FFFF)
-    (λ e. rw e (ap (λ (n : ℕ). n + 1) (keeps-count k z rs (ltb-true _ _ e)) ∙ add-one (length rs)))
+    (λ e. rw e (ap (λ (n : ℕ). n + 1) (written-count k z rs (ltb-true _ _ e)) ∙ add-one (length rs)))
     (λ e. let b = ltb-false (withRows k rs .tally .count) 0xFFFF_FFFF_FFFF_FFFF e in let c = rw e at h in absurd (omega arith))
 
 -- ---- the rows of a line
 
-last-kept : (k : RowList) → k .tally .count ≡ 0 → (mode : ℕ) → (mode ≢ 0) → (s p : ℕ) (rs : List Row)
-    → lastRowList mode (record { kept = withRows k rs; start = s; position = p }) ≡ withRows k (lastRow s p rs)
+last-written : (k : RowList) → k .tally .count ≡ 0 → (mode : ℕ) → (mode ≢ 0) → (s p : ℕ) (rs : List Row)
+    → lastRowList mode (record { rows = withRows k rs; start = s; position = p }) ≡ withRows k (lastRow s p rs)
 unfolding lastRowList lastRow withRows
-last-kept k z mode h s p [] = cases (ltb s p) (λ e. rw (ne-eqb mode 0 h, e)) (λ e. rw (ne-eqb mode 0 h, e, eq-eqb (k .tally .count) 0 z))
-last-kept k z mode h s p (r ∷ rs) =
+last-written k z mode h s p [] = cases (ltb s p) (λ e. rw (ne-eqb mode 0 h, e)) (λ e. rw (ne-eqb mode 0 h, e, eq-eqb (k .tally .count) 0 z))
+last-written k z mode h s p (r ∷ rs) =
     cases (ltb s p) (λ e. rw (ne-eqb mode 0 h, e)) (λ e. rw (ne-eqb mode 0 h, e, ne-eqb (withRow (withRows k rs) r .tally .count) 0 (count-some (withRows k rs) r)))
 
 abbrev none-yet : List ℕ → ℕ → ℕ → RowList
-none-yet l first last = kept l (beginning first last .tally)
+none-yet l first last = rowList l (beginning first last .tally)
 
 module _ (P : Profile) (width : ℕ) (line l : List ℕ) (first last : ℕ) (ss : List Span) where
-  wrapped-kept : (mode : ℕ) → (mode ≢ 0) → Held-in P width mode line ss
-      → lastRowList mode (on (spansOf P width mode line (records ss)) (held l (beginning first last))) ≡ withRows (none-yet l first last) (reverse (wrapped P width (eqb mode 2) ss))
+  wrapped-written : (mode : ℕ) → (mode ≢ 0) → HasContents line ss
+      → lastRowList mode (on (spansOf P width mode line (records ss)) (wrapRows l (beginning first last))) ≡ withRows (none-yet l first last) (reverse (wrapped P width (eqb mode 2) ss))
   unfolding on wrapped
-  wrapped-kept mode z a =
+  wrapped-written mode z a =
       let t : Wrap = splits P width (eqb mode 2) (wrap [] 0 0) ss in
-      ap (λ (x : Wrap). lastRowList mode (record { kept = withRows (none-yet l first last) (x .rows); start = x .start; position = x .position })) (records-split P width mode line z a (wrap [] 0 0))
-      ∙ last-kept (none-yet l first last) refl mode z (t .start) (t .position) (t .rows)
+      ap (λ (x : Wrap). lastRowList mode (record { rows = withRows (none-yet l first last) (x .rows); start = x .start; position = x .position })) (records-split P width mode line z a (wrap [] 0 0))
+      ∙ last-written (none-yet l first last) refl mode z (t .start) (t .position) (t .rows)
       ∙ ap (withRows (none-yet l first last)) (sym (reverse-reverse (lastRow (t .start) (t .position) (t .rows))))
 
-  -- what is kept of the spans of a line is kept of its rows
-  pub rows-kept : (mode : ℕ) → mode ≤ 2 → Held-in P width mode line ss
-      → lastRowList mode (on (spansOf P width mode line (records ss)) (held l (beginning first last))) ≡ withRows (none-yet l first last) (reverse (rows P width (modeOf mode) ss))
+  -- the rows that the spans of a line push are its rows
+  pub rows-written : (mode : ℕ) → mode ≤ 2 → HasContents line ss
+      → lastRowList mode (on (spansOf P width mode line (records ss)) (wrapRows l (beginning first last))) ≡ withRows (none-yet l first last) (reverse (rows P width (modeOf mode) ss))
   unfolding rows modeOf on lastRowList withRows
-  rows-kept zero h a =
-      ap (λ (x : Wrap). lastRowList 0 (record { kept = withRows (none-yet l first last) (x .rows); start = x .start; position = x .position })) (records-unwrapped P width 0 line refl (records ss) (wrap [] 0 0))
-  rows-kept (suc zero) h a = wrapped-kept 1 (λ e. omega arith) a
-  rows-kept (suc (suc zero)) h a = wrapped-kept 2 (λ e. omega arith) a
-  rows-kept (suc (suc (suc n))) h a = absurd (omega arith)
+  rows-written zero h a =
+      ap (λ (x : Wrap). lastRowList 0 (record { rows = withRows (none-yet l first last) (x .rows); start = x .start; position = x .position })) (records-unwrapped P width 0 line refl (records ss) (wrap [] 0 0))
+  rows-written (suc zero) h a = wrapped-written 1 (λ e. omega arith) a
+  rows-written (suc (suc zero)) h a = wrapped-written 2 (λ e. omega arith) a
+  rows-written (suc (suc (suc n))) h a = absurd (omega arith)
 
 -- ---- the list of pairs
 
@@ -133,7 +130,7 @@ two-more l i h = drop-cons l i 0 (omega arith) ∙ ap (λ (x : List ℕ). getD l
 
 module _ (l : List ℕ) (t : RowCounts) (z : t .count ≡ 0) where
   abbrev nothing-yet : RowList
-  nothing-yet = kept l t
+  nothing-yet = rowList l t
 
   fewer : (r : Row) (rs : List Row) → withRows nothing-yet (r ∷ rs) .tally .count < 0xFFFF_FFFF_FFFF_FFFF → withRows nothing-yet rs .tally .count < 0xFFFF_FFFF_FFFF_FFFF
   unfolding withRows withRow countedRow nextCount
@@ -147,15 +144,15 @@ module _ (l : List ℕ) (t : RowCounts) (z : t .count ≡ 0) where
       rw (k, g, lt-ltb (length rs) (length l / 2) lt, f) (two-set (numbersOf (reverse rs)) y (2 * length rs) u v (r .start) (r .end) a ∙ sym (append-assoc (numbersOf (reverse rs)) (r .start ∷ r .end ∷ []) y))
 
   -- the pairs of the rows, in their order, and what stood behind them
-  pub keeps-numbers : (rs : List Row) → 2 * length rs ≤ length l → withRows nothing-yet rs .tally .count < 0xFFFF_FFFF_FFFF_FFFF
+  pub written-numbers : (rs : List Row) → 2 * length rs ≤ length l → withRows nothing-yet rs .tally .count < 0xFFFF_FFFF_FFFF_FFFF
       → withRows nothing-yet rs .numbers ≡ numbersOf (reverse rs) ++ drop (2 * length rs) l
   unfolding withRows withRow pairAt numbersOf
-  keeps-numbers [] h c = refl
-  keeps-numbers (r ∷ rs) h c =
+  written-numbers [] h c = refl
+  written-numbers (r ∷ rs) h c =
       let d = fewer r rs c in
       let i : ℕ = 2 * length rs in
-      let k : withRows nothing-yet rs .tally .count ≡ length rs = keeps-count nothing-yet z rs d in
-      let m : withRows nothing-yet rs .numbers ≡ numbersOf (reverse rs) ++ drop i l = keeps-numbers rs (omega arith) d in
+      let k : withRows nothing-yet rs .tally .count ≡ length rs = written-count nothing-yet z rs d in
+      let m : withRows nothing-yet rs .numbers ≡ numbersOf (reverse rs) ++ drop i l = written-numbers rs (omega arith) d in
       let a : length (numbersOf (reverse rs)) ≡ i = numbersOf-length (reverse rs) ∙ ap (λ (n : ℕ). 2 * n) (length-reverse rs) in
       let e : drop i l ≡ getD l i 0 ∷ getD l (suc i) 0 ∷ drop (2 * suc (length rs)) l =
       two-more l i (omega arith) ∙ ap (λ (n : ℕ). getD l i 0 ∷ getD l (suc i) 0 ∷ drop n l) (let q : suc (suc i) ≡ 2 * suc (length rs) = omega arith in q) in
@@ -172,16 +169,16 @@ unfolding withRow
 withAllRows k [] = k
 withAllRows k (r ∷ rs) = withAllRows (withRow k r) rs
 
-keeps-last : (k : RowList) (rs : List Row) (r : Row) → withRows k (rs ++ r ∷ []) ≡ withRows (withRow k r) rs
+written-last : (k : RowList) (rs : List Row) (r : Row) → withRows k (rs ++ r ∷ []) ≡ withRows (withRow k r) rs
 unfolding withRows
-keeps-last k [] r = refl
-keeps-last k (x ∷ rs) r = ap (λ (y : RowList). withRow y x) (keeps-last k rs r)
+written-last k [] r = refl
+written-last k (x ∷ rs) r = ap (λ (y : RowList). withRow y x) (written-last k rs r)
 
--- what is kept of the rows pushed, the last one first, is kept of them in their order
-pub keeps-all : (k : RowList) (rs : List Row) → withRows k (reverse rs) ≡ withAllRows k rs
+-- rows pushed, the last one first, are those pushed in their order
+pub written-all : (k : RowList) (rs : List Row) → withRows k (reverse rs) ≡ withAllRows k rs
 unfolding withRows withAllRows
-keeps-all k [] = refl
-keeps-all k (r ∷ rs) = ap (withRows k) (reverse-cons r rs) ∙ keeps-last k (reverse rs) r ∙ keeps-all (withRow k r) rs
+written-all k [] = refl
+written-all k (r ∷ rs) = ap (withRows k) (reverse-cons r rs) ∙ written-last k (reverse rs) r ∙ written-all (withRow k r) rs
 
 keep-counts : (k : RowList) (r : Row) → k .tally .count ≤ withRow k r .tally .count
 unfolding withRow countedRow nextCount
@@ -210,17 +207,17 @@ module _ (value index fallback : RowList → ℕ) (of : Row → ℕ) (g : ℕ �
       value-stays rs (withRow k r) (omega (arith, same-index k r, keep-counts k r))
       ∙ next-value k r ∙ rw (ne-eqb (k .tally .count) (index k) (λ e. omega arith))
 
-  pub value-kept : (rs : List Row) (k : RowList) (i : ℕ) → i + k .tally .count ≡ index k → withAllRows k rs .tally .count < 0xFFFF_FFFF_FFFF_FFFF
+  pub value-written : (rs : List Row) (k : RowList) (i : ℕ) → i + k .tally .count ≡ index k → withAllRows k rs .tally .count < 0xFFFF_FFFF_FFFF_FFFF
       → cond (ltb (index k) (withAllRows k rs .tally .count)) (value (withAllRows k rs)) (fallback (withAllRows k rs)) ≡ g (fallback k) i rs
   unfolding withAllRows
-  value-kept [] k i e h = rw (le-ltb (index k) (k .tally .count) (omega arith)) (sym (g-none k i))
-  value-kept (r ∷ rs) k zero e h =
+  value-written [] k i e h = rw (le-ltb (index k) (k .tally .count) (omega arith)) (sym (g-none k i))
+  value-written (r ∷ rs) k zero e h =
       let c : withRow k r .tally .count ≡ k .tally .count + 1 = keep-counted k r (omega (arith, keep-counts k r, keepAll-counts rs (withRow k r))) in
       let v : value (withAllRows (withRow k r) rs) ≡ of r = value-stays rs (withRow k r) (omega (arith, same-index k r)) ∙ next-value k r ∙ rw (eq-eqb (k .tally .count) (index k) (omega arith)) in
       rw (lt-ltb (index k) (withAllRows (withRow k r) rs .tally .count) (omega (arith, keepAll-counts rs (withRow k r))), v) (sym (g-here k r rs))
-  value-kept (r ∷ rs) k (suc i) e h =
+  value-written (r ∷ rs) k (suc i) e h =
       let c : withRow k r .tally .count ≡ k .tally .count + 1 = keep-counted k r (omega (arith, keep-counts k r, keepAll-counts rs (withRow k r))) in
-      rw (← same-index k r) (value-kept rs (withRow k r) i (omega (arith, same-index k r)) h) ∙ sym (g-on k i r rs)
+      rw (← same-index k r) (value-written rs (withRow k r) i (omega (arith, same-index k r)) h) ∙ sym (g-on k i r rs)
 
 -- ---- the bounds that the tally keeps
 
@@ -239,17 +236,17 @@ module _ (g : ℕ → ℕ → List Row → ℕ) (none : (e i : ℕ) → g e i []
   y = withAllRows k rs .tally
 
   -- the end of a row, or of the last one
-  pub end-kept : ((e : ℕ) (r : Row) (rs : List Row) → g e 0 (r ∷ rs) ≡ r .end) → ((e i : ℕ) (r : Row) (rs : List Row) → g e (suc i) (r ∷ rs) ≡ g (r .end) i rs)
+  pub end-written : ((e : ℕ) (r : Row) (rs : List Row) → g e 0 (r ∷ rs) ≡ r .end) → ((e i : ℕ) (r : Row) (rs : List Row) → g e (suc i) (r ∷ rs) ≡ g (r .end) i rs)
       → cond (ltb (k .tally .last) (y .count)) (y .end .0) (y .ended .0) ≡ g (k .tally .ended .0) (k .tally .last) rs
   unfolding withRow countedRow
-  end-kept here on =
-      value-kept (λ x. x .tally .end .0) (λ x. x .tally .last) (λ x. x .tally .ended .0) (λ r. r .end) g (λ x r. refl)
+  end-written here on =
+      value-written (λ x. x .tally .end .0) (λ x. x .tally .last) (λ x. x .tally .ended .0) (λ r. r .end) g (λ x r. refl)
       (λ x r. cases (eqb (x .tally .count) (x .tally .last)) (λ e. rw e refl) (λ e. rw e refl)) (λ x i. none _ i) (λ x r rs. here _ r rs) (λ x i r rs. on _ i r rs) rs k (k .tally .last) (omega arith) few
 
   -- the start of a row, or else a column
-  pub start-kept : ((e : ℕ) (r : Row) (rs : List Row) → g e 0 (r ∷ rs) ≡ r .start) → ((e i : ℕ) (r : Row) (rs : List Row) → g e (suc i) (r ∷ rs) ≡ g e i rs)
+  pub start-written : ((e : ℕ) (r : Row) (rs : List Row) → g e 0 (r ∷ rs) ≡ r .start) → ((e i : ℕ) (r : Row) (rs : List Row) → g e (suc i) (r ∷ rs) ≡ g e i rs)
       → (e : ℕ) → cond (ltb (k .tally .first) (y .count)) (y .start .0) e ≡ g e (k .tally .first) rs
   unfolding withRow countedRow
-  start-kept here on e =
-      value-kept (λ x. x .tally .start .0) (λ x. x .tally .first) (λ x. e) (λ r. r .start) g (λ x r. refl)
+  start-written here on e =
+      value-written (λ x. x .tally .start .0) (λ x. x .tally .first) (λ x. e) (λ r. r .start) g (λ x r. refl)
       (λ x r. cases (eqb (x .tally .count) (x .tally .first)) (λ f. rw f refl) (λ f. rw f refl)) (λ x i. none e i) (λ x r rs. here e r rs) (λ x i r rs. on e i r rs) rs k (k .tally .first) (omega arith) few

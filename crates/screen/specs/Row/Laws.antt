@@ -15,7 +15,7 @@ use Rattle.screen.specs.Records.{Record}
 use Rattle.screen.specs.WellFormed.{clustersIn, isBackspace}
 use Rattle.screen.specs.Row.{Cell, plain, blank, isLater, lostEnd, lostStart, put, Screen, back, withAttributes, passes, write, clear, right, onCluster, onClusters, onRecord, onRecords}
 
--- ---- the littleEndian of cells
+-- ---- the number of cells
 
 lostEnd-length : (cs : List Cell) → length (lostEnd cs) ≡ length cs
 unfolding lostEnd

@@ -15,7 +15,7 @@ use Rattle.spans.specs.Spans.{Record, records}
 use Rattle.spans.specs.Calls.{Read, question3}
 use Rattle.spans.specs.declared.Reading.{Reading}
 use Rattle.spans.specs.declared.NextReading.{NextReading}
-use Rattle.spans.specs.Stretches.{remaining, Sound, firstRecord}
+use Rattle.spans.specs.Segments.{remaining, Sound, firstRecord}
 
 abbrev pub refusedBy : ℕ → Reading
 refusedBy n = record { number = n; len = 0; places = 0; cursor = record { place = record { at = 0; run = 0 }; end = 0; matched = record { kind = 1; number = 0 }; index = 0; offsets = record { origin = 0; passed = 0; next = record { from = 0; upto = 0; found = false } }; count = 0 } }

@@ -5,7 +5,7 @@ use mathlib.Core.Bool.{Bool, true, cond, _&&_}
 use mathlib.Core.List.{List, [], _∷_}
 use lib.ListN.{length, drop}
 use lib.Dec.{leb}
-use Rattle.spans.specs.Search.{Stretch, stretch, escapeMatch, escapesFrom, lengthOf, offsetFrom}
+use Rattle.spans.specs.Search.{EscapeRange, escapeRange, escapeMatch, escapesFrom, lengthOf, offsetFrom}
 use Rattle.spans.specs.declared.search.Escape.{Escape}
 use Rattle.spans.specs.declared.search.Offsets.{Offsets}
 use Rattle.spans.specs.declared.search.Offset.{Offset}
@@ -20,12 +20,12 @@ pub record EscapeMatched (s : List ℕ) (at r : ℕ) : Type 0 where
   pub fits : at + r ≤ length s
 
 -- the matches from a place on
-abbrev pub escapesAt : List ℕ → ℕ → List Stretch
+abbrev pub escapesAt : List ℕ → ℕ → List EscapeRange
 escapesAt s at = escapesFrom at 0 (drop at s)
 
-unfoldable pub escapesOf : List ℕ → Escape → List Stretch
+unfoldable pub escapesOf : List ℕ → Escape → List EscapeRange
 unfolding escapesFrom
-escapesOf s e = cond (e .found) (stretch (e .from) (e .upto) ∷ escapesAt s (e .upto)) []
+escapesOf s e = cond (e .found) (escapeRange (e .from) (e .upto) ∷ escapesAt s (e .upto)) []
 
 -- a match lies where it was looked for
 pub record EscapeInside (s : List ℕ) (at : ℕ) (e : Escape) : Type 0 where

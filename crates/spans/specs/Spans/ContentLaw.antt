@@ -21,7 +21,7 @@ use Rattle.text.specs.Cluster.{clusters, joinAll}
 use Rattle.text.specs.Cluster.Laws.{clusters-all, join-bytes, join-cons}
 use Rattle.spans.specs.Sequence.{sgr, eraseToEnd, ignored, hyperlink, lineDrawing, Found, found, missing, parse}
 use Rattle.spans.specs.Sequence.Laws.{parse-stable}
-use Rattle.spans.specs.Search.{Stretch, offsetFrom, escapes, readPart, readMatches, read}
+use Rattle.spans.specs.Search.{EscapeRange, offsetFrom, escapes, readPart, readMatches, read}
 use Rattle.spans.specs.Spans.{Content, text, control, invalid, unprintable, escape, tab, crlf, lf, Span, span, ClusterKind, plain, special, escapeKind, controlKind, joinText, addText, addCluster, clusterKind, readFrom, readPieces, spansAt, spans, Record, aRecord, kindOf, matchOf, recordOf}
 
 -- ---- what a record says of the bytes from its place on
@@ -249,7 +249,7 @@ module _ (P : Profile) (line : List ℕ) where
         (ap (drop a) front ∙ drop-append-le a s after (leb-true a (length s) e) ∙ ap (λ (l : List ℕ). l ++ after) (sym (take-append-drop (b - a) (drop a s))) ∙ append-assoc (take (b - a) (drop a s)) (drop (b - a) (drop a s)) after))
         (λ e. rw (drop-of-length-le s {i = a} (omega (arith, leb-false a (length s) e)), take-nil {A = ℕ} (b - a)) (spansAt-stands m a [] (drop a line) refl))
 
-    readMatches-stands : (es : List Stretch) (start k : ℕ) (ms : List ℕ) → All (StandsIn line) (readMatches P es start k ms s)
+    readMatches-stands : (es : List EscapeRange) (start k : ℕ) (ms : List ℕ) → All (StandsIn line) (readMatches P es start k ms s)
     unfolding readMatches
     readMatches-stands es start k [] = readPart-stands none start (length s)
     readMatches-stands es start k (a ∷ []) = all-nil

@@ -245,7 +245,7 @@ module _ (P : Profile) where
   unfolding spansAt readPieces
   step-invalid m p b s e = ap (readPieces P m p) (runs-damaged b s e)
 
-  -- a stretch with bytes left has a span
+  -- a segment with bytes left has a span
   some-cluster : (m : Option ℕ) (p : ℕ) (s : List ℕ) (g : List Scalar) (gs : List (List Scalar)) → clustersOf s ≡ g ∷ gs → (w : ClusterKind) → clusterKind P g (bytesOf (joinAll gs)) ≡ w → 0 < length (spansAt P m p s)
   unfolding isPlain
   some-cluster m p s g gs e plain f = rw (step-text m p s g gs e (sym (plain-same g (bytesOf (joinAll gs))) ∙ ap isPlain f)) (omega arith)

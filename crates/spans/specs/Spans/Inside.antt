@@ -21,7 +21,7 @@ use Rattle.text.specs.Cluster.Laws.{clusters-all, join-length}
 use Rattle.text.specs.Cluster.Walk.{clusters-some}
 use Rattle.spans.specs.Sequence.{Found, found, missing, parse}
 use Rattle.spans.specs.Sequence.Laws.{parse-length}
-use Rattle.spans.specs.Search.{Stretch, offsetFrom, escapes, readPart, readMatches, read}
+use Rattle.spans.specs.Search.{EscapeRange, offsetFrom, escapes, readPart, readMatches, read}
 use Rattle.spans.specs.Spans.{Content, text, control, invalid, unprintable, escape, tab, crlf, lf, Span, span, ClusterKind, plain, special, escapeKind, controlKind, joinText, addText, addCluster, clusterKind, readFrom, readPieces, spansAt, spans}
 use Rattle.spans.specs.Spans.Laws.{no-spans}
 
@@ -136,7 +136,7 @@ module _ (P : Profile) where
       room : (n : ℕ) (s : List ℕ) → a + length s ≤ length line → a + length (take n s) ≤ length line
       room n s h = cases (leb n (length s)) (λ e. rw (length-take-le n s (leb-true n (length s) e)) (omega (arith, leb-true n (length s) e))) (λ e. rw (take-all n s (omega (arith, leb-false n (length s) e))) h)
 
-  readMatches-inside : (es : List Stretch) (start k : ℕ) (ms line : List ℕ) → All (Between 0 (length line)) (readMatches P es start k ms line)
+  readMatches-inside : (es : List EscapeRange) (start k : ℕ) (ms line : List ℕ) → All (Between 0 (length line)) (readMatches P es start k ms line)
   unfolding readMatches
   readMatches-inside es start k [] line = readPart-inside none start (length line) line
   readMatches-inside es start k (a ∷ []) line = all-nil

@@ -20,22 +20,22 @@ spansIn line rs = map (spanIn line) rs
 
 module _ (line : List ℕ) where
   -- spans that hold what their records say of the line
-  abbrev pub Held : List Span → Type 0
-  Held ss = All (λ (s : Span). contentOf line (recordOf s) ≡ s .content) ss
+  abbrev pub HasContents : List Span → Type 0
+  HasContents ss = All (λ (s : Span). contentOf line (recordOf s) ≡ s .content) ss
 
-  pub spansIn-records : {ss : List Span} → Held ss → spansIn line (records ss) ≡ ss
+  pub spansIn-records : {ss : List Span} → HasContents ss → spansIn line (records ss) ≡ ss
   unfolding spansIn spanIn records recordOf
   spansIn-records all-nil = refl
   spansIn-records (all-cons {a = s} h a) = ap₂ (λ (x : Span) (xs : List Span). x ∷ xs) (ap (span (s .place) (s .len)) h) (spansIn-records a)
 
   -- records that are those of the spans that they stand for
-  pub spansIn-held : (rs : List Record) → records (spansIn line rs) ≡ rs → Held (spansIn line rs)
+  pub spansIn-contents : (rs : List Record) → records (spansIn line rs) ≡ rs → HasContents (spansIn line rs)
   unfolding spansIn spanIn records
-  spansIn-held [] e = all-nil
-  spansIn-held (r ∷ rs) e =
+  spansIn-contents [] e = all-nil
+  spansIn-contents (r ∷ rs) e =
       let h : recordOf (spanIn line r) ≡ r = cc in
       let t : records (spansIn line rs) ≡ rs = cc in
-      all-cons (ap (contentOf line) h) (spansIn-held rs t)
+      all-cons (ap (contentOf line) h) (spansIn-contents rs t)
 
   pub spansIn-none : records (spansIn line []) ≡ []
   unfolding spansIn records

@@ -19,7 +19,7 @@ use Rattle.text.specs.Cluster.{clusters, joinAll}
 use Rattle.text.specs.Cluster.Laws.{clusters-all, join-length}
 use Rattle.text.specs.Cluster.Walk.{clusters-some}
 use Rattle.spans.specs.Spans.{Content, text, control, invalid, unprintable, escape, tab, crlf, lf, Span, ClusterKind, plain, special, joinText, addText, addCluster, clusterKind, readFrom, readPieces, spansAt, spans}
-use Rattle.spans.specs.Search.{Stretch, escapeMatch, addStretch, escapesFrom, trimmed, escapes, searchedLength, inOrder, offsetFrom, readPart, readMatches, read}
+use Rattle.spans.specs.Search.{EscapeRange, escapeMatch, addEscape, escapesFrom, trimmed, escapes, searchedLength, inOrder, offsetFrom, readPart, readMatches, read}
 
 -- a cluster adds at most one span
 
@@ -70,22 +70,22 @@ module _ (P : Profile) where
 
 -- ---- offsets keep their order
 
--- stretches in their order, from place o on
-unfoldable Ascending : ℕ → List Stretch → Type 0
+-- segments in their order, from place o on
+unfoldable Ascending : ℕ → List EscapeRange → Type 0
 Ascending o [] = Unit {0}
 Ascending o (e ∷ es) = (o ≤ e .from) × ((e .from ≤ e .upto) × Ascending (e .upto) es)
 
-ascending-on : (o p : ℕ) → o ≤ p → (es : List Stretch) → Ascending p es → Ascending o es
+ascending-on : (o p : ℕ) → o ≤ p → (es : List EscapeRange) → Ascending p es → Ascending o es
 unfolding Ascending
 ascending-on o p h [] a = tt
 ascending-on o p h (e ∷ es) a = (omega (arith, a .0), a .1)
 
 escapes-ascend : (s : List ℕ) → (p k : ℕ) → Ascending (p + k) (escapesFrom p k s)
-unfolding escapesFrom addStretch Ascending
+unfolding escapesFrom addEscape Ascending
 escapes-ascend [] = λ p k. tt
 escapes-ascend (b ∷ s) = λ p k. go (λ p k. escapes-ascend s p k) p k
   where
-    add : (p n : ℕ) (go : ℕ → List Stretch) → ((k : ℕ) → Ascending (suc p + k) (go k)) → Ascending p (addStretch p n go)
+    add : (p n : ℕ) (go : ℕ → List EscapeRange) → ((k : ℕ) → Ascending (suc p + k) (go k)) → Ascending p (addEscape p n go)
     add p zero go h = ascending-on p (suc p + 0) (omega arith) (go zero) (h zero)
     add p (suc n) go h = (omega arith, (omega arith, ascending-on (p + suc n) (suc p + n) (omega arith) (go n) (h n)))
 
@@ -93,13 +93,13 @@ escapes-ascend (b ∷ s) = λ p k. go (λ p k. escapes-ascend s p k) p k
     go ih p zero = ascending-on (p + 0) p (omega arith) (escapesFrom p zero (b ∷ s)) (add p (escapeMatch (b ∷ s)) (λ k. escapesFrom (suc p) k s) (λ k. ih (suc p) k))
     go ih p (suc k) = ascending-on (p + suc k) (suc p + k) (omega arith) (escapesFrom (suc p) k s) (ih (suc p) k)
 
-offset-from : (es : List Stretch) → (o r : ℕ) → Ascending o es → o ≤ offsetFrom o r es
+offset-from : (es : List EscapeRange) → (o r : ℕ) → Ascending o es → o ≤ offsetFrom o r es
 unfolding offsetFrom Ascending
 offset-from [] = λ o r a. omega arith
 offset-from (e ∷ es) = λ o r a.
     cases (ltb (o + r) (e .from)) (λ t. rw t (omega arith)) (λ t. rw t (omega (arith, a .0, a .1 .0, offset-from es (e .upto) (r - (e .from - o)) (a .1 .1))))
 
-offset-grows : (es : List Stretch) → (o x y : ℕ) → Ascending o es → x ≤ y → offsetFrom o x es ≤ offsetFrom o y es
+offset-grows : (es : List EscapeRange) → (o x y : ℕ) → Ascending o es → x ≤ y → offsetFrom o x es ≤ offsetFrom o y es
 unfolding offsetFrom Ascending
 offset-grows [] = λ o x y a h. omega arith
 offset-grows (e ∷ es) = λ o x y a h.
@@ -120,7 +120,7 @@ module _ (P : Profile) (s : List ℕ) where
       (λ e. let n = length-take-le (b - a) (drop a s) (leb-true (b - a) (length (drop a s)) e) in let z = leb-true (b - a) (length (drop a s)) e in (omega arith, omega arith))
       (λ e. let n = ap length (take-all (b - a) (drop a s) (omega (arith, leb-false (b - a) (length (drop a s)) e))) in let z = leb-false (b - a) (length (drop a s)) e in (omega arith, omega arith))
 
-  module _ (es : List Stretch) (a : Ascending 0 es) (most : ℕ) where
+  module _ (es : List EscapeRange) (a : Ascending 0 es) (most : ℕ) where
     readMatches-few : (ms : List ℕ) → (start k e : ℕ) → start ≤ offsetFrom 0 e es → inOrder most e ms ≡ true → length (readMatches P es start k ms s) ≤ length s - start
     unfolding readMatches inOrder
     readMatches-few [] = λ start k e h o. omega (arith, readPart-few none start (length s) .1)

@@ -1,5 +1,5 @@
 use borrow.Author.Needs.{needs}
-use Rattle.text.specs.Code.{profileOf}
+use Rattle.text.specs.Class.Code.{profileOf}
 use Rattle.text.proofs.ConvertCall.{accepted, refused-long, refused-small}
 use Rattle.text.proofs.convert.Statement.{statement}
 use Rattle.text.proofs.convert.Tie as tie

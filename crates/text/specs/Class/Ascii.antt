@@ -9,7 +9,7 @@ use lib.Dec.{eqb, leb, leb→le}
 use borrow.Author.Tests.{eqb-true, lt-leb, ne-eqb}
 use Rattle.text.specs.Tests.{cases, and-T, true-T}
 use Rattle.text.specs.Class.{Class, Profile, among, control, cr, lf, number, other}
-use Rattle.text.specs.Code.{printable}
+use Rattle.text.specs.Class.Code.{printable}
 
 -- the class of a scalar below 80
 abbrev pub asciiClass : ℕ → Class

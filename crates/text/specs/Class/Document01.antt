@@ -11,7 +11,7 @@ use Rattle.text.specs.Utf8.{to}
 use Rattle.text.specs.Class.{among, class01, controls, extends, inAny, number}
 use Rattle.text.specs.Class.Ranges.{clear, clear-within, clear-any, not-one}
 use Rattle.text.specs.Width.{wides, width01}
-use Rattle.text.specs.Code.{jamo, printable, profileOf, syllable}
+use Rattle.text.specs.Class.Code.{jamo, printable, profileOf, syllable}
 use Rattle.text.specs.declared.class.Profile as code
 
 -- every test of class01 fails from a to b

@@ -14,7 +14,8 @@ use Rattle.text.specs.Class.Ascii.{AsciiClasses, SyllableColumns, by-syl
 use Rattle.text.specs.Width.{widthOf}
 use Rattle.text.specs.Cluster.{Context, classOf, clusters, context, joined, joins}
 use Rattle.text.specs.Cluster.Laws.{clusters-apart, clusters-first, clusters-nil, clusters-one}
-use Rattle.text.specs.Code.{firstOf, printable}
+use Rattle.text.specs.Segmentation.{firstOf}
+use Rattle.text.specs.Class.Code.{printable}
 
 -- ---- the rules
 

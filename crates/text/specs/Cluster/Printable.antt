@@ -1,12 +1,15 @@
 -- Printable texts: as wide as they are long, each scalar a cluster by itself.
-use mathlib.Core.Path.{_≡_, refl}
+use mathlib.Core.Path.{_≡_, refl, sym, ap, _∙_}
 use native.Mathlib.Omega.{arith}
-use Prim.Native.Nat.{ℕ}
+use Prim.Native.Nat.{ℕ, _+_}
+use native.Mathlib.Nat.{add-zero}
 use mathlib.Core.Bool.{true}
 use mathlib.Core.List.{List, [], _∷_}
-use lib.ListN.{length}
+use lib.ListN.{length, getD, drop}
+use lib.Seq.{getD-drop}
 use Rattle.text.specs.Each.{All, all-nil, all-cons, all-map}
 use Rattle.text.specs.Utf8.{ascii, asciis, decode, runOf}
+use Rattle.text.specs.Utf8.Ascii.{ascii-run}
 use Rattle.text.specs.Utf8.AsciiTexts.{asciis-cons, asciis-nil, run-asciis}
 use Rattle.text.specs.Class.{Profile}
 use Rattle.text.specs.Class.Ascii.{AsciiClasses, printable-class, printable-columns, printable-range}
@@ -14,8 +17,9 @@ use Rattle.text.specs.Width.{widthOf}
 use Rattle.text.specs.Cluster.{clusters}
 use Rattle.text.specs.Cluster.Ascii.{syllable-cluster}
 use Rattle.text.specs.Cluster.Laws.{clusters-nil, clusters-one}
-use Rattle.text.specs.Code.{printable}
-use Rattle.text.specs.Code.Laws.{width-cons, width-nil}
+use Rattle.text.specs.Class.Code.{printable}
+use Rattle.text.specs.Segmentation.{firstOf}
+use Rattle.text.specs.Width.Laws.{width-cons, width-nil}
 
 abbrev pub Printable : List ℕ → Type 0
 Printable s = All (λ (b : ℕ). printable b ≡ true) s
@@ -36,3 +40,15 @@ module _ (P : Profile) (a : AsciiClasses P) where
   printable-clusters b (c ∷ s) (all-cons e (all-cons f h)) =
       rw (asciis-cons b (c ∷ s), asciis-cons c s)
       (syllable-cluster P a (ascii b) (ascii c) (asciis s) (rw (printable-class P a b e) refl) (rw (printable-class P a c f) refl))
+
+  -- a printable byte before another is a cluster by itself
+  pub printable-first : (s : List ℕ) (p b c : ℕ) → b ≡ getD s p 0 → c ≡ getD s (p + 1) 0 → printable b ≡ true → printable c ≡ true → firstOf (clusters P (runOf (decode (drop p s)))) ≡ ascii b ∷ []
+  unfolding firstOf
+  printable-first s p b c e f h g =
+      let t : drop p s ≡ b ∷ c ∷ drop 2 (drop p s) = two (drop p s) (e ∙ ap (λ (n : ℕ). getD s n 0) (sym (add-zero p)) ∙ sym (getD-drop p s 0 0)) (f ∙ sym (getD-drop p s 1 0)) in
+      rw (t, ascii-run b (c ∷ drop 2 (drop p s)) (omega (arith, printable-range b h .1)), ascii-run c (drop 2 (drop p s)) (omega (arith, printable-range c g .1)), syllable-cluster P a (ascii b) (ascii c) (runOf (decode (drop 2 (drop p s)))) (rw (printable-class P a b h) refl) (rw (printable-class P a c g) refl)) refl
+    where
+      two : (t : List ℕ) → b ≡ getD t 0 0 → c ≡ getD t 1 0 → t ≡ b ∷ c ∷ drop 2 t
+      two [] x y = absurd (omega (arith, printable-range b h .0))
+      two (d ∷ []) x y = absurd (omega (arith, printable-range c g .0))
+      two (d ∷ d′ ∷ t) x y = rw (x, y)

@@ -13,8 +13,8 @@ use Rattle.text.specs.Class.{Class, Profile, among, class01, classL, cla
 use Rattle.text.specs.Class.Ranges.{eachIn, each-in}
 use Rattle.text.specs.Width.{profile01}
 use Rattle.text.specs.Cluster.{Context, context, joined, joins}
-use Rattle.text.specs.Code.{profileOf}
-use Rattle.text.specs.Code.Boundaries.{apart-numbers}
+use Rattle.text.specs.Class.Code.{profileOf}
+use Rattle.text.specs.Segmentation.Boundaries.{apart-numbers}
 use Rattle.text.specs.declared.class.Profile as code
 
 -- what stands before, the nearest first, ends in no whitespace

@@ -8,7 +8,8 @@ use Rattle.text.specs.Utf8.{Scalar, decode, runOf, bytesOf}
 use Rattle.text.specs.Utf8.Runs.{run-valid, run-rest, front-bytes, front-run, rest-bytes, run-length}
 use Rattle.text.specs.Utf8.Valid.{Valid}
 use Rattle.text.specs.Each.{All, all-nil, all-cons, all-split}
-use Rattle.text.specs.Code.{firstOf, firstSize, size}
+use Rattle.text.specs.Segmentation.{firstOf, firstSize}
+use Rattle.text.specs.Utf8.Code.{size}
 use Rattle.text.specs.Class.{Profile}
 use Rattle.text.specs.Cluster.{clusters, clustersAfter, joinAll}
 use Rattle.text.specs.Cluster.Laws.{further, clusters-first, clusters-all}

@@ -9,7 +9,7 @@ use lib.ListN.{drop, length, take}
 use lib.Seq.{slice}
 use Rattle.text.specs.Backward.{ParityPlace, backward}
 use Rattle.text.specs.Class.{Profile}
-use Rattle.text.specs.Code.{runOf, size, whole}
+use Rattle.text.specs.Utf8.Code.{runOf, size, whole}
 use Rattle.text.specs.Overstrike.{Pending, State, Style, bold, boldUnderline, convertPieces, convertRun, finish, hasBackspace, held, none, normal, onBackspace, onCluster, order, push, state, struck, underline}
 use Rattle.text.specs.Overstrike.Length.{weight}
 use Rattle.text.specs.Utf8.{Scalar, asciis, bytesOf, decode, runs}

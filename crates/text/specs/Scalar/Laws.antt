@@ -12,8 +12,9 @@ use borrow.Author.Tests.{eqb-false, eqb-true, ltb-false, ltb-true}
 use Rattle.text.specs.Class.{Class, Profile, classL, classLV, classLVT, classT, classV, control, cr, extend, lf, number, other, regionalIndicator, zwj}
 use Rattle.text.specs.Cluster.{classOf, clusters}
 use Rattle.text.specs.Cluster.Laws.{clusters-first}
-use Rattle.text.specs.Code.{firstOf, firstSequence, size}
-use Rattle.text.specs.Code.Laws.{ScalarAt, none-at, none-past, scalar-at}
+use Rattle.text.specs.Segmentation.{firstOf}
+use Rattle.text.specs.Utf8.Code.{firstSequence, size}
+use Rattle.text.specs.Utf8.Code.Laws.{ScalarAt, none-at, none-past, scalar-at}
 use Rattle.text.specs.Scalar.{packedAt}
 use Rattle.text.specs.Tests.{and-T, cases}
 use Rattle.text.specs.TextParts.{textAt}

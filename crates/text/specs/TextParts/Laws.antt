@@ -14,8 +14,10 @@ use Rattle.text.specs.Utf8.Valid.{Valid}
 use Rattle.text.specs.Class.{Profile}
 use Rattle.text.specs.Cluster.{clusters}
 use Rattle.text.specs.Cluster.Laws.{clusters-first, further}
-use Rattle.text.specs.Code.{firstOf, size}
-use Rattle.text.specs.Code.Laws.{FirstCluster, first-cluster, run-behind}
+use Rattle.text.specs.Segmentation.{firstOf}
+use Rattle.text.specs.Utf8.Code.{size}
+use Rattle.text.specs.Segmentation.Laws.{FirstCluster, first-cluster}
+use Rattle.text.specs.Utf8.Code.Laws.{run-behind}
 use Rattle.text.specs.TextParts.{textAt, Measured}
 use Rattle.text.specs.declared.TextPart.{TextPart}
 

@@ -9,7 +9,7 @@ use Rattle.text.specs.Utf8.{Scalar, scalar, value, ascii, asciis, decode
 use Rattle.text.specs.Utf8.Ascii.{low-sequence}
 use Rattle.text.specs.Utf8.Laws.{decode-good}
 use Rattle.text.specs.Utf8.Valid.{Valid, run-text}
-use Rattle.text.specs.Code.{size}
+use Rattle.text.specs.Utf8.Code.{size}
 
 pub ascii-valid : (b : ℕ) → b < 0x80 → Valid (ascii b)
 unfolding scalar value

@@ -9,7 +9,7 @@ use Rattle.text.specs.Tests.{and-T, every, every-one, or-T, true-T}
 use Rattle.text.specs.Utf8.{to, within}
 use Rattle.text.specs.Class.{Profile}
 use Rattle.text.specs.Width.{profile01, width01}
-use Rattle.text.specs.Code.{profileOf}
+use Rattle.text.specs.Class.Code.{profileOf}
 use Rattle.text.specs.declared.class.Profile as code
 
 abbrev pub symbol : ℕ → Bool

@@ -1,7 +1,7 @@
 use Prim.Native.Nat.{_-_}
 use native.Mathlib.Omega.{arith}
 use lib.ListN.{length}
-use Rattle.text.specs.Code.{profileOf}
+use Rattle.text.specs.Class.Code.{profileOf}
 use Rattle.drawing.proofs.Clipping.{Measuring, measure-begin, measure-byte, measure-room, measure-on, measure-bad, measure-end}
 use borrow.Author.Needs.{needs}
 use Rattle.drawing.proofs.clip.measure_scalars.Statement.{statement}

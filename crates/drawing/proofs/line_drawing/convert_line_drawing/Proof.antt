@@ -1,5 +1,5 @@
 use Rattle.drawing.proofs.LineDrawing.{replaceable}
-use Rattle.text.specs.Code.Laws.{scalar-at}
+use Rattle.text.specs.Utf8.Code.Laws.{scalar-at}
 use mathlib.Core.Path.{_≡_}
 use borrow.Author.Needs.{needs}
 use Rattle.drawing.proofs.LineDrawing.{Converting, convert-begin, convert-past, convert-bad, convert-replaced, convert-kept}

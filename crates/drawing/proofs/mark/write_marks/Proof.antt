@@ -1,4 +1,4 @@
-use Rattle.text.specs.Code.Laws.{scalar-at}
+use Rattle.text.specs.Utf8.Code.Laws.{scalar-at}
 use borrow.Author.Needs.{needs}
 use Rattle.drawing.proofs.Marks.{MarksOn, marks-begin, marks-end, marks-bad, marks-turn}
 use lib.ListN.{length}

@@ -2,8 +2,9 @@ use Prim.Native.Nat.{_+_, _-_, _*_}
 use native.Mathlib.Omega.{arith}
 use mathlib.Core.Bool.{cond}
 use lib.ListN.{length}
-use Rattle.text.specs.Code.{profileOf}
-use Rattle.text.specs.Code.Laws.{scalar-at, width-two}
+use Rattle.text.specs.Class.Code.{profileOf}
+use Rattle.text.specs.Utf8.Code.Laws.{scalar-at}
+use Rattle.text.specs.Width.Laws.{width-two}
 use Rattle.rows.proofs.WordLoop.{WordLoop, word-begins, byte-on, word-damaged, word-on, word-apart, word-hyphen, word-turns, word-ends}
 use borrow.Author.Needs.{needs}
 use Rattle.rows.proofs.words.next_word.Statement.{statement}

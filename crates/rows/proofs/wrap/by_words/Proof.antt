@@ -1,7 +1,7 @@
 use Rattle.rows.proofs.wrap.by_words.Statement.{statement}
 use Rattle.rows.proofs.wrap.by_words.Tie as tie
 use Rattle.rows.proofs.WrappedTexts.{Wording, word-begin, words-stop, words-turn, words-end}
-use Rattle.text.specs.Code.{profileOf}
+use Rattle.text.specs.Class.Code.{profileOf}
 use native.Mathlib.Omega.{arith}
 use borrow.Author.Needs.{needs}
 use Prim.Native.Nat.{_-_}

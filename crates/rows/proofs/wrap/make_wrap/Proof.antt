@@ -51,7 +51,7 @@ use denote.Triple.Spec.{Meets, tripleOf}
 use denote.Triple.Table.{entered, cited}
 use denote.Triple.Walked.{says, needs, Stays, stay-slice, stay-none-slice, stay-none, walkOf, goes-slice, goes-none-slice, goes-none, Walks, ends-at, walked, walk-meets}
 use denote.Exit.{yes}
-use Rattle.text.specs.Code.{profileOf}
+use Rattle.text.specs.Class.Code.{profileOf}
 use Rattle.spans.specs.declared.Span.{Span}
 use Rattle.spans.specs.Calls.{noRecord}
 use Rattle.spans.proofs.Span as T

@@ -17,7 +17,7 @@ tab-requires : tie.Need-tab-requires
 tab-requires c κs = search needs
 
 slice-aggregate-text-of : tie.Need-slice-aggregate-text-of
-slice-aggregate-text-of c = sym (length-take-le _ _ (c .before .before .before .before .before .before .before .before .before .before .pre .held))
+slice-aggregate-text-of c = sym (length-take-le _ _ (c .before .before .before .before .before .before .before .before .before .before .pre .fits))
 
 text-of-requires : tie.Need-text-of-requires
 text-of-requires c κs = search needs

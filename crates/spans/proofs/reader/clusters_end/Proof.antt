@@ -1,6 +1,6 @@
 use Prim.Native.Nat.{_-_}
 use lib.ListN.{length}
-use Rattle.text.specs.Code.{profileOf}
+use Rattle.text.specs.Class.Code.{profileOf}
 use Rattle.spans.proofs.TextEnd.{ClustersLoop, clusters-begin, clusters-less, clusters-more, clusters-past, clusters-printable, clusters-ready, clusters-stop}
 use borrow.Author.Needs.{needs}
 use Rattle.spans.proofs.reader.clusters_end.Statement.{statement}

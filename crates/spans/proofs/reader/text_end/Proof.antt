@@ -1,6 +1,6 @@
 use Prim.Native.Nat.{_-_}
 use lib.ListN.{length}
-use Rattle.text.specs.Code.{profileOf}
+use Rattle.text.specs.Class.Code.{profileOf}
 use Rattle.spans.specs.Reader.{PlainTo}
 use Rattle.spans.proofs.PlainClusters.{plain-here}
 use Rattle.spans.proofs.TextEnd.{other-here, text-control, text-control-behind, text-falls, text-more, text-past, text-stops}

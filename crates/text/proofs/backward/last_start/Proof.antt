@@ -2,7 +2,8 @@ use native.Mathlib.Omega.{arith}
 use mathlib.Core.List.{reverse}
 use borrow.Author.Needs.{needs}
 use Rattle.text.specs.Backward.{withoutLast}
-use Rattle.text.specs.Code.{profileOf, runOf, size}
+use Rattle.text.specs.Class.Code.{profileOf}
+use Rattle.text.specs.Utf8.Code.{runOf, size}
 use Rattle.text.specs.Utf8.{decode}
 use Rattle.text.proofs.BackwardWalk.{At, last-begin, last-empty, last-end, last-inside, last-on, last-stop}
 use Rattle.text.proofs.ContinuationBytes.{back-lt}

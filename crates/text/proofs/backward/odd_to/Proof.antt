@@ -1,7 +1,7 @@
 use Prim.Native.Nat.{_≤_}
 use lib.ListN.{length}
 use Rattle.text.specs.Backward.{oddTo}
-use Rattle.text.specs.Code.{profileOf}
+use Rattle.text.specs.Class.Code.{profileOf}
 use Rattle.text.proofs.BackwardWalk.{OddLoop, odd-begin}
 use Rattle.text.proofs.RegionalIndicators.{odd-even, odd-few, odd-stops, odd-turns}
 use borrow.Author.Needs.{needs}

@@ -1,6 +1,6 @@
 use borrow.Author.Needs.{needs}
 use Rattle.text.specs.Class.{class01, inAny, number}
-use Rattle.text.specs.Code.{profileOf}
+use Rattle.text.specs.Class.Code.{profileOf}
 use Rattle.text.specs.Utf8.{fits}
 use Rattle.text.specs.Tests.{in-range}
 use Rattle.text.proofs.ClassNumbers.{numbered}

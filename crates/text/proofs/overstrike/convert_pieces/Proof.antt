@@ -3,7 +3,7 @@ use native.Mathlib.Omega.{arith}
 use mathlib.Core.Path.{_≡_}
 use lib.ListN.{length}
 use borrow.Author.Needs.{needs}
-use Rattle.text.specs.Code.{profileOf}
+use Rattle.text.specs.Class.Code.{profileOf}
 use Rattle.text.proofs.Converting.{Pieces, pieces-begin, pieces-end, pieces-ready, pieces-turn}
 use Rattle.text.proofs.overstrike.convert_pieces.Statement.{statement}
 use Rattle.text.proofs.overstrike.convert_pieces.Tie as tie

@@ -2,7 +2,7 @@ use Prim.Native.Nat.{_-_}
 use mathlib.Core.Path.{_≡_}
 use lib.ListN.{length}
 use borrow.Author.Needs.{needs}
-use Rattle.text.specs.Code.{profileOf}
+use Rattle.text.specs.Class.Code.{profileOf}
 use Rattle.text.proofs.Converting.{Running, running-begin, running-damaged, running-end, running-finish, running-less, running-ready, running-turn}
 use Rattle.text.proofs.overstrike.convert_unicode_span.Statement.{statement}
 use Rattle.text.proofs.overstrike.convert_unicode_span.Tie as tie

@@ -1,6 +1,6 @@
-use Rattle.text.specs.Code.{profileOf}
+use Rattle.text.specs.Class.Code.{profileOf}
 use Rattle.text.proofs.ForwardWalk.{class-small}
-use Rattle.text.specs.Code.Laws.{width-two}
+use Rattle.text.specs.Width.Laws.{width-two}
 use native.Mathlib.Omega.{arith}
 use borrow.Author.Needs.{needs}
 use Rattle.text.proofs.scalar.pack.Statement.{statement}

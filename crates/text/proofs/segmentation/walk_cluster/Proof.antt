@@ -1,7 +1,7 @@
 use Prim.Native.Nat.{_-_}
 use native.Mathlib.Omega.{arith}
 use lib.ListN.{length}
-use Rattle.text.specs.Code.{profileOf}
+use Rattle.text.specs.Class.Code.{profileOf}
 use Rattle.text.proofs.ForwardWalk.{Walking, class-le, walk-begin, walk-boundary, walk-end, walk-room, walk-turn, width-room}
 use borrow.Author.Needs.{needs}
 use Rattle.text.proofs.segmentation.walk_cluster.Statement.{statement}

@@ -2,7 +2,7 @@ use native.Mathlib.Omega.{arith}
 use borrow.Author.Needs.{needs}
 use Rattle.text.proofs.utf8.decode.Statement.{statement}
 use Rattle.text.proofs.utf8.decode.Tie as tie
-use Rattle.text.specs.Code.FirstSequence.{ascii-first}
+use Rattle.text.specs.Utf8.Code.FirstSequence.{ascii-first}
 
 shared-slice-read-a : tie.Need-shared-slice-read-a
 shared-slice-read-a c = search needs

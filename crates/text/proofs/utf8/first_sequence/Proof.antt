@@ -1,5 +1,5 @@
 use borrow.Author.Needs.{needs}
-use Rattle.text.specs.Code.FirstSequence.{no-sequence}
+use Rattle.text.specs.Utf8.Code.FirstSequence.{no-sequence}
 use Rattle.text.proofs.utf8.first_sequence.Statement.{statement}
 use Rattle.text.proofs.utf8.first_sequence.Tie as tie
 

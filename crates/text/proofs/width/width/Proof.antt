@@ -1,5 +1,5 @@
 use borrow.Author.Needs.{needs}
-use Rattle.text.specs.Code.{profileOf}
+use Rattle.text.specs.Class.Code.{profileOf}
 use Rattle.text.specs.Utf8.{fits}
 use Rattle.text.specs.Width.{width01}
 use Rattle.lending.specs.Conditions.{branch}

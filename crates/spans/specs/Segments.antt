@@ -1,4 +1,4 @@
--- What the contracts of src/stretches.rt say beyond the definitions.
+-- What the contracts of src/segments.rt say beyond the definitions.
 use mathlib.Core.Path.{_≡_}
 use Prim.Native.Nat.{ℕ, suc, _+_, _-_, _*_, _≤_, _<_}
 use mathlib.Core.Bool.{Bool, true, false, cond, _&&_, _||_}
@@ -10,12 +10,12 @@ use Rattle.text.specs.Class.{Profile}
 use Rattle.spans.specs.Search.{trimmed, escapes, searchedLength, inOrder, offsetFrom, readPart, readMatches, read}
 use Rattle.spans.specs.Spans.{Span, Record, aRecord, records}
 use Rattle.spans.specs.declared.reader.Matched.{Matched}
-use Rattle.spans.specs.declared.stretches.Cursor.{Cursor}
-use Rattle.spans.specs.declared.stretches.NextRecord.{NextRecord}
+use Rattle.spans.specs.declared.segments.Cursor.{Cursor}
+use Rattle.spans.specs.declared.segments.NextRecord.{NextRecord}
 use Rattle.spans.specs.Reader.{RunKnown, isMatch, recordsFrom}
 use Rattle.spans.specs.Search.Contracts.{OffsetsFrom}
 
--- the stretch has no bytes left, of a line of n bytes, and another follows, with k numbers of match ranges
+-- the segment has no bytes left, of a line of n bytes, and another follows, with k numbers of match ranges
 abbrev pub spent : ℕ → ℕ → Cursor → Bool
 spent n k c = (leb (c .end) (c .place .at) || leb n (c .place .at)) && (isMatch (c .matched) || ltb (c .index) k)
 
@@ -31,15 +31,15 @@ pending P line k start (b ∷ ms) =
     let upto : ℕ = offsetFrom 0 b (escapes line) in
     readPart P (some k) start upto line ++ readMatches P (escapes line) upto (suc k) ms line
 
--- what follows a stretch that ends at `end`
-unfoldable pub behindStretch : Profile → List ℕ → Matched → ℕ → List ℕ → List Span
+-- what follows a segment that ends at `end`
+unfoldable pub behindSegment : Profile → List ℕ → Matched → ℕ → List ℕ → List Span
 unfolding pending readMatches escapes
-behindStretch P line m end ms = cond (isMatch m) (readMatches P (escapes line) end (suc (m .number)) ms line) (pending P line (m .number) end ms)
+behindSegment P line m end ms = cond (isMatch m) (readMatches P (escapes line) end (suc (m .number)) ms line) (pending P line (m .number) end ms)
 
 -- the records that a reading has before it
 unfoldable pub remaining : Profile → List ℕ → List ℕ → Cursor → List Record
-unfolding recordsFrom records behindStretch
-remaining P line matches c = recordsFrom P (c .matched) (take (c .end) line) (c .place .at) ++ records (behindStretch P line (c .matched) (c .end) (drop (c .index) matches))
+unfolding recordsFrom records behindSegment
+remaining P line matches c = recordsFrom P (c .matched) (take (c .end) line) (c .place .at) ++ records (behindSegment P line (c .matched) (c .end) (drop (c .index) matches))
 
 -- the numbers left are in order behind the offset `last`
 unfoldable pub orderFrom : Bool → ℕ → ℕ → List ℕ → Bool
@@ -48,9 +48,9 @@ orderFrom true most last ms = inOrder most last ms
 orderFrom false most last [] = true
 orderFrom false most last (b ∷ ms) = leb last b && (leb b most && inOrder most b ms)
 
--- a bound that falls from stretch to stretch
-unfoldable pub stretchesLeft : ℕ → Cursor → ℕ
-stretchesLeft k c = 2 * (k - c .index) + cond (isMatch (c .matched)) 1 0
+-- a bound that falls from segment to segment
+unfoldable pub segmentsLeft : ℕ → Cursor → ℕ
+segmentsLeft k c = 2 * (k - c .index) + cond (isMatch (c .matched)) 1 0
 
 pub record Sound (line matches : List ℕ) (c : Cursor) : Type 0 where
   pub small : length line ≤ 65536
@@ -73,7 +73,7 @@ pub record OutsideReady (line matches : List ℕ) (number : ℕ) (c : Cursor) : 
 pub record OutsideBegun (line matches : List ℕ) (start number : ℕ) (c r : Cursor) : Type 0 where
   pub same : (P : Profile) → remaining P line matches r ≡ records (readMatches P (escapes line) start number (drop (c .index) matches) line)
   pub sound : Sound line matches r
-  pub falls : stretchesLeft (length matches) r ≤ 2 * (length matches - c .index)
+  pub falls : segmentsLeft (length matches) r ≤ 2 * (length matches - c .index)
   pub count : r .count ≡ c .count
 
 pub record InsideReady (line matches : List ℕ) (c : Cursor) : Type 0 where
@@ -85,14 +85,14 @@ pub record AdvanceReady (line matches : List ℕ) (c : Cursor) : Type 0 where
   pub sound : Sound line matches c
   pub spent : spent (length line) (length matches) c ≡ true
 
--- the reading goes on behind the stretch
+-- the reading goes on behind the segment
 pub record Advanced (line matches : List ℕ) (c r : Cursor) : Type 0 where
-  pub same : (P : Profile) → remaining P line matches r ≡ records (behindStretch P line (c .matched) (c .end) (drop (c .index) matches))
+  pub same : (P : Profile) → remaining P line matches r ≡ records (behindSegment P line (c .matched) (c .end) (drop (c .index) matches))
   pub sound : Sound line matches r
-  pub falls : stretchesLeft (length matches) r < stretchesLeft (length matches) c
+  pub falls : segmentsLeft (length matches) r < segmentsLeft (length matches) c
   pub count : r .count ≡ c .count
 
--- the same records, from a stretch with bytes left if there is one
+-- the same records, from a segment with bytes left if there is one
 pub record SpentSkipped (line matches : List ℕ) (c r : Cursor) : Type 0 where
   pub same : (P : Profile) → remaining P line matches r ≡ remaining P line matches c
   pub sound : Sound line matches r

@@ -1,7 +1,7 @@
-use Rattle.spans.proofs.StretchCursor.{has-next-is}
+use Rattle.spans.proofs.SegmentCursor.{has-next-is}
 use borrow.Author.Needs.{needs}
-use Rattle.spans.proofs.stretches.has_next.Statement.{statement}
-use Rattle.spans.proofs.stretches.has_next.Tie as tie
+use Rattle.spans.proofs.segments.has_next.Statement.{statement}
+use Rattle.spans.proofs.segments.has_next.Tie as tie
 
 skip-spent-requires : tie.Need-skip-spent-requires
 skip-spent-requires c κs = search needs

@@ -1,9 +1,9 @@
 use lib.Seq.{length-take-le}
 use mathlib.Core.Path.{sym}
-use Rattle.spans.proofs.StretchCursor.{trimmed-part, open-ready, open-pending, open-last}
+use Rattle.spans.proofs.SegmentCursor.{trimmed-part, open-ready, open-pending, open-last}
 use borrow.Author.Needs.{needs}
-use Rattle.spans.proofs.stretches.outside.Statement.{statement}
-use Rattle.spans.proofs.stretches.outside.Tie as tie
+use Rattle.spans.proofs.segments.outside.Statement.{statement}
+use Rattle.spans.proofs.segments.outside.Tie as tie
 
 trimmed-len-requires : tie.Need-trimmed-len-requires
 trimmed-len-requires c κs = search needs

@@ -1,9 +1,9 @@
 use lib.Seq.{length-take-le}
 use mathlib.Core.Path.{sym}
-use Rattle.spans.proofs.StretchCursor.{trimmed-part, begin-small, begin-opens, begin-done}
+use Rattle.spans.proofs.SegmentCursor.{trimmed-part, begin-small, begin-opens, begin-done}
 use borrow.Author.Needs.{needs}
-use Rattle.spans.proofs.stretches.begin.Statement.{statement}
-use Rattle.spans.proofs.stretches.begin.Tie as tie
+use Rattle.spans.proofs.segments.begin.Statement.{statement}
+use Rattle.spans.proofs.segments.begin.Tie as tie
 
 trimmed-len-requires : tie.Need-trimmed-len-requires
 trimmed-len-requires c κs = search needs

@@ -1,15 +1,15 @@
 use lib.ListN.{length}
-use Rattle.spans.specs.Stretches.{stretchesLeft}
-use Rattle.spans.proofs.StretchCursor.{SettleLoop, settle-begins, settle-going, settle-more, settle-falls, settle-ends}
+use Rattle.spans.specs.Segments.{segmentsLeft}
+use Rattle.spans.proofs.SegmentCursor.{SettleLoop, settle-begins, settle-going, settle-more, settle-falls, settle-ends}
 use borrow.Author.Needs.{needs}
-use Rattle.spans.proofs.stretches.skip_spent.Statement.{statement}
-use Rattle.spans.proofs.stretches.skip_spent.Tie as tie
+use Rattle.spans.proofs.segments.skip_spent.Statement.{statement}
+use Rattle.spans.proofs.segments.skip_spent.Tie as tie
 
 abbrev Inv-loop : tie.InvT-loop
 Inv-loop line matches d₀ d = SettleLoop line matches d₀ d
 
 abbrev μ-loop : tie.MeasureT-loop
-μ-loop line matches d₀ d = stretchesLeft (length matches) d
+μ-loop line matches d₀ d = segmentsLeft (length matches) d
 
 loop-holds : tie.Need-loop-holds Inv-loop μ-loop
 loop-holds c = search settle-begins

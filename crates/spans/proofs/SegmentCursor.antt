@@ -1,4 +1,4 @@
--- The ends of the functions that go from stretch to stretch.
+-- The ends of the functions that go from segment to segment.
 use mathlib.Core.Path.{_≡_, refl, sym, ap, ap₂, _∙_}
 use Prim.Native.Nat.{ℕ, suc, _+_, _-_, _≤_, _<_}
 use native.Mathlib.Numerals.{add-one}
@@ -20,12 +20,12 @@ use Rattle.buffer.specs.Numbers.{smallerOf}
 use Rattle.buffer.specs.Numbers.Laws.{smaller-right}
 use Rattle.spans.specs.Reader.{isMatch, recordsFrom, matchIn, NextSpanReady, SpanStep}
 use Rattle.spans.specs.Search.Contracts.{OffsetsFrom, OffsetReady, OffsetAt}
-use Rattle.spans.specs.Stretches.{spent, withoutNewline, pending, behindStretch, remaining, orderFrom, stretchesLeft, Sound, OutsideReady, OutsideBegun, InsideReady, AdvanceReady, Advanced, SpentSkipped, NextRecordReady, firstRecord, RecordStep, HasNext, BeginReady, Begun}
+use Rattle.spans.specs.Segments.{spent, withoutNewline, pending, behindSegment, remaining, orderFrom, segmentsLeft, Sound, OutsideReady, OutsideBegun, InsideReady, AdvanceReady, Advanced, SpentSkipped, NextRecordReady, firstRecord, RecordStep, HasNext, BeginReady, Begun}
 use Rattle.spans.specs.declared.search.Offset.{Offset}
 use Rattle.spans.specs.declared.search.Offsets.{Offsets}
 use Rattle.spans.specs.declared.reader.Matched.{Matched}
 use Rattle.spans.specs.declared.reader.NextSpan.{NextSpan}
-use Rattle.spans.specs.declared.stretches.Cursor.{Cursor}
+use Rattle.spans.specs.declared.segments.Cursor.{Cursor}
 use Rattle.spans.proofs.Sequences.{part-slice}
 use Rattle.spans.proofs.Searching.{trimmed-fits}
 
@@ -35,12 +35,12 @@ records-append : (a b : List Span) → records (a ++ b) ≡ records a ++ records
 unfolding records
 records-append a b = map-append recordOf a b
 
--- the records of a stretch are those of the part that is read by itself
+-- the records of a segment are those of the part that is read by itself
 part-records : (P : Profile) (m : Matched) (line : List ℕ) (at end : ℕ) → recordsFrom P m (take end line) at ≡ records (readPart P (matchIn m) at end line)
 unfolding recordsFrom readPart
 part-records P m line at end = ap (λ (l : List ℕ). records (spansAt P (matchIn m) at l)) (sym (part-slice line at end))
 
--- a stretch with no bytes left has no records
+-- a segment with no bytes left has no records
 no-records : (P : Profile) (m : Matched) (t : List ℕ) (at : ℕ) → length t ≤ at → recordsFrom P m t at ≡ []
 unfolding recordsFrom records
 no-records P m t at h = ap (λ (l : List ℕ). map recordOf (spansAt P (matchIn m) at l)) (drop-of-length-le t h) ∙ ap (map recordOf) (no-spans P (matchIn m) at)
@@ -114,7 +114,7 @@ module _ (line matches : List ℕ) (start number : ℕ) (c : Cursor) (z : Outsid
 
     pub open-pending : (n : ℕ) (o : Offset) → n ≡ trimmed line → OffsetAt (take n line) (getD matches (c .index) 0) o
         → OutsideBegun line matches start number c (record { place = record { at = start; run = 0 }; end = o .value; matched = record { kind = 1; number = number }; index = c .index + 1; offsets = o .offsets; count = c .count })
-    unfolding remaining behindStretch pending readMatches matchIn orderFrom stretchesLeft
+    unfolding remaining behindSegment pending readMatches matchIn orderFrom segmentsLeft
     open-pending n o e k =
         let x : ℕ = getD matches (c .index) 0 in
         let p = pair in
@@ -143,7 +143,7 @@ module _ (line matches : List ℕ) (start number : ℕ) (c : Cursor) (z : Outsid
 
   pub open-last : length matches ≤ c .index
       → OutsideBegun line matches start number c (record { place = record { at = start; run = 0 }; end = length line; matched = record { kind = 1; number = number }; index = c .index; offsets = c .offsets; count = c .count })
-  unfolding remaining behindStretch pending readMatches matchIn orderFrom stretchesLeft records
+  unfolding remaining behindSegment pending readMatches matchIn orderFrom segmentsLeft records
   open-last h =
       let d : drop (c .index) matches ≡ [] = drop-of-length-le matches h in
       record {
@@ -167,7 +167,7 @@ module _ (line matches : List ℕ) (c : Cursor) (z : InsideReady line matches c)
 
   pub close-pending : (n : ℕ) (o : Offset) → n ≡ trimmed line → OffsetAt (take n line) (getD matches (c .index) 0) o
       → Advanced line matches c (record { place = record { at = c .end; run = 0 }; end = o .value; matched = record { kind = 2; number = c .matched .number }; index = c .index + 1; offsets = o .offsets; count = c .count })
-  unfolding remaining behindStretch pending matchIn orderFrom stretchesLeft
+  unfolding remaining behindSegment pending matchIn orderFrom segmentsLeft
   close-pending n o e k =
       let x : ℕ = getD matches (c .index) 0 in
       let m : Matched = record { kind = 2; number = c .matched .number } in
@@ -206,7 +206,7 @@ module _ (line matches : List ℕ) (c : Cursor) (z : AdvanceReady line matches c
   going-room k = let e = eq-eqb (c .matched .kind) 2 k in let f : c .matched .number + 1 ≤ c .index = rw e at (z .sound .few) in omega (arith, z .sound .index)
 
   pub going-on : (r : Cursor) → c .matched .kind ≡ 2 → OutsideBegun line matches (c .end) (c .matched .number + 1) c r → Advanced line matches c r
-  unfolding behindStretch stretchesLeft
+  unfolding behindSegment segmentsLeft
   going-on r k o =
       let e = eq-eqb (c .matched .kind) 2 k in
       record {
@@ -225,24 +225,24 @@ module _ (line matches : List ℕ) (c : Cursor) (z : AdvanceReady line matches c
 
 -- ---- `settle`
 
--- where the stretch ends, with bytes left or not
-pub stretch-length : (line : List ℕ) (end : ℕ) → length (take end line) ≡ smallerOf end (length line)
-stretch-length line end =
+-- where the segment ends, with bytes left or not
+pub segment-length : (line : List ℕ) (end : ℕ) → length (take end line) ≡ smallerOf end (length line)
+segment-length line end =
     cases (leb end (length line))
     (λ e. rw e (length-take-le end line (leb-true end (length line) e)))
     (λ e. let k : length line < end = leb-false end (length line) e in rw e (ap length (take-all end line (omega arith))))
 
 spent-none : (P : Profile) (line matches : List ℕ) (c : Cursor) → spent (length line) (length matches) c ≡ true
-    → remaining P line matches c ≡ records (behindStretch P line (c .matched) (c .end) (drop (c .index) matches))
+    → remaining P line matches c ≡ records (behindSegment P line (c .matched) (c .end) (drop (c .index) matches))
 unfolding remaining
 spent-none P line matches c e =
     let t = and-T (leb (c .end) (c .place .at) || leb (length line) (c .place .at)) _ (true-T e) in
     let k : length (take (c .end) line) ≤ c .place .at =
-    rw (stretch-length line (c .end))
+    rw (segment-length line (c .end))
     (cases (leb (c .end) (length line))
     (λ f. rw f (or-T (leb (c .end) (c .place .at)) _ (t .0) (λ u. leb→le _ _ u) (λ u. let a : length line ≤ c .place .at = leb→le _ _ u in omega (arith, leb-true (c .end) (length line) f))))
     (λ f. rw f (or-T (leb (c .end) (c .place .at)) _ (t .0) (λ u. let a : c .end ≤ c .place .at = leb→le _ _ u in omega (arith, leb-false (c .end) (length line) f)) (λ u. leb→le _ _ u)))) in
-    ap (λ (l : List Record). l ++ records (behindStretch P line (c .matched) (c .end) (drop (c .index) matches))) (no-records P (c .matched) (take (c .end) line) (c .place .at) k)
+    ap (λ (l : List Record). l ++ records (behindSegment P line (c .matched) (c .end) (drop (c .index) matches))) (no-records P (c .matched) (take (c .end) line) (c .place .at) k)
 
 pub record SettleLoop (line matches : List ℕ) (c d : Cursor) : Type 0 where
   pub same : (P : Profile) → remaining P line matches d ≡ remaining P line matches c
@@ -260,7 +260,7 @@ module _ (line matches : List ℕ) (c d : Cursor) (z : SettleLoop line matches c
     pub settle-more : (r : Cursor) → w ≡ true → Advanced line matches d r → SettleLoop line matches c r
     settle-more r f m = record { same = λ P. m .same P ∙ sym (spent-none P line matches d (sym e ∙ f)) ∙ z .same P; sound = m .sound; count = m .count ∙ z .count }
 
-    pub settle-falls : (r : Cursor) → w ≡ true → Advanced line matches d r → stretchesLeft (length matches) r < stretchesLeft (length matches) d
+    pub settle-falls : (r : Cursor) → w ≡ true → Advanced line matches d r → segmentsLeft (length matches) r < segmentsLeft (length matches) d
     settle-falls r f m = m .falls
 
     pub settle-ends : w ≡ false → SpentSkipped line matches c d
@@ -273,9 +273,9 @@ settled-here line matches c w z e f = settle-ends line matches c c (settle-begin
 
 -- behind the last span nothing is left
 nothing-left : (line matches : List ℕ) (c d : Cursor) (s : SpentSkipped line matches c d) (end : ℕ) → end ≡ smallerOf (d .end) (length line) → (P : Profile) → end ≤ d .place .at → remaining P line matches d ≡ []
-unfolding remaining behindStretch pending records
+unfolding remaining behindSegment pending records
 nothing-left line matches c d s end e P h =
-    let k : length (take (d .end) line) ≤ d .place .at = rw (stretch-length line (d .end), ← e) h in
+    let k : length (take (d .end) line) ≤ d .place .at = rw (segment-length line (d .end), ← e) h in
     let t : (leb (d .end) (d .place .at) || leb (length line) (d .place .at)) ≡ true =
     cases (leb (d .end) (length line))
     (λ f. let a : end ≡ d .end = e ∙ rw f in rw (le-leb (d .end) (d .place .at) (omega arith)))
@@ -305,7 +305,7 @@ module _ (line matches : List ℕ) (c d : Cursor) (z : NextRecordReady line matc
 
   module _ (P : Profile) where
     all-left : List Record → List Record
-    all-left l = l ++ records (behindStretch P line (d .matched) (d .end) (drop (d .index) matches))
+    all-left l = l ++ records (behindSegment P line (d .matched) (d .end) (drop (d .index) matches))
 
     pub record-step : (n : NextSpan) → d .place .at < end → SpanStep P (take end line) (d .matched) (d .place .at) n
         → RecordStep P line matches c (record { span = n .span; cursor = record { place = n .place; end = d .end; matched = d .matched; index = d .index; offsets = d .offsets; count = d .count + 1 } })
@@ -353,9 +353,9 @@ unfolding remaining
 has-next-is line matches c d z s end e P =
     cases (ltb (d .place .at) end)
     (λ f.
-    let k : d .place .at < length (take (d .end) line) = rw (stretch-length line (d .end), ← e) (ltb-true (d .place .at) end f) in
+    let k : d .place .at < length (take (d .end) line) = rw (segment-length line (d .end), ← e) (ltb-true (d .place .at) end f) in
     let n = some-records P (d .matched) (take (d .end) line) (d .place .at) k in
-    let l = length-append (recordsFrom P (d .matched) (take (d .end) line) (d .place .at)) (records (behindStretch P line (d .matched) (d .end) (drop (d .index) matches))) in
+    let l = length-append (recordsFrom P (d .matched) (take (d .end) line) (d .place .at)) (records (behindSegment P line (d .matched) (d .end) (drop (d .index) matches))) in
     f ∙ sym (lt-ltb 0 (length (remaining P line matches c)) (omega (arith, n, l, ap length (s .same P)))))
     (λ f. f ∙ sym (ap (λ (l : List Record). ltb 0 (length l)) (sym (s .same P) ∙ nothing-left line matches c d s end e P (ltb-false (d .place .at) end f))))
 

@@ -1,4 +1,4 @@
-// Line::new and Line::new_search: each match, and each stretch before, between and after matches, read by itself.
+// Line::new and Line::new_search: each match, and each segment before, between and after matches, read by itself.
 use super::Span;
 use super::reader::Matched;
 use super::reader::Place;
@@ -12,10 +12,10 @@ use text::BytePlace;
 use text::class::Profile;
 ghost use mathlib.Core.Path.{_≡_};
 ghost use lib.ListN.{length};
-ghost use Rattle.text.specs.Code.{profileOf};
-ghost use Rattle.spans.specs.Stretches.{spent, OutsideReady, InsideReady, Sound, OutsideBegun, Advanced, AdvanceReady, SpentSkipped, NextRecordReady, RecordStep, HasNext, BeginReady, Begun};
+ghost use Rattle.text.specs.Class.Code.{profileOf};
+ghost use Rattle.spans.specs.Segments.{spent, OutsideReady, InsideReady, Sound, OutsideBegun, Advanced, AdvanceReady, SpentSkipped, NextRecordReady, RecordStep, HasNext, BeginReady, Begun};
 
-// Where a reading of a line stands: a place in a stretch, the stretch's end, the match that it is or that follows it, the next number
+// Where a reading of a line stands: a place in a segment, the segment's end, the match that it is or that follows it, the next number
 // of the match ranges, and the conversion of offsets. `count` spans stand before it.
 pub struct Cursor {
     pub place: Place,
@@ -32,7 +32,7 @@ pub struct NextRecord {
     pub cursor: Cursor,
 }
 
-// The stretch from `start` to match `number`, or to the line's end where there is none.
+// The segment from `start` to match `number`, or to the line's end where there is none.
 fn outside(line: &[u8], matches: &[usize], start: usize, number: usize, c: Cursor) -> Cursor
     requires { ⌜ OutsideReady (now line) (now matches) number c ⌝ }
     ensures { λ r. ⌜ OutsideBegun (now (line .entry)) (now (matches .entry)) start number c r ⌝ }
@@ -68,7 +68,7 @@ fn outside(line: &[u8], matches: &[usize], start: usize, number: usize, c: Curso
     }
 }
 
-// Match `number` behind the stretch that ends where it begins.
+// Match `number` behind the segment that ends where it begins.
 fn inside(line: &[u8], matches: &[usize], c: Cursor) -> Cursor
     requires { ⌜ InsideReady (now line) (now matches) c ⌝ }
     ensures { λ r. ⌜ Advanced (now (line .entry)) (now (matches .entry)) c r ⌝ }
@@ -92,7 +92,7 @@ fn inside(line: &[u8], matches: &[usize], c: Cursor) -> Cursor
     }
 }
 
-// Has the stretch no bytes left, and does another follow?
+// Has the segment no bytes left, and does another follow?
 fn is_spent(line: &[u8], matches: &[usize], c: Cursor) -> bool
     ensures { λ r. ⌜ r ≡ spent (length (now (line .entry))) (length (now (matches .entry))) c ⌝ }
 {
@@ -101,7 +101,7 @@ fn is_spent(line: &[u8], matches: &[usize], c: Cursor) -> bool
     ((c.end <= p.at) | (line.len() <= p.at)) & ((m.kind == 2) | (c.index < matches.len()))
 }
 
-// The stretch behind one that has no bytes left.
+// The segment behind one that has no bytes left.
 fn advance(line: &[u8], matches: &[usize], c: Cursor) -> Cursor
     requires { ⌜ AdvanceReady (now line) (now matches) c ⌝ }
     ensures { λ r. ⌜ Advanced (now (line .entry)) (now (matches .entry)) c r ⌝ }
@@ -113,7 +113,7 @@ fn advance(line: &[u8], matches: &[usize], c: Cursor) -> Cursor
     inside(line, matches, c)
 }
 
-// The first stretch behind this one that has bytes left, if there is one.
+// The first segment behind this one that has bytes left, if there is one.
 fn skip_spent(line: &[u8], matches: &[usize], c: Cursor) -> Cursor
     requires { ⌜ Sound (now line) (now matches) c ⌝ }
     ensures { λ r. ⌜ SpentSkipped (now (line .entry)) (now (matches .entry)) c r ⌝ }
@@ -125,7 +125,7 @@ fn skip_spent(line: &[u8], matches: &[usize], c: Cursor) -> Cursor
     d
 }
 
-// The first stretch from here on that has bytes left, if there is one: mostly this one.
+// The first segment from here on that has bytes left, if there is one: mostly this one.
 fn settle(line: &[u8], matches: &[usize], c: Cursor) -> Cursor
     requires { ⌜ Sound (now line) (now matches) c ⌝ }
     ensures { λ r. ⌜ SpentSkipped (now (line .entry)) (now (matches .entry)) c r ⌝ }

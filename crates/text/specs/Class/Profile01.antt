@@ -9,7 +9,7 @@ use Rattle.text.specs.Tests.{and-T, cases, every, every-one, true-T}
 use Rattle.text.specs.Class.{among, class01, classT, classV, control, cr, extend, inAny, lf, number, zwj}
 use Rattle.text.specs.Class.Ascii.{AsciiClasses, SyllableColumns, asciiClass, by-syllable, syllableOrOther}
 use Rattle.text.specs.Width.{profile01, wides, width01}
-use Rattle.text.specs.Code.{printable, profileOf}
+use Rattle.text.specs.Class.Code.{printable, profileOf}
 use Rattle.text.specs.declared.class.Profile as code
 
 pub profile-is : (p : code.Profile) → profileOf p ≡ profile01

@@ -1,7 +1,7 @@
-use Rattle.spans.proofs.StretchCursor.{settled-here}
+use Rattle.spans.proofs.SegmentCursor.{settled-here}
 use borrow.Author.Needs.{needs}
-use Rattle.spans.proofs.stretches.settle.Statement.{statement}
-use Rattle.spans.proofs.stretches.settle.Tie as tie
+use Rattle.spans.proofs.segments.settle.Statement.{statement}
+use Rattle.spans.proofs.segments.settle.Tie as tie
 
 is-spent-requires : tie.Need-is-spent-requires
 is-spent-requires c κs = search needs

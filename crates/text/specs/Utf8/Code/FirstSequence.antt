@@ -10,7 +10,7 @@ use borrow.Author.Tests.{lt-leb}
 use Rattle.text.specs.Utf8.{scalar, value, sequence, decode, decodeFrom}
 use Rattle.text.specs.Utf8.Laws.{decode-bad, decode-good, sequence-le}
 use Rattle.text.specs.Utf8.Ascii.{low-sequence}
-use Rattle.text.specs.Code.{firstSequence, isTail, sequenceOf}
+use Rattle.text.specs.Utf8.Code.{firstSequence, isTail, sequenceOf}
 
 pub first-by : (b : ℕ) (s : List ℕ) (n : ℕ) → sequence (b ∷ s) ≡ n → firstSequence (decode (b ∷ s)) ≡ sequenceOf (value (take n (b ∷ s))) n
 unfolding firstSequence value scalar

@@ -1,9 +1,9 @@
 use lib.Seq.{length-take-le}
 use mathlib.Core.Path.{sym}
-use Rattle.spans.proofs.StretchCursor.{trimmed-part, close-ready, close-pending}
+use Rattle.spans.proofs.SegmentCursor.{trimmed-part, close-ready, close-pending}
 use borrow.Author.Needs.{needs}
-use Rattle.spans.proofs.stretches.inside.Statement.{statement}
-use Rattle.spans.proofs.stretches.inside.Tie as tie
+use Rattle.spans.proofs.segments.inside.Statement.{statement}
+use Rattle.spans.proofs.segments.inside.Tie as tie
 
 trimmed-len-requires : tie.Need-trimmed-len-requires
 trimmed-len-requires c κs = search needs

@@ -1,28 +1,15 @@
--- What the code's values say of the definitions' ones.
+-- What the values of utf8's code say of the definitions' ones.
 use Prim.Native.Nat.{_%_, _*_, _+_, _-_, suc, ℕ}
 use mathlib.Core.Bool.{Bool, _&&_, _||_, cond}
 use mathlib.Core.List.{List, [], _∷_}
 use mathlib.Core.Path.{_≡_}
 use lib.Dec.{eqb, leb, ltb}
-use lib.ListN.{getD, length, replicate}
-use Rattle.text.specs.Calls.{Converted}
-use Rattle.text.specs.Class.{Class, Profile, classL, classLV, classLVT, classT, classV}
-use Rattle.text.specs.Cluster.{clusters}
+use lib.ListN.{getD, length}
 use Rattle.text.specs.Utf8.{Decoded, Scalar, bytesOf, decode, illFormed, tail, wellFormed, within}
-use Rattle.text.specs.Width.{profile01}
 unfoldable pub use Rattle.text.specs.Utf8.{runOf}
-use Rattle.text.specs.declared.Answer.{Answer}
 use Rattle.text.specs.declared.utf8.Sequence.{Sequence}
-use Rattle.text.specs.declared.class.Profile as code
 pub mod Laws
 pub mod FirstSequence
-pub mod Boundaries
-pub mod Profile01
-
--- document 01's profile, whatever the version: other versions join it as cases
-unfoldable pub profileOf : code.Profile → Profile
-unfolding profile01
-profileOf p = profile01
 
 -- ---- bytes below 80
 
@@ -77,34 +64,3 @@ size (c ∷ s) = length (c .bytes) + size s
 -- the text is valid from its start to its end
 abbrev pub whole : List ℕ → Type 0
 whole t = bytesOf (runOf (decode t)) ≡ t
-
--- the class of a Hangul syllable, and of U+1100 to U+11FF
-abbrev pub syllable : ℕ → Class
-syllable v = cond (eqb ((v - 0xAC00) % 28) 0) classLV classLVT
-
-abbrev pub jamo : ℕ → Class
-jamo v = cond (leb v 0x115F) classL (cond (leb v 0x11A7) classV classT)
-
--- 20 to 7E
-abbrev pub printable : ℕ → Bool
-printable v = leb 0x20 v && leb v 0x7E
-
--- ---- clusters
-
-unfoldable pub firstOf : List (List Scalar) → List Scalar
-firstOf [] = []
-firstOf (g ∷ gs) = g
-
-module _ (P : Profile) where
-  -- the bytes of a text's first cluster
-  unfoldable pub firstSize : List Scalar → ℕ
-  firstSize s = size (firstOf (clusters P s))
-
--- ---- the call `convert`
-
--- what it returned and left
-abbrev pub converted : Answer → List ℕ → Converted
-converted r l = record { number = r .number; count = r .count; conv = l }
-
-abbrev pub refusal : ℕ → ℕ → Converted
-refusal r n = record { number = r; count = 0; conv = replicate n 0 }

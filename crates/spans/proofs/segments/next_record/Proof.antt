@@ -1,10 +1,10 @@
 use lib.Seq.{length-take-le}
 use mathlib.Core.Path.{sym}
 use Rattle.buffer.specs.Numbers.Laws.{smaller-right}
-use Rattle.spans.proofs.StretchCursor.{span-ready, record-step, record-none}
+use Rattle.spans.proofs.SegmentCursor.{span-ready, record-step, record-none}
 use borrow.Author.Needs.{needs}
-use Rattle.spans.proofs.stretches.next_record.Statement.{statement}
-use Rattle.spans.proofs.stretches.next_record.Tie as tie
+use Rattle.spans.proofs.segments.next_record.Statement.{statement}
+use Rattle.spans.proofs.segments.next_record.Tie as tie
 
 settle-requires : tie.Need-settle-requires
 settle-requires c κs = search needs

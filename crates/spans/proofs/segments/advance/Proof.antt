@@ -1,7 +1,7 @@
-use Rattle.spans.proofs.StretchCursor.{going-inside, going-on, going-outside}
+use Rattle.spans.proofs.SegmentCursor.{going-inside, going-on, going-outside}
 use borrow.Author.Needs.{needs}
-use Rattle.spans.proofs.stretches.advance.Statement.{statement}
-use Rattle.spans.proofs.stretches.advance.Tie as tie
+use Rattle.spans.proofs.segments.advance.Statement.{statement}
+use Rattle.spans.proofs.segments.advance.Tie as tie
 
 add-outside : tie.Need-add-outside
 add-outside c = search needs
