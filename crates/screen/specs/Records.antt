@@ -5,6 +5,7 @@ use mathlib.Core.List.{List, [], _∷_}
 use lib.ListN.{length, take, drop}
 use lib.Dec.{leb}
 pub mod Laws
+pub mod Contracts
 
 -- a little-endian number
 unfoldable pub littleEndian : List ℕ → ℕ

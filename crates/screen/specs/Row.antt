@@ -11,6 +11,7 @@ use Rattle.buffer.specs.Numbers.{le4}
 use Rattle.screen.specs.Records.{Record}
 use Rattle.screen.specs.WellFormed.{clustersIn, isBackspace}
 pub mod Laws
+pub mod Contracts
 
 -- ---- cells
 
