@@ -2,3 +2,4 @@ pub mod Records
 pub mod WellFormed
 pub mod Row
 pub mod Calls
+pub mod Screen

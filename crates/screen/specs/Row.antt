@@ -12,6 +12,7 @@ use Rattle.screen.specs.Records.{Record}
 use Rattle.screen.specs.WellFormed.{clustersIn, isBackspace}
 pub mod Laws
 pub mod Contracts
+pub mod Put
 
 -- ---- cells
 

@@ -17,7 +17,7 @@ use Rattle.screen.specs.Row.{Cell, plain, blank, isLater, lostEnd, lostS
 
 -- ---- the number of cells
 
-lostEnd-length : (cs : List Cell) → length (lostEnd cs) ≡ length cs
+pub lostEnd-length : (cs : List Cell) → length (lostEnd cs) ≡ length cs
 unfolding lostEnd
 lostEnd-length [] = refl
 lostEnd-length (c ∷ cs) = ap suc (lostEnd-length cs)

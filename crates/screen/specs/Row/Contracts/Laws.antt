@@ -88,10 +88,10 @@ module _ (list : List ℕ) where
   cells-same zero a n b = refl
   cells-same (suc k) a n b = ap (λ (cs : List Cell). cellOf list a n b ∷ cs) (cells-same k a n b)
 
-  pub same-length : (k a n b : ℕ) → length (sameNumbers k a n b) ≡ 3 * k
-  unfolding sameNumbers
-  same-length zero a n b = refl
-  same-length (suc k) a n b = omega (arith, same-length k a n b)
+pub same-length : (k a n b : ℕ) → length (sameNumbers k a n b) ≡ 3 * k
+unfolding sameNumbers
+same-length zero a n b = refl
+same-length (suc k) a n b = omega (arith, same-length k a n b)
 
 -- one cell, then those alike behind it
 pub same-next : (row : List ℕ) (i a n b : ℕ) (xs : List ℕ) → sets (setCell row i a n b) (3 * (i + 1)) xs ≡ sets row (3 * i) (a ∷ n ∷ b ∷ xs)

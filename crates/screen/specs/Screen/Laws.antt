@@ -1,0 +1,1 @@
+-- Changes one after the other, over screens that may be malformed.

@@ -1,0 +1,216 @@
+// A screen row, and what each change of a list does to it.
+use super::body::are_fields;
+use super::body::is_color;
+use super::records::Head;
+use super::records::head_at;
+use super::row::behind_later;
+use super::row::fill;
+use super::row::first_column;
+use super::row::is_later;
+use super::row::set_cluster;
+use buffer::byte_at;
+ghost use mathlib.Core.Path.{_≡_};
+ghost use mathlib.Core.Bool.{cond, true};
+ghost use Prim.Native.Nat.{_+_, _-_, _≤_, _<_};
+ghost use lib.Dec.{eqb, ltb};
+ghost use Rattle.screen.specs.Row.{write};
+ghost use Rattle.screen.specs.Row.Contracts.{part, CellsReady};
+ghost use Rattle.screen.specs.Screen.{withAt, withEnd, withRefusal, largerOf, cursorOf, Reached, cutLeft, cutRight, RowReady, WriteReady, ClusterOnReady, Stepped, formed, clusterOn};
+
+// Question 10's refusal, and question 11's.
+pub(crate) const MALFORMED: usize = 10;
+
+pub(crate) const PASSED: usize = 11;
+
+// The column behind the last write, which is the row's width while the flag is pending; the place of the attribute body written from now on,
+// 0 for default; the column from which on the row is blank, and the place of the background there, 0 for default; the refusal so far.
+pub struct Screen {
+    pub at: usize,
+    pub attributes: usize,
+    pub end: usize,
+    pub color: usize,
+    pub refusal: usize,
+}
+
+// The cursor: the last column while pending.
+fn cursor(width: usize, t: Screen) -> usize
+    requires { ⌜ 0 < width ⌝ }
+    ensures { λ r. ⌜ r ≡ cursorOf width (t .at) ⌝ }
+{
+    if t.at == width {
+        return width - 1;
+    }
+    t.at
+}
+
+fn with_at(t: Screen, at: usize) -> Screen
+    ensures { λ r. ⌜ r ≡ withAt t at ⌝ }
+{
+    Screen {
+        at: at,
+        attributes: t.attributes,
+        end: t.end,
+        color: t.color,
+        refusal: t.refusal,
+    }
+}
+
+pub(crate) fn with_refusal(t: Screen, number: usize) -> Screen
+    ensures { λ r. ⌜ r ≡ withRefusal t number ⌝ }
+{
+    Screen {
+        at: t.at,
+        attributes: t.attributes,
+        end: t.end,
+        color: t.color,
+        refusal: number,
+    }
+}
+
+// 08 clears the flag and moves one left, not below 0.
+fn back(width: usize, t: Screen) -> Screen
+    requires { ⌜ 0 < width ⌝ }
+    ensures { λ r. ⌜ r ≡ withAt t (cursorOf width (t .at) - 1) ⌝ }
+{
+    let c = cursor(width, t);
+    if c == 0 {
+        return with_at(t, 0);
+    }
+    with_at(t, c - 1)
+}
+
+// Kind 4 moves one right, not past the last column.
+fn right(width: usize, t: Screen) -> Screen
+    requires { ⌜ t .at ≤ width ⌝ }
+    ensures { λ r. ⌜ r ≡ withAt t (cond (ltb (t .at + 1) width) (t .at + 1) (t .at)) ⌝ }
+{
+    if t.at < width {
+        if t.at + 1 < width {
+            return with_at(t, t.at + 1);
+        }
+    }
+    t
+}
+
+// A text would have passed the last column.
+fn passed(t: Screen) -> Screen
+    ensures { λ r. ⌜ r ≡ withRefusal t (cond (eqb (t .refusal) 10) 10 11) ⌝ }
+{
+    if t.refusal == MALFORMED {
+        return t;
+    }
+    with_refusal(t, PASSED)
+}
+
+// Numbers for the cells up to a column.
+fn reach(row: &mut [usize], t: Screen, at: usize) -> Screen
+    requires { ⌜ CellsReady (now row) (t .end) (largerOf (t .end) at) ⌝ }
+    ensures { λ r. ⌜ Reached (now (row .entry)) t at (now (row .exit)) r ⌝ }
+{
+    if t.end < at {
+        fill(row, t.end, at, 0, 0, t.color);
+        return Screen {
+            at: t.at,
+            attributes: t.attributes,
+            end: at,
+            color: t.color,
+            refusal: t.refusal,
+        };
+    }
+    t
+}
+
+// The cluster whose later cell stands at a column is cut there: its cells before are blank.
+fn cut_left(list: &[u8], row: &mut [usize], end: usize, at: usize)
+    requires { ⌜ CellsReady (now row) 0 end ⌝ }
+    ensures { λ _. ⌜ now (row .exit) ≡ cutLeft (now (list .entry)) (now (row .entry)) end at ⌝ }
+{
+    if at < end {
+        if is_later(list, row, at) {
+            let first = first_column(list, row, at);
+            fill(row, first, at, 0, 0, 0);
+        }
+    }
+}
+
+// The later cells from a column on have lost their cluster: they are blank.
+fn cut_right(list: &[u8], row: &mut [usize], end: usize, at: usize)
+    requires { ⌜ CellsReady (now row) 0 end ⌝ }
+    ensures { λ _. ⌜ now (row .exit) ≡ cutRight (now (list .entry)) (now (row .entry)) end at ⌝ }
+{
+    if at < end {
+        let to = behind_later(list, row, at, end);
+        fill(row, at, to, 0, 0, 0);
+    }
+}
+
+// The clusters that new cells cut.
+fn cut(list: &[u8], row: &mut [usize], end: usize, at: usize, to: usize)
+    requires { ⌜ CellsReady (now row) 0 end ⌝ }
+    ensures { λ _. ⌜ now (row .exit) ≡ cutRight (now (list .entry)) (cutLeft (now (list .entry)) (now (row .entry)) end at) end to ⌝ }
+{
+    cut_left(list, row, end, at);
+    cut_right(list, row, end, to);
+}
+
+// The cursor behind a cluster that ends at a column.
+fn behind(t: Screen, to: usize) -> Screen
+    ensures { λ r. ⌜ r ≡ withEnd (withAt t to) (largerOf (t .end) to) ⌝ }
+{
+    if t.end < to {
+        return Screen {
+            at: to,
+            attributes: t.attributes,
+            end: to,
+            color: t.color,
+            refusal: t.refusal,
+        };
+    }
+    with_at(t, to)
+}
+
+// A cluster of w columns, from place p to place e.
+fn write_cluster(
+    list: &[u8],
+    row: &mut [usize],
+    width: usize,
+    state: Screen,
+    p: usize,
+    e: usize,
+    w: usize,
+) -> Screen
+    requires { ⌜ WriteReady width (now row) state p e w ⌝ }
+    ensures { λ r. ⌜ Stepped (now (list .entry)) width (now (row .entry)) state (formed true (λ t. write width t (part (now (list .entry)) p (e - p)) w)) (now (row .exit)) r ⌝ }
+{
+    let at = state.at;
+    let to = at + w;
+    let t = reach(row, state, at);
+    cut(list, row, t.end, at, to);
+    set_cluster(row, at, to, p, e - p, t.attributes);
+    behind(t, to)
+}
+
+// A cluster of a text.
+fn on_cluster(
+    list: &[u8],
+    row: &mut [usize],
+    width: usize,
+    t: Screen,
+    p: usize,
+    e: usize,
+    w: usize,
+) -> Screen
+    requires { ⌜ ClusterOnReady (now list) width (now row) t p e ⌝ }
+    ensures { λ r. ⌜ Stepped (now (list .entry)) width (now (row .entry)) t (clusterOn width (part (now (list .entry)) p (e - p)) w) (now (row .exit)) r ⌝ }
+{
+    if (byte_at(list, p) == 0x08) & (e - p == 1) {
+        return back(width, t);
+    }
+    if w == 0 {
+        return with_refusal(t, MALFORMED);
+    }
+    if width - t.at < w {
+        return passed(t);
+    }
+    write_cluster(list, row, width, t, p, e, w)
+}
