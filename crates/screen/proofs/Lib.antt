@@ -5,3 +5,5 @@ pub mod Moves
 pub mod Cutting
 pub mod Writing
 pub mod Clusters
+pub mod Clearing
+pub mod Texts

@@ -5,7 +5,7 @@ use native.Mathlib.Omega.{arith}
 use mathlib.Core.Bool.{Bool, true, false, cond, _&&_}
 use mathlib.Core.Logic.{_≢_}
 use mathlib.Core.Option.{Option, none, some}
-use mathlib.Core.List.{List, [], _∷_, _++_, append-assoc}
+use mathlib.Core.List.{List, [], _∷_, _++_, append-assoc, append-nil}
 use lib.ListN.{length, take, drop, getD, replicate, length-append, length-drop, length-replicate, take-append-drop, replicate-append-replicate}
 use lib.Seq.{length-take-le, take-take, take-at, drop-at, drop-drop, drop-append-add, take-append-le, length-sets, sets}
 use lib.Dec.{eqb, ltb}
@@ -19,7 +19,7 @@ use Rattle.screen.specs.Row.Put.{drop-take, put-cells}
 use Rattle.screen.specs.Screen.{withAt, withEnd, largerOf, cursorOf, reached, Reached, cutLeft, cutRight, rowOf, screenOf, formed, RowReady, WriteReady, Stepped}
 use Rattle.screen.specs.declared.screen.Screen as code
 
-larger-is : (a b : ℕ) → largerOf a b ≡ a + (b - a)
+pub larger-is : (a b : ℕ) → largerOf a b ≡ a + (b - a)
 larger-is a b = cases (ltb a b) (λ e. rw e (let h = ltb-true a b e in omega arith)) (λ e. rw e (let h = ltb-false a b e in omega arith))
 
 module _ (list : List ℕ) (width : ℕ) where
@@ -86,6 +86,21 @@ module _ (list : List ℕ) (width : ℕ) where
     left-long : length (cutLeft list row end at) ≡ length row
     unfolding cutLeft
     left-long = cases (ltb at end && isLater (cellIn list row at)) (λ e. rw e (length-sets row (3 * firstColumn X) (sameNumbers (at - firstColumn X) 0 0 0))) (λ e. rw e refl)
+
+    -- new cells up to the last column
+    pub row-clear : (c : ℕ) (new : List Cell) → length new ≡ width - at → take at (cellsIn list (cutLeft list row end at)) ++ new ≡ put at new (take end A ++ replicate (width - end) (blankAt list c))
+    row-clear c new l =
+        let w : ℕ = width - at in
+        let joined : X ++ Y ≡ A = take-append-drop at A in
+        let last : largerOf end (at + w) ≡ width = omega (arith, larger-is end (at + w), near, inside) in
+        let none-left : width - largerOf end (at + w) ≡ 0 = omega (arith, last) in
+        let lost : List Cell = replicate (laters (take (end - (at + w)) (drop w Y))) (blank plain) ++ drop (laters (take (end - (at + w)) (drop w Y))) (drop w Y) in
+        ap (λ (cs : List Cell). take at cs ++ new) left-cells ∙ ap (λ (cs : List Cell). cs ++ new) (take-at X′ Y at left-length)
+        ∙ sym (ap₂ (λ (n k : ℕ). take n (X′ ++ new ++ lost) ++ replicate k (blankAt list c)) last none-left
+        ∙ append-nil (take width (X′ ++ new ++ lost)) ∙ take-at (X′ ++ new) lost width (omega (arith, length-append X′ new, left-length, l, near, inside)))
+        ∙ put-cells (blankAt list c) refl X Y new at w end width before l near inside (omega (arith, near, inside)) (omega (arith, length-drop at A, all-cells, near, inside)) X′ left-length
+        (ap (λ (cs : List Cell). cond (ltb at end && isLater (getD cs at (blank plain))) (lostEnd X) X) (sym joined))
+        ∙ ap (λ (cs : List Cell). put at new (take end cs ++ replicate (width - end) (blankAt list c))) joined
 
     -- what stands behind the new cells
     module _ (w : ℕ) (fits : at + w ≤ width) where

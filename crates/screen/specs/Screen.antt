@@ -78,11 +78,23 @@ pub record WriteReady (width : ℕ) (row : List ℕ) (t : code.Screen) (p e w : 
   pub some : 0 < w
   pub fits : t .at + w ≤ width
 
+-- the place of a colour
+pub record ClearReady (width : ℕ) (row : List ℕ) (t : code.Screen) (color : ℕ) : Type 0 where
+  pub ready : RowReady width row t
+  pub place : 0 < color
+
 pub record ClusterOnReady (list : List ℕ) (width : ℕ) (row : List ℕ) (t : code.Screen) (p e : ℕ) : Type 0 where
   pub ready : RowReady width row t
   pub place : 0 < p
   pub order : p ≤ e
   pub inside : e ≤ length list
+
+-- a text from a place to another
+pub record TextReady (list : List ℕ) (width : ℕ) (row : List ℕ) (t : code.Screen) (start end : ℕ) : Type 0 where
+  pub ready : RowReady width row t
+  pub place : 0 < start
+  pub order : start ≤ end
+  pub inside : end ≤ length list
 
 -- a step: what it makes of the screen
 pub record Stepped (list : List ℕ) (width : ℕ) (row : List ℕ) (t : code.Screen) (f : Option Screen → Option Screen) (row′ : List ℕ) (r : code.Screen) : Type 0 where
@@ -105,13 +117,14 @@ clusterOn width g w o =
     let backspace : Bool = sameBytes g (0x08 ∷ []) in
     formed (backspace || ltb 0 w) (λ t. cond backspace (back t) (cond (passes width t w) (pass t) (write width t g w))) o
 
+-- the allowed size of an attribute body
+abbrev pub ofBodies : ℕ → Bool
+ofBodies n = eqb n bodySize
+
 module _ (P : Profile) (width : ℕ) where
   unfoldable pub textOn : List ℕ → Option Screen → Option Screen
   unfolding formed utf8 wide clustersIn onClusters
   textOn b o = formed (utf8 b && wide P (clustersIn P b)) (λ t. onClusters P width t (clustersIn P b)) o
-
-  abbrev pub ofBodies : ℕ → Bool
-  ofBodies n = eqb n bodySize
 
   unfoldable pub recordOn : Record → Option Screen → Option Screen
   unfolding formed ofKind wide clustersIn onRecord

@@ -9,13 +9,18 @@ use super::row::first_column;
 use super::row::is_later;
 use super::row::set_cluster;
 use buffer::byte_at;
+use text::BytePlace;
+use text::class::Profile;
+use text::scalar::scalar_at;
+use text::segmentation::next_cluster;
 ghost use mathlib.Core.Path.{_≡_};
 ghost use mathlib.Core.Bool.{cond, true};
 ghost use Prim.Native.Nat.{_+_, _-_, _≤_, _<_};
 ghost use lib.Dec.{eqb, ltb};
-ghost use Rattle.screen.specs.Row.{write};
+ghost use Rattle.text.specs.Class.Code.{profileOf};
+ghost use Rattle.screen.specs.Row.{write, clear};
 ghost use Rattle.screen.specs.Row.Contracts.{part, CellsReady};
-ghost use Rattle.screen.specs.Screen.{withAt, withEnd, withRefusal, largerOf, cursorOf, Reached, cutLeft, cutRight, RowReady, WriteReady, ClusterOnReady, Stepped, formed, clusterOn};
+ghost use Rattle.screen.specs.Screen.{withAt, withEnd, withRefusal, largerOf, cursorOf, Reached, cutLeft, cutRight, RowReady, WriteReady, ClearReady, ClusterOnReady, TextReady, Stepped, formed, clusterOn, textOn};
 
 // Question 10's refusal, and question 11's.
 pub(crate) const MALFORMED: usize = 10;
@@ -213,4 +218,56 @@ fn on_cluster(
         return passed(t);
     }
     write_cluster(list, row, width, t, p, e, w)
+}
+
+// Kind 3 blanks from the cursor, with the background that stands at a place.
+fn clear_to_end(list: &[u8], row: &mut [usize], width: usize, t: Screen, color: usize) -> Screen
+    requires { ⌜ ClearReady width (now row) t color ⌝ }
+    ensures { λ r. ⌜ Stepped (now (list .entry)) width (now (row .entry)) t (formed true (λ u. clear width u (part (now (list .entry)) color 4))) (now (row .exit)) r ⌝ }
+{
+    let c = cursor(width, t);
+    let u = reach(row, t, c);
+    cut_left(list, row, u.end, c);
+    Screen {
+        at: t.at,
+        attributes: t.attributes,
+        end: c,
+        color: color,
+        refusal: t.refusal,
+    }
+}
+
+// A text from a place to another: each of its clusters.
+fn on_text(
+    profile: Profile,
+    list: &[u8],
+    row: &mut [usize],
+    width: usize,
+    state: Screen,
+    start: usize,
+    end: usize,
+) -> Screen
+    requires { ⌜ TextReady (now list) width (now row) state start end ⌝ }
+    ensures { λ r. ⌜ Stepped (now (list .entry)) width (now (row .entry)) state (textOn (profileOf profile) width (part (now (list .entry)) start (end - start))) (now (row .exit)) r ⌝ }
+{
+    let mut t = state;
+    if start == end {
+        return t;
+    }
+    let text = &list[..end];
+    let mut p = BytePlace(start);
+    let mut scalar = scalar_at(profile, text, start);
+    while scalar != 0 {
+        let step = next_cluster(profile, text, p, scalar);
+        let cluster = step.part;
+        let e = cluster.end;
+        let w = cluster.width;
+        t = on_cluster(list, row, width, t, p.0, e.0, w.0);
+        p = e;
+        scalar = step.next;
+    }
+    if p.0 < end {
+        return with_refusal(t, MALFORMED);
+    }
+    t
 }

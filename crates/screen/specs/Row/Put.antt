@@ -5,7 +5,7 @@ use native.Mathlib.Omega.{arith}
 use mathlib.Core.Bool.{Bool, true, false, cond, _&&_}
 use mathlib.Core.List.{List, [], _∷_, _++_, append-assoc}
 use lib.ListN.{length, take, drop, getD, replicate, length-append, length-drop, length-replicate, List·getD-append}
-use lib.Seq.{length-take-le, take-append-le, drop-append-le, take-append-add, drop-append-add, take-take, take-at, drop-at, getD-take, getD-append-add, take-all}
+use lib.Seq.{take-nil, length-take-le, take-append-le, drop-append-le, take-append-add, drop-append-add, take-take, take-at, drop-at, getD-take, getD-append-add, take-all}
 use lib.Dec.{eqb, ltb}
 use borrow.Author.Tests.{lt-ltb, le-ltb, ltb-true, ltb-false}
 use Rattle.text.specs.Tests.{cases}
@@ -16,14 +16,10 @@ use Rattle.screen.specs.Screen.{largerOf}
 
 -- ---- lists
 
-pub drop-take : (k n : ℕ) (l : List Cell) → drop k (take n l) ≡ take (n - k) (drop k l)
+pub drop-take : {A : Type 0} (k n : ℕ) (l : List A) → drop k (take n l) ≡ take (n - k) (drop k l)
 drop-take zero n l = ap (λ (m : ℕ). take m l) (let e : n ≡ n - 0 = omega arith in e)
 drop-take (suc k) zero l = ap (λ (m : ℕ). take m (drop (suc k) l)) (let e : 0 ≡ zero - suc k = omega arith in e)
-drop-take (suc k) (suc n) [] = sym (none (suc n - suc k))
-  where
-    none : (m : ℕ) → _≡_ {A = List Cell} (take m []) []
-    none zero = refl
-    none (suc m) = refl
+drop-take (suc k) (suc n) [] = sym (take-nil (suc n - suc k))
 drop-take (suc k) (suc n) (c ∷ l) = drop-take k n l ∙ ap (λ (m : ℕ). take m (drop k l)) (let e : n - k ≡ suc n - suc k = omega arith in e)
 
 drop-blanks : (k n : ℕ) (c : Cell) → drop k (replicate n c) ≡ replicate (n - k) c
