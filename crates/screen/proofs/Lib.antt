@@ -7,3 +7,4 @@ pub mod Writing
 pub mod Clusters
 pub mod Clearing
 pub mod Texts
+pub mod Changes

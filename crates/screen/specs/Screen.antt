@@ -12,7 +12,8 @@ use Rattle.text.specs.Class.{Profile}
 use Rattle.screen.specs.Records.{Record}
 use Rattle.screen.specs.WellFormed.{ofKind, utf8, wide, clustersIn, wellFormed, wideTexts}
 use Rattle.screen.specs.Row.{Cell, bodySize, Screen, screen, isLater, back, passes, write, onClusters, onRecord, onRecords}
-use Rattle.screen.specs.Row.Contracts.{bodyAt, blankAt, cellsIn, cellIn, firstColumn, laters, sameNumbers}
+use Rattle.screen.specs.Row.Contracts.{part, bodyAt, blankAt, cellsIn, cellIn, firstColumn, laters, sameNumbers}
+use Rattle.screen.specs.declared.records.Head.{Head}
 use Rattle.screen.specs.declared.screen.Screen as code
 pub mod Laws
 
@@ -23,6 +24,9 @@ withAt t at = record { at = at; attributes = t .attributes; end = t .end; color 
 
 abbrev pub withEnd : code.Screen → ℕ → code.Screen
 withEnd t end = record { at = t .at; attributes = t .attributes; end = end; color = t .color; refusal = t .refusal }
+
+abbrev pub withAttributesAt : code.Screen → ℕ → code.Screen
+withAttributesAt t at = record { at = t .at; attributes = at; end = t .end; color = t .color; refusal = t .refusal }
 
 abbrev pub withRefusal : code.Screen → ℕ → code.Screen
 withRefusal t n = record { at = t .at; attributes = t .attributes; end = t .end; color = t .color; refusal = n }
@@ -95,6 +99,16 @@ pub record TextReady (list : List ℕ) (width : ℕ) (row : List ℕ) (t : code.
   pub place : 0 < start
   pub order : start ≤ end
   pub inside : end ≤ length list
+
+-- a body within the list
+pub record BodyReady (list : List ℕ) (width : ℕ) (row : List ℕ) (t : code.Screen) (start len : ℕ) : Type 0 where
+  pub ready : RowReady width row t
+  pub place : 0 < start
+  pub inside : start + len ≤ length list
+
+-- the record that a whole head begins
+abbrev pub recordOf : List ℕ → Head → Record
+recordOf list h = record { whole = h .whole; kind = h .kind; body = part list (h .start) (h .len) }
 
 -- a step: what it makes of the screen
 pub record Stepped (list : List ℕ) (width : ℕ) (row : List ℕ) (t : code.Screen) (f : Option Screen → Option Screen) (row′ : List ℕ) (r : code.Screen) : Type 0 where

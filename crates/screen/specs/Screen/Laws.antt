@@ -2,7 +2,8 @@
 use mathlib.Core.Path.{_≡_, refl, sym, ap, _∙_}
 use Prim.Native.Nat.{ℕ, _+_, _≤_, _<_}
 use native.Mathlib.Omega.{arith}
-use mathlib.Core.Bool.{Bool, true, false, cond, _&&_, _||_}
+use mathlib.Core.Logic.{_≢_}
+use mathlib.Core.Bool.{Bool, true, false, cond, _&&_, _||_, and-true}
 use mathlib.Core.Option.{Option, none, some}
 use mathlib.Core.List.{List, [], _∷_, _++_}
 use lib.ListN.{length, drop, length-append, length-drop}
@@ -17,8 +18,8 @@ use Rattle.text.specs.Cluster.{clusters}
 use Rattle.text.specs.Cluster.Laws.{clusters-nil}
 use Rattle.text.specs.Utf8.Code.Laws.{run-nil}
 use Rattle.screen.specs.Records.{Record}
-use Rattle.screen.specs.WellFormed.{ofKind, utf8, wide, clustersIn, isBackspace, wellFormed, wideTexts}
-use Rattle.screen.specs.Row.{Screen, onCluster, onClusters, onRecord, onRecords}
+use Rattle.screen.specs.WellFormed.{color, fields, ofKind, utf8, wide, clustersIn, isBackspace, wellFormed, wideTexts}
+use Rattle.screen.specs.Row.{Screen, withAttributes, clear, right, onCluster, onClusters, onRecord, onRecords}
 use Rattle.screen.specs.Screen.{formed, clusterOn, textOn, recordOn, recordsOn, ofBodies}
 
 -- one change, then others
@@ -111,3 +112,26 @@ module _ (P : Profile) (width : ℕ) where
   pub records-malformed : (rs : List Record) → recordsOn P width rs none ≡ none
   unfolding recordsOn formed
   records-malformed rs = refl
+
+  -- ---- one record, by its kind
+
+  module _ (b : List ℕ) (o : Option Screen) where
+    pub text-record : recordOn P width (record { whole = true; kind = 1; body = b }) o ≡ textOn P width b o
+    unfolding recordOn textOn ofKind onRecord
+    text-record = refl
+
+    pub attributes-record : recordOn P width (record { whole = true; kind = 2; body = b }) o ≡ formed (ofBodies (length b) && fields b) (λ t. withAttributes t b) o
+    unfolding recordOn ofKind onRecord
+    attributes-record = ap (λ (x : Bool). formed x (λ t. withAttributes t b) o) (and-true (ofBodies (length b) && fields b))
+
+    pub clear-record : recordOn P width (record { whole = true; kind = 3; body = b }) o ≡ formed (eqb (length b) 4 && color b 0) (λ t. clear width t b) o
+    unfolding recordOn ofKind onRecord
+    clear-record = ap (λ (x : Bool). formed x (λ t. clear width t b) o) (and-true (eqb (length b) 4 && color b 0))
+
+    pub other-record : (k : ℕ) → (k ≢ 1) → (k ≢ 2) → (k ≢ 3) → recordOn P width (record { whole = true; kind = k; body = b }) o ≡ formed (eqb k 4 && eqb (length b) 0) (right width) o
+    unfolding recordOn ofKind onRecord
+    other-record k n m l = rw (ne-eqb k 1 n, ne-eqb k 2 m, ne-eqb k 3 l) (ap (λ (x : Bool). formed x (right width) o) (and-true (cond (eqb k 4) (eqb (length b) 0) false) ∙ both (eqb k 4)))
+      where
+        both : (x : Bool) → cond x (eqb (length b) 0) false ≡ (x && eqb (length b) 0)
+        both true = refl
+        both false = refl
