@@ -8,3 +8,4 @@ pub mod Clusters
 pub mod Clearing
 pub mod Texts
 pub mod Changes
+pub mod Drawing

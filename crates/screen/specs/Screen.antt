@@ -9,9 +9,9 @@ use lib.Seq.{sets}
 use lib.Dec.{eqb, ltb}
 use Rattle.text.specs.Utf8.{sameBytes}
 use Rattle.text.specs.Class.{Profile}
-use Rattle.screen.specs.Records.{Record}
+use Rattle.screen.specs.Records.{Record, records}
 use Rattle.screen.specs.WellFormed.{ofKind, utf8, wide, clustersIn, wellFormed, wideTexts}
-use Rattle.screen.specs.Row.{Cell, bodySize, Screen, screen, isLater, back, passes, write, onClusters, onRecord, onRecords}
+use Rattle.screen.specs.Row.{Cell, bodySize, Screen, screen, isLater, back, passes, write, blankScreen, onClusters, onRecord, onRecords}
 use Rattle.screen.specs.Row.Contracts.{part, bodyAt, blankAt, cellsIn, cellIn, firstColumn, laters, sameNumbers}
 use Rattle.screen.specs.declared.records.Head.{Head}
 use Rattle.screen.specs.declared.screen.Screen as code
@@ -110,6 +110,10 @@ pub record BodyReady (list : List ℕ) (width : ℕ) (row : List ℕ) (t : code.
 abbrev pub recordOf : List ℕ → Head → Record
 recordOf list h = record { whole = h .whole; kind = h .kind; body = part list (h .start) (h .len) }
 
+pub record DrawReady (width : ℕ) (row : List ℕ) : Type 0 where
+  pub some : 0 < width
+  pub room : 3 * width ≤ length row
+
 -- a step: what it makes of the screen
 pub record Stepped (list : List ℕ) (width : ℕ) (row : List ℕ) (t : code.Screen) (f : Option Screen → Option Screen) (row′ : List ℕ) (r : code.Screen) : Type 0 where
   pub same : screenOf list width row′ r ≡ f (screenOf list width row t)
@@ -147,3 +151,8 @@ module _ (P : Profile) (width : ℕ) where
   unfoldable pub recordsOn : List Record → Option Screen → Option Screen
   unfolding formed wellFormed wideTexts onRecords
   recordsOn rs o = formed (wellFormed ofBodies rs && wideTexts P rs) (λ t. onRecords P width t rs) o
+
+-- the screen that a list leaves
+pub record Drawn (P : Profile) (list : List ℕ) (width : ℕ) (row′ : List ℕ) (r : code.Screen) : Type 0 where
+  pub same : screenOf list width row′ r ≡ recordsOn P width (records 4 list) (some (blankScreen width))
+  pub ready : RowReady width row′ r

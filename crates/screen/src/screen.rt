@@ -22,7 +22,7 @@ ghost use Rattle.screen.specs.WellFormed.{color, fields};
 ghost use Rattle.text.specs.Class.Code.{profileOf};
 ghost use Rattle.screen.specs.Row.{write, clear};
 ghost use Rattle.screen.specs.Row.Contracts.{part, CellsReady};
-ghost use Rattle.screen.specs.Screen.{withAt, withEnd, withAttributesAt, withRefusal, largerOf, cursorOf, Reached, cutLeft, cutRight, RowReady, WriteReady, ClearReady, ClusterOnReady, TextReady, BodyReady, Stepped, formed, clusterOn, textOn, recordOf, recordOn};
+ghost use Rattle.screen.specs.Screen.{withAt, withEnd, withAttributesAt, withRefusal, largerOf, cursorOf, Reached, cutLeft, cutRight, RowReady, WriteReady, ClearReady, ClusterOnReady, TextReady, BodyReady, DrawReady, Drawn, Stepped, formed, clusterOn, textOn, recordOf, recordOn};
 
 // Question 10's refusal, and question 11's.
 pub(crate) const MALFORMED: usize = 10;
@@ -347,4 +347,29 @@ fn on_record(
         return on_clear(list, row, width, t, start, len);
     }
     on_right(width, t, kind, len)
+}
+
+// All changes of a list, on a row that is blank at first.
+pub(crate) fn draw(profile: Profile, list: &[u8], row: &mut [usize], width: usize) -> Screen
+    requires { ⌜ DrawReady width (now row) ⌝ }
+    ensures { λ r. ⌜ Drawn (profileOf profile) (now (list .entry)) width (now (row .exit)) r ⌝ }
+{
+    let mut t = Screen {
+        at: 0,
+        attributes: 0,
+        end: 0,
+        color: 0,
+        refusal: 0,
+    };
+    let mut at = 0;
+    while at < list.len() {
+        let head = head_at(list, at, 4);
+        if head.whole {
+            t = on_record(profile, list, row, width, t, head);
+            at = head.start + head.len;
+        } else {
+            return with_refusal(t, MALFORMED);
+        }
+    }
+    t
 }
