@@ -9,3 +9,4 @@ pub mod Clearing
 pub mod Texts
 pub mod Changes
 pub mod Drawing
+pub mod Bytes

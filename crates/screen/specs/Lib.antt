@@ -3,3 +3,4 @@ pub mod WellFormed
 pub mod Row
 pub mod Calls
 pub mod Screen
+pub mod Output
