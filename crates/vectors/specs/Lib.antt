@@ -1,1 +1,4 @@
 pub mod Fields
+pub mod Output
+pub mod Recorded
+pub mod Program

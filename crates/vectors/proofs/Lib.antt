@@ -1,0 +1,3 @@
+pub mod FieldText
+pub mod Trimming
+pub mod InputParts
