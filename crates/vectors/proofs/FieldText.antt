@@ -111,9 +111,9 @@ pub number-turn : (s : List ℕ) (n n′ i : ℕ) {e : ℕ} → i < length s →
 unfolding decimal
 number-turn s n n′ i h p q = rw q (rw (at-byte s i h) at p)
 
-pub number-end : (s : List ℕ) (n i : ℕ) {e : ℕ} → length s ≤ i → decimal n (drop i s) ≡ e → n ≡ e
+pub number-end : (s field : List ℕ) (n i : ℕ) → s ≡ field → length s ≤ i → decimal n (drop i s) ≡ decimal 0 s → n ≡ decimal 0 field
 unfolding decimal
-number-end s n i h p = rw (drop-of-length-le s h) at p
+number-end s field n i e h p = (rw (drop-of-length-le s h) at p) ∙ ap (decimal 0) e
 
 -- ---- what fits into lent memory
 
@@ -139,25 +139,20 @@ kept l l′ xs k r e h =
 pub counted-in : (n : ℕ) (l l₀ : List ℕ) → n ≤ length l₀ → length l ≡ length l₀ → Counts n l
 counted-in n l l₀ h e = counted n l (omega arith)
 
-lent-all : (n m : ℕ) (l : List ℕ) → n ≡ m → n ≤ length l → Lent m l n
-lent-all n m l e h = record { exact = smaller-first n (length l) h ∙ ap (λ (k : ℕ). smallerOf k (length l)) e; inside = counted n l h }
+-- a size of so many bytes or numbers, or of four numbers each
+module _ (n m : ℕ) (l : List ℕ) (e : n ≡ m) where
+  pub lent-all : n ≤ length l → Lent m l n
+  lent-all h = record { exact = smaller-first n (length l) h ∙ ap (λ (k : ℕ). smallerOf k (length l)) e; inside = counted n l h }
 
-lent-past : (n m : ℕ) (l : List ℕ) → n ≡ m → length l < n → Lent m l (length l)
-lent-past n m l e h = record { exact = smaller-second n (length l) h ∙ ap (λ (k : ℕ). smallerOf k (length l)) e; inside = counted (length l) l (omega arith) }
+  pub lent-past : length l < n → Lent m l (length l)
+  lent-past h = record { exact = smaller-second n (length l) h ∙ ap (λ (k : ℕ). smallerOf k (length l)) e; inside = counted (length l) l (omega arith) }
 
--- a size that was read from a field
-module _ (n : ℕ) (f g : List ℕ) (l : List ℕ) (p : f ≡ g) (q : n ≡ decimal 0 f) where
-  pub size-all : n ≤ length l → Lent (decimal 0 g) l n
-  size-all h = lent-all n (decimal 0 g) l (q ∙ ap (decimal 0) p) h
+module _ (n m : ℕ) (l : List ℕ) (e : n ≡ m) where
+  pub spans-all : n ≤ length l / 4 → Lent (4 * m) l (4 * n)
+  spans-all h = lent-all (4 * n) (4 * m) l (ap (λ (k : ℕ). 4 * k) e) (omega arith)
 
-  pub size-past : length l < n → Lent (decimal 0 g) l (length l)
-  size-past h = lent-past n (decimal 0 g) l (q ∙ ap (decimal 0) p) h
-
-  pub spans-all : n ≤ length l / 4 → Lent (4 * decimal 0 g) l (4 * n)
-  spans-all h = lent-all (4 * n) (4 * decimal 0 g) l (ap (λ (k : ℕ). 4 * k) (q ∙ ap (decimal 0) p)) (omega arith)
-
-  pub spans-past : length l / 4 < n → Lent (4 * decimal 0 g) l (length l)
-  spans-past h = lent-past (4 * n) (4 * decimal 0 g) l (ap (λ (k : ℕ). 4 * k) (q ∙ ap (decimal 0) p)) (omega arith)
+  pub spans-past : length l / 4 < n → Lent (4 * m) l (length l)
+  spans-past h = lent-past (4 * n) (4 * m) l (ap (λ (k : ℕ). 4 * k) e) (omega arith)
 
 -- ---- lists of numbers
 

@@ -1,3 +1,2 @@
 pub mod FieldText
-pub mod Trimming
 pub mod InputParts

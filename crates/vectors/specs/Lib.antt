@@ -1,4 +1,3 @@
 pub mod Fields
-pub mod Output
 pub mod Recorded
 pub mod Program

@@ -61,16 +61,18 @@ fn with_digit(n: usize, b: u8) -> usize
     usize::MAX
 }
 
-pub(crate) fn number(s: &[u8]) -> usize
-    ensures { λ r. ⌜ r ≡ decimal 0 (now (s .entry)) ⌝ }
+// The number that is the n-th field.
+pub(crate) fn number(s: &[u8], n: usize) -> usize
+    ensures { λ r. ⌜ r ≡ decimal 0 (fieldOf (now (s .entry)) n) ⌝ }
 {
-    let mut n = 0;
+    let digits = field(s, n);
+    let mut v = 0;
     let mut i = 0;
-    while i < s.len() {
-        n = with_digit(n, s[i]);
+    while i < digits.len() {
+        v = with_digit(v, digits[i]);
         i += 1;
     }
-    n
+    v
 }
 
 // The numbers of a list, as many as `out` holds; how many.

@@ -1,48 +1,9 @@
 // The parts of an answer as text.
 ghost use mathlib.Core.Path.{_≡_};
-ghost use lib.ListN.{take, getD};
-ghost use Rattle.vectors.specs.Output.{trimmed};
+ghost use lib.ListN.{getD};
 use buffer::byte_at;
 use libc::STDOUT_FILENO;
 use text::Answer;
-
-// The length of the first n bytes without the zeros at their end.
-fn trimmed_len(bytes: &[u8], n: usize) -> usize
-    ensures { λ r. ⌜ r ≡ trimmed (take n (now (bytes .entry))) ⌝ }
-{
-    let mut end = n;
-    while 0 < end {
-        if byte_at(bytes, end - 1) != 0 {
-            return end;
-        }
-        end -= 1;
-    }
-    0
-}
-
-// The number at a place, or 0 past the end.
-fn number_at(numbers: &[usize], at: usize) -> usize
-    ensures { λ r. ⌜ r ≡ getD (now (numbers .entry)) at 0 ⌝ }
-{
-    if at < numbers.len() {
-        return numbers[at];
-    }
-    0
-}
-
-// As trimmed_len, for numbers.
-fn trimmed_count(numbers: &[usize], n: usize) -> usize
-    ensures { λ r. ⌜ r ≡ trimmed (take n (now (numbers .entry))) ⌝ }
-{
-    let mut end = n;
-    while 0 < end {
-        if number_at(numbers, end - 1) != 0 {
-            return end;
-        }
-        end -= 1;
-    }
-    0
-}
 
 pub(crate) fn print(text: &[u8]) {
     io::write_all(STDOUT_FILENO, text);
@@ -68,35 +29,57 @@ pub(crate) fn print_hex(bytes: &[u8], from: usize, end: usize) {
     }
 }
 
-// A space, and the first n bytes without the zeros at their end.
+// The first n bytes, without the zeros at their end.
 pub(crate) fn print_bytes(bytes: &[u8; 163984], n: usize) {
-    let end = trimmed_len(bytes, n);
-    if end == 0 {
-        return print(b" -");
-    }
     print(b" ");
-    print_hex(bytes, 0, end);
+    let mut end = n;
+    while 0 < end {
+        if byte_at(bytes, end - 1) != 0 {
+            return print_hex(bytes, 0, end);
+        }
+        end -= 1;
+    }
+    print(b"-");
 }
 
-// The same for numbers, parted by commas.
-pub(crate) fn print_numbers(numbers: &[usize; 8192], n: usize) {
-    let end = trimmed_count(numbers, n);
-    if end == 0 {
-        return print(b" -");
+// The number at a place, or 0 past the end.
+fn number_at(numbers: &[usize], at: usize) -> usize
+    ensures { λ r. ⌜ r ≡ getD (now (numbers .entry)) at 0 ⌝ }
+{
+    if at < numbers.len() {
+        return numbers[at];
     }
-    print(b" ");
+    0
+}
+
+// The first n numbers, parted by commas.
+fn print_list(numbers: &[usize], n: usize) {
     let mut i = 0;
-    while i < end {
+    while i < n {
         print_comma(i);
         print_number(number_at(numbers, i));
         i += 1;
     }
 }
 
-// The beginning of an answer: number and count.
-pub(crate) fn print_answer(a: Answer) {
+// The same without the zeros at their end.
+pub(crate) fn print_numbers(numbers: &[usize; 8192], n: usize) {
+    print(b" ");
+    let mut end = n;
+    while 0 < end {
+        if number_at(numbers, end - 1) != 0 {
+            return print_list(numbers, end);
+        }
+        end -= 1;
+    }
+    print(b"-");
+}
+
+// Number, count, and the converted bytes in the first n of `conv`.
+pub(crate) fn print_answer(a: Answer, conv: &[u8; 163984], n: usize) {
     print(b" = ");
     print_number(a.number);
     print(b" ");
     print_number(a.count);
+    print_bytes(conv, n);
 }

@@ -104,12 +104,12 @@ pub(crate) fn answer(s: &[u8]) {
     let mut suffix = [0u8; 64];
     let n = fields::bytes(field(s, 1), &mut prefix);
     fields::bytes(field(s, 2), &mut byte);
-    let times = number(field(s, 3));
+    let times = number(s, 3);
     let m = fields::bytes(field(s, 4), &mut suffix);
     if 10000000 < times {
         return;
     }
-    let first = number(field(s, 5));
-    let later = number(field(s, 6));
+    let first = number(s, 5);
+    let later = number(s, 6);
     print_rows(&prefix[..n], byte[0], times, &suffix[..m], first, later);
 }

@@ -22,7 +22,7 @@ use spans::numbers::read_numbers;
 fn lent_bytes(s: &[u8], n: usize, buf: &[u8]) -> usize
     ensures { λ r. ⌜ Lent (decimal 0 (fieldOf (now (s .entry)) n)) (now (buf .entry)) r ⌝ }
 {
-    let size = number(field(s, n));
+    let size = number(s, n);
     if size <= buf.len() {
         return size;
     }
@@ -34,7 +34,7 @@ fn lent_bytes(s: &[u8], n: usize, buf: &[u8]) -> usize
 fn lent_numbers(s: &[u8], n: usize, buf: &[usize]) -> usize
     ensures { λ r. ⌜ Lent (decimal 0 (fieldOf (now (s .entry)) n)) (now (buf .entry)) r ⌝ }
 {
-    let size = number(field(s, n));
+    let size = number(s, n);
     if size <= buf.len() {
         return size;
     }
@@ -46,7 +46,7 @@ fn lent_numbers(s: &[u8], n: usize, buf: &[usize]) -> usize
 fn lent_spans(s: &[u8], n: usize, buf: &[usize]) -> usize
     ensures { λ r. ⌜ Lent (4 * decimal 0 (fieldOf (now (s .entry)) n)) (now (buf .entry)) r ⌝ }
 {
-    let count = number(field(s, n));
+    let count = number(s, n);
     if count <= buf.len() / 4 {
         return 4 * count;
     }
@@ -57,8 +57,8 @@ fn lent_spans(s: &[u8], n: usize, buf: &[usize]) -> usize
 fn convert(s: &[u8], line: &[u8]) {
     let mut conv = [170u8; 163984];
     let c = lent_bytes(s, 2, &conv);
-    print_answer(text::convert(line, &mut conv[..c]));
-    print_bytes(&conv, c);
+    let a = text::convert(line, &mut conv[..c]);
+    print_answer(a, &conv, c);
 }
 
 fn read(s: &[u8], line: &[u8], matches: &[usize]) {
@@ -66,8 +66,8 @@ fn read(s: &[u8], line: &[u8], matches: &[usize]) {
     let mut spans = [170usize; 8192];
     let c = lent_bytes(s, 3, &conv);
     let p = lent_spans(s, 4, &spans);
-    print_answer(read_numbers(line, matches, &mut conv[..c], &mut spans[..p]));
-    print_bytes(&conv, c);
+    let a = read_numbers(line, matches, &mut conv[..c], &mut spans[..p]);
+    print_answer(a, &conv, c);
     print_numbers(&spans, p);
 }
 
@@ -75,20 +75,20 @@ fn rows(s: &[u8], line: &[u8]) {
     let mut conv = [170u8; 163984];
     let mut spans = [170usize; 8192];
     let mut pairs = [170usize; 8192];
-    let width = number(field(s, 2));
-    let mode = number(field(s, 3));
+    let width = number(s, 2);
+    let mode = number(s, 3);
     let c = lent_bytes(s, 4, &conv);
     let p = lent_spans(s, 5, &spans);
     let r = lent_numbers(s, 6, &pairs);
-    print_answer(rows_numbers(
+    let a = rows_numbers(
         line,
         width,
         mode,
         &mut conv[..c],
         &mut spans[..p],
         &mut pairs[..r],
-    ));
-    print_bytes(&conv, c);
+    );
+    print_answer(a, &conv, c);
     print_numbers(&spans, p);
     print_numbers(&pairs, r);
 }
@@ -96,12 +96,12 @@ fn rows(s: &[u8], line: &[u8]) {
 fn height(s: &[u8], line: &[u8]) {
     let mut conv = [170u8; 163984];
     let mut spans = [170usize; 8192];
-    let width = number(field(s, 2));
-    let mode = number(field(s, 3));
+    let width = number(s, 2);
+    let mode = number(s, 3);
     let c = lent_bytes(s, 4, &conv);
     let p = lent_spans(s, 5, &spans);
-    print_answer(height_numbers(line, width, mode, &mut conv[..c], &mut spans[..p]));
-    print_bytes(&conv, c);
+    let a = height_numbers(line, width, mode, &mut conv[..c], &mut spans[..p]);
+    print_answer(a, &conv, c);
     print_numbers(&spans, p);
 }
 
@@ -109,13 +109,13 @@ fn draw_window(s: &[u8], line: &[u8], matches: &[usize]) {
     let mut conv = [170u8; 163984];
     let mut spans = [170usize; 8192];
     let mut list = [170u8; 163984];
-    let current = number(field(s, 3));
-    let start = number(field(s, 4));
-    let end = number(field(s, 5));
+    let current = number(s, 3);
+    let start = number(s, 4);
+    let end = number(s, 5);
     let c = lent_bytes(s, 6, &conv);
     let p = lent_spans(s, 7, &spans);
     let b = lent_bytes(s, 8, &list);
-    print_answer(draw_window_numbers(
+    let a = draw_window_numbers(
         line,
         matches,
         current,
@@ -124,8 +124,8 @@ fn draw_window(s: &[u8], line: &[u8], matches: &[usize]) {
         &mut conv[..c],
         &mut spans[..p],
         &mut list[..b],
-    ));
-    print_bytes(&conv, c);
+    );
+    print_answer(a, &conv, c);
     print_numbers(&spans, p);
     print_bytes(&list, b);
 }
@@ -134,15 +134,15 @@ fn draw_row(s: &[u8], line: &[u8], matches: &[usize]) {
     let mut conv = [170u8; 163984];
     let mut spans = [170usize; 8192];
     let mut list = [170u8; 163984];
-    let current = number(field(s, 3));
-    let first = number(field(s, 4));
-    let count = number(field(s, 5));
-    let width = number(field(s, 6));
-    let mode = number(field(s, 7));
+    let current = number(s, 3);
+    let first = number(s, 4);
+    let count = number(s, 5);
+    let width = number(s, 6);
+    let mode = number(s, 7);
     let c = lent_bytes(s, 8, &conv);
     let p = lent_spans(s, 9, &spans);
     let b = lent_bytes(s, 10, &list);
-    print_answer(draw_row_numbers(
+    let a = draw_row_numbers(
         line,
         matches,
         current,
@@ -153,8 +153,8 @@ fn draw_row(s: &[u8], line: &[u8], matches: &[usize]) {
         &mut conv[..c],
         &mut spans[..p],
         &mut list[..b],
-    ));
-    print_bytes(&conv, c);
+    );
+    print_answer(a, &conv, c);
     print_numbers(&spans, p);
     print_bytes(&list, b);
 }

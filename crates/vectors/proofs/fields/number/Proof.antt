@@ -8,10 +8,13 @@ use Rattle.vectors.proofs.fields.number.Statement.{statement}
 use Rattle.vectors.proofs.fields.number.Tie as tie
 
 abbrev Inv-loop : tie.InvT-loop
-Inv-loop s n₀ i₀ n i = (decimal n (drop i s) ≡ decimal 0 s) × (i ≤ length s)
+Inv-loop s n digits v₀ i₀ v i = (decimal v (drop i digits) ≡ decimal 0 digits) × (i ≤ length digits)
 
 abbrev μ-loop : tie.MeasureT-loop
-μ-loop s n₀ i₀ n i = length s - i
+μ-loop s n digits v₀ i₀ v i = length digits - i
+
+field-requires : tie.Need-field-requires Inv-loop μ-loop
+field-requires c κs = search needs
 
 loop-holds : tie.Need-loop-holds Inv-loop μ-loop
 loop-holds c = search needs
@@ -40,6 +43,7 @@ number-spec =
     (tie.spec
     Inv-loop
     μ-loop
+    field-requires
     loop-holds
     shared-slice-read-with-digit
     with-digit-requires

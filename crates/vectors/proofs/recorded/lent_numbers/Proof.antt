@@ -1,16 +1,13 @@
-use Rattle.vectors.proofs.FieldText.{size-all, size-past}
+use Rattle.vectors.proofs.FieldText.{lent-all, lent-past}
 use borrow.Author.Needs.{needs}
 use Rattle.vectors.proofs.recorded.lent_numbers.Statement.{statement}
 use Rattle.vectors.proofs.recorded.lent_numbers.Tie as tie
-
-field-requires : tie.Need-field-requires
-field-requires c κs = search needs
 
 number-requires : tie.Need-number-requires
 number-requires c κs = search needs
 
 returns : tie.Need-returns
-returns c = search size-all
+returns c = search lent-all
 
 slice-aggregate-print : tie.Need-slice-aggregate-print
 slice-aggregate-print c = search needs
@@ -19,15 +16,8 @@ print-requires : tie.Need-print-requires
 print-requires c κs = search needs
 
 returns-2 : tie.Need-returns-2
-returns-2 c = search size-past
+returns-2 c = search lent-past
 
 pub lent-numbers-spec : {M : Type 1} → statement M
 lent-numbers-spec =
-    tie.close
-    (tie.spec
-    field-requires
-    number-requires
-    returns
-    slice-aggregate-print
-    print-requires
-    returns-2)
+    tie.close (tie.spec number-requires returns slice-aggregate-print print-requires returns-2)

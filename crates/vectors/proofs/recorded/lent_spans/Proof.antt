@@ -3,9 +3,6 @@ use borrow.Author.Needs.{needs}
 use Rattle.vectors.proofs.recorded.lent_spans.Statement.{statement}
 use Rattle.vectors.proofs.recorded.lent_spans.Tie as tie
 
-field-requires : tie.Need-field-requires
-field-requires c κs = search needs
-
 number-requires : tie.Need-number-requires
 number-requires c κs = search needs
 
@@ -27,11 +24,4 @@ returns-2 c = search spans-past
 pub lent-spans-spec : {M : Type 1} → statement M
 lent-spans-spec =
     tie.close
-    (tie.spec
-    field-requires
-    number-requires
-    mul-result
-    returns
-    slice-aggregate-print
-    print-requires
-    returns-2)
+    (tie.spec number-requires mul-result returns slice-aggregate-print print-requires returns-2)
