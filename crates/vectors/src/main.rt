@@ -62,7 +62,7 @@ fn answer(s: &[u8]) {
 
 // A proved loop has to end, so it counts its turns down, from a number that no run uses up.
 fn main() {
-    let mut buf = io::large_buffer();
+    let mut buf = [0u8; 16384];
     let mut turns = usize::MAX;
     while 0 < turns {
         let line = read_line(&mut buf);

@@ -30,7 +30,7 @@ pub(crate) fn print_hex(bytes: &[u8], from: usize, end: usize) {
 }
 
 // The first n bytes, without the zeros at their end.
-pub(crate) fn print_bytes(bytes: &[u8; 163984], n: usize) {
+pub(crate) fn print_bytes(bytes: &[u8; 32776], n: usize) {
     print(b" ");
     let mut end = n;
     while 0 < end {
@@ -63,7 +63,7 @@ fn print_list(numbers: &[usize], n: usize) {
 }
 
 // The same without the zeros at their end.
-pub(crate) fn print_numbers(numbers: &[usize; 8192], n: usize) {
+pub(crate) fn print_numbers(numbers: &[usize; 4096], n: usize) {
     print(b" ");
     let mut end = n;
     while 0 < end {
@@ -76,7 +76,7 @@ pub(crate) fn print_numbers(numbers: &[usize; 8192], n: usize) {
 }
 
 // Number, count, and the converted bytes in the first n of `conv`.
-pub(crate) fn print_answer(a: Answer, conv: &[u8; 163984], n: usize) {
+pub(crate) fn print_answer(a: Answer, conv: &[u8; 32776], n: usize) {
     print(b" = ");
     print_number(a.number);
     print(b" ");

@@ -55,7 +55,7 @@ fn fill(
 
 // How many bytes the program prints for what it has read, and the last 64 of them at most.
 fn print_text(line: &[u8], state: Input) {
-    let mut out = [0u8; 258048];
+    let mut out = [0u8; 65536];
     let n = rows_io::output::print(&mut out, line, state);
     print(b" = ");
     print_number(n);

@@ -55,15 +55,15 @@ fn lent_spans(s: &[u8], n: usize, buf: &[usize]) -> usize
 }
 
 fn convert(s: &[u8], line: &[u8]) {
-    let mut conv = [170u8; 163984];
+    let mut conv = [170u8; 32776];
     let c = lent_bytes(s, 2, &conv);
     let a = text::convert(line, &mut conv[..c]);
     print_answer(a, &conv, c);
 }
 
 fn read(s: &[u8], line: &[u8], matches: &[usize]) {
-    let mut conv = [170u8; 163984];
-    let mut spans = [170usize; 8192];
+    let mut conv = [170u8; 32776];
+    let mut spans = [170usize; 4096];
     let c = lent_bytes(s, 3, &conv);
     let p = lent_spans(s, 4, &spans);
     let a = read_numbers(line, matches, &mut conv[..c], &mut spans[..p]);
@@ -72,9 +72,9 @@ fn read(s: &[u8], line: &[u8], matches: &[usize]) {
 }
 
 fn rows(s: &[u8], line: &[u8]) {
-    let mut conv = [170u8; 163984];
-    let mut spans = [170usize; 8192];
-    let mut pairs = [170usize; 8192];
+    let mut conv = [170u8; 32776];
+    let mut spans = [170usize; 4096];
+    let mut pairs = [170usize; 4096];
     let width = number(s, 2);
     let mode = number(s, 3);
     let c = lent_bytes(s, 4, &conv);
@@ -94,8 +94,8 @@ fn rows(s: &[u8], line: &[u8]) {
 }
 
 fn height(s: &[u8], line: &[u8]) {
-    let mut conv = [170u8; 163984];
-    let mut spans = [170usize; 8192];
+    let mut conv = [170u8; 32776];
+    let mut spans = [170usize; 4096];
     let width = number(s, 2);
     let mode = number(s, 3);
     let c = lent_bytes(s, 4, &conv);
@@ -106,9 +106,9 @@ fn height(s: &[u8], line: &[u8]) {
 }
 
 fn draw_window(s: &[u8], line: &[u8], matches: &[usize]) {
-    let mut conv = [170u8; 163984];
-    let mut spans = [170usize; 8192];
-    let mut list = [170u8; 163984];
+    let mut conv = [170u8; 32776];
+    let mut spans = [170usize; 4096];
+    let mut list = [170u8; 32776];
     let current = number(s, 3);
     let start = number(s, 4);
     let end = number(s, 5);
@@ -131,9 +131,9 @@ fn draw_window(s: &[u8], line: &[u8], matches: &[usize]) {
 }
 
 fn draw_row(s: &[u8], line: &[u8], matches: &[usize]) {
-    let mut conv = [170u8; 163984];
-    let mut spans = [170usize; 8192];
-    let mut list = [170u8; 163984];
+    let mut conv = [170u8; 32776];
+    let mut spans = [170usize; 4096];
+    let mut list = [170u8; 32776];
     let current = number(s, 3);
     let first = number(s, 4);
     let count = number(s, 5);

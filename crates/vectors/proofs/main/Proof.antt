@@ -5,13 +5,10 @@ use Rattle.vectors.proofs.main.Statement.{statement}
 use Rattle.vectors.proofs.main.Tie as tie
 
 abbrev Inv-loop : tie.InvT-loop
-Inv-loop buf₀ turns₀ buf turns = length buf ≡ 65536
+Inv-loop buf₀ turns₀ buf turns = length buf ≡ 16384
 
 abbrev μ-loop : tie.MeasureT-loop
 μ-loop buf₀ turns₀ buf turns = turns
-
-large-buffer-requires : tie.Need-large-buffer-requires Inv-loop μ-loop
-large-buffer-requires c κs = search needs
 
 loop-holds : tie.Need-loop-holds Inv-loop μ-loop
 loop-holds c = search needs
@@ -52,7 +49,6 @@ main-spec =
     (tie.spec
     Inv-loop
     μ-loop
-    large-buffer-requires
     loop-holds
     slice-aggregate-read-line
     read-line-requires
