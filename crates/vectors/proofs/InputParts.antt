@@ -1,10 +1,9 @@
 -- The parts of an input.
-use mathlib.Core.Path.{_≡_, refl, sym, ap, _∙_}
-use Prim.Native.Nat.{ℕ, zero, suc, _+_, _-_, _≤_, _<_}
+use mathlib.Core.Path.{_≡_}
+use Prim.Native.Nat.{ℕ, suc, _+_, _-_, _≤_, _<_}
 use native.Mathlib.Numerals.{add-one}
 use native.Mathlib.Omega.{arith}
-use mathlib.Core.List.{List, [], _∷_}
-use Rattle.buffer.specs.Sink.{Sink, sink, put, emit}
+use Rattle.buffer.specs.Sink.{Sink, put, emit}
 use Rattle.vectors.specs.Program.{partOf}
 
 module _ (f : ℕ → ℕ) (k : Sink) (i end : ℕ) {e : Sink} (p : emit k (partOf f i (end - i)) ≡ e) where

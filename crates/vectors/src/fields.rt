@@ -76,17 +76,17 @@ pub(crate) fn number(s: &[u8], n: usize) -> usize
 }
 
 // The numbers of a list, as many as `out` holds; how many.
-pub(crate) fn numbers(s: &[u8], out: &mut [usize]) -> usize
-    ensures { λ r. ⌜ Kept (now (out .entry)) (now (out .exit)) (listed (now (s .entry))) r ⌝ }
+pub(crate) fn numbers(text: &[u8], out: &mut [usize]) -> usize
+    ensures { λ r. ⌜ Kept (now (out .entry)) (now (out .exit)) (listed (now (text .entry))) r ⌝ }
 {
-    if byte_at(s, 0) == b'-' {
+    if byte_at(text, 0) == b'-' {
         return 0;
     }
     let mut at = 0;
     let mut n = 0;
     let mut i = 0;
-    while i < s.len() {
-        let b = s[i];
+    while i < text.len() {
+        let b = text[i];
         i += 1;
         if b == b',' {
             at = push_number(out, at, n);
@@ -105,13 +105,13 @@ fn hex_byte(high: u8, low: u8) -> u8
 }
 
 // The bytes of a hexadecimal text, as many as `out` holds; how many.
-pub(crate) fn bytes(s: &[u8], out: &mut [u8]) -> usize
-    ensures { λ r. ⌜ Kept (now (out .entry)) (now (out .exit)) (hexBytes (now (s .entry))) r ⌝ }
+pub(crate) fn bytes(text: &[u8], out: &mut [u8]) -> usize
+    ensures { λ r. ⌜ Kept (now (out .entry)) (now (out .exit)) (hexBytes (now (text .entry))) r ⌝ }
 {
     let mut at = 0;
     let mut i = 0;
-    while i < s.len() / 2 {
-        at = push_byte(out, at, hex_byte(s[2 * i], s[2 * i + 1]));
+    while i < text.len() / 2 {
+        at = push_byte(out, at, hex_byte(text[2 * i], text[2 * i + 1]));
         i += 1;
     }
     smaller(at, out.len())

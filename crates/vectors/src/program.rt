@@ -66,7 +66,8 @@ fn print_text(line: &[u8], state: Input) {
     print_hex(&out, n - 64, n);
 }
 
-// The same for an input, handed over in a first part of `first` bytes and later parts of `later`.
+// The same for an input, handed over in a first part of `first` bytes and later parts of `later`. The last is the first that is shorter,
+// of no bytes where the others have them all.
 fn print_rows(prefix: &[u8], byte: u8, times: usize, suffix: &[u8], first: usize, later: usize)
     requires { ⌜ length (now prefix) + times + length (now suffix) ≤ 4294967296 ⌝ }
 {
@@ -83,19 +84,21 @@ fn print_rows(prefix: &[u8], byte: u8, times: usize, suffix: &[u8], first: usize
         &mut part,
     );
     let mut state = with_part(&mut line, begin(), &part[..at]);
-    while at < total {
+    while at <= total {
         if !state.more {
             return print_text(&line, state);
         }
         let end = at + smaller(later, total - at);
         let n = fill(prefix, byte, times, suffix, at, end, &mut part);
+        state = with_part(&mut line, state, &part[..n]);
+        if n < later {
+            return print_text(&line, state);
+        }
         if n == 0 {
             return;
         }
-        state = with_part(&mut line, state, &part[..n]);
         at += n;
     }
-    print_text(&line, state);
 }
 
 pub(crate) fn answer(s: &[u8]) {

@@ -1,7 +1,5 @@
 // Calls that the Rust source answered: each is answered, and every lent buffer printed.
-ghost use mathlib.Core.Path.{_≡_};
 ghost use Prim.Native.Nat.{_*_};
-ghost use lib.ListN.{length};
 ghost use Rattle.vectors.specs.Fields.{fieldOf, decimal};
 ghost use Rattle.vectors.specs.Recorded.{Lent};
 use super::fields;

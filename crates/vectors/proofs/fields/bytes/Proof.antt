@@ -9,10 +9,10 @@ use Rattle.vectors.proofs.fields.bytes.Statement.{statement}
 use Rattle.vectors.proofs.fields.bytes.Tie as tie
 
 abbrev Inv-loop : tie.InvT-loop
-Inv-loop s out₀ at₀ i₀ out at i = (emit (sink out at) (hexBytes (drop (2 * i) s)) ≡ emit (sink out₀ 0) (hexBytes s)) × (length out ≡ length out₀)
+Inv-loop text out₀ at₀ i₀ out at i = (emit (sink out at) (hexBytes (drop (2 * i) text)) ≡ emit (sink out₀ 0) (hexBytes text)) × (length out ≡ length out₀)
 
 abbrev μ-loop : tie.MeasureT-loop
-μ-loop s out₀ at₀ i₀ out at i = length s / 2 - i
+μ-loop text out₀ at₀ i₀ out at i = length text / 2 - i
 
 loop-holds : tie.Need-loop-holds Inv-loop μ-loop
 loop-holds c = search needs

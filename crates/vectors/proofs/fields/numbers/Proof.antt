@@ -9,10 +9,10 @@ use Rattle.vectors.proofs.fields.numbers.Statement.{statement}
 use Rattle.vectors.proofs.fields.numbers.Tie as tie
 
 abbrev Inv-loop : tie.InvT-loop
-Inv-loop s out₀ at₀ n₀ i₀ out at n i = (emit (sink out at) (listedFrom n (drop i s)) ≡ emit (sink out₀ 0) (listed s)) × (i ≤ length s) × (length out ≡ length out₀)
+Inv-loop text out₀ at₀ n₀ i₀ out at n i = (emit (sink out at) (listedFrom n (drop i text)) ≡ emit (sink out₀ 0) (listed text)) × (i ≤ length text) × (length out ≡ length out₀)
 
 abbrev μ-loop : tie.MeasureT-loop
-μ-loop s out₀ at₀ n₀ i₀ out at n i = length s - i
+μ-loop text out₀ at₀ n₀ i₀ out at n i = length text - i
 
 byte-at-requires : tie.Need-byte-at-requires Inv-loop μ-loop
 byte-at-requires c κs = search needs

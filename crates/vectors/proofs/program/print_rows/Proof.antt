@@ -11,7 +11,7 @@ abbrev Inv-loop : tie.InvT-loop
 Inv-loop prefix byte times suffix first later line₀ part₀ total at₀ state₀ line part at state = (length line ≡ 4097) × (length part ≡ 4096) × (total ≤ 4294967296)
 
 abbrev μ-loop : tie.MeasureT-loop
-μ-loop prefix byte times suffix first later line₀ part₀ total at₀ state₀ line part at state = total - at
+μ-loop prefix byte times suffix first later line₀ part₀ total at₀ state₀ line part at state = total + 1 - at
 
 buffer-requires : tie.Need-buffer-requires Inv-loop μ-loop
 buffer-requires c κs = search needs
@@ -58,9 +58,6 @@ print-text-requires c κs = search needs
 returns : tie.Need-returns Inv-loop μ-loop
 returns c = search needs
 
-sub-smaller : tie.Need-sub-smaller Inv-loop μ-loop
-sub-smaller c = search needs
-
 smaller-requires-2 : tie.Need-smaller-requires-2 Inv-loop μ-loop
 smaller-requires-2 c κs = search needs
 
@@ -72,9 +69,6 @@ slice-aggregate-fill-2 c = search needs
 
 fill-requires-2 : tie.Need-fill-requires-2 Inv-loop μ-loop
 fill-requires-2 c κs = search needs
-
-returns-2 : tie.Need-returns-2 Inv-loop μ-loop
-returns-2 c = search needs
 
 slice-aggregate-with-part-3 : tie.Need-slice-aggregate-with-part-3 Inv-loop μ-loop
 slice-aggregate-with-part-3 c = search needs
@@ -88,6 +82,18 @@ slice-aggregate-with-part-4 c = search needs
 with-part-requires-2 : tie.Need-with-part-requires-2 Inv-loop μ-loop
 with-part-requires-2 c κs = search needs
 
+slice-aggregate-print-text-2 : tie.Need-slice-aggregate-print-text-2 Inv-loop μ-loop
+slice-aggregate-print-text-2 c = search needs
+
+print-text-requires-2 : tie.Need-print-text-requires-2 Inv-loop μ-loop
+print-text-requires-2 c κs = search needs
+
+returns-2 : tie.Need-returns-2 Inv-loop μ-loop
+returns-2 c = search needs
+
+returns-3 : tie.Need-returns-3 Inv-loop μ-loop
+returns-3 c = search needs
+
 add-at : tie.Need-add-at Inv-loop μ-loop
 add-at c = search needs
 
@@ -97,14 +103,8 @@ loop-less c = search needs
 loop-again : tie.Need-loop-again Inv-loop μ-loop
 loop-again c = search needs
 
-slice-aggregate-print-text-2 : tie.Need-slice-aggregate-print-text-2 Inv-loop μ-loop
-slice-aggregate-print-text-2 c = search needs
-
-print-text-requires-2 : tie.Need-print-text-requires-2 Inv-loop μ-loop
-print-text-requires-2 c κs = search needs
-
-returns-3 : tie.Need-returns-3 Inv-loop μ-loop
-returns-3 c = search needs
+returns-4 : tie.Need-returns-4 Inv-loop μ-loop
+returns-4 c = search needs
 
 pub print-rows-spec : {M : Type 1} → statement M
 print-rows-spec =
@@ -127,19 +127,19 @@ print-rows-spec =
     slice-aggregate-print-text
     print-text-requires
     returns
-    sub-smaller
     smaller-requires-2
     add-end
     slice-aggregate-fill-2
     fill-requires-2
-    returns-2
     slice-aggregate-with-part-3
     array-share-prefix-part-2
     slice-aggregate-with-part-4
     with-part-requires-2
+    slice-aggregate-print-text-2
+    print-text-requires-2
+    returns-2
+    returns-3
     add-at
     loop-less
     loop-again
-    slice-aggregate-print-text-2
-    print-text-requires-2
-    returns-3)
+    returns-4)
