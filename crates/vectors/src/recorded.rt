@@ -16,7 +16,7 @@ use rows::numbers::height_numbers;
 use rows::numbers::rows_numbers;
 use spans::numbers::read_numbers;
 
-// How much of a buffer is lent: as many bytes as the n-th field says. One that says more than there are is printed.
+// How much of a buffer is lent: as many bytes as the n-th field says. Where there are fewer, `too large` is printed, and all are lent.
 fn lent_bytes(s: &[u8], n: usize, buf: &[u8]) -> usize
     ensures { λ r. ⌜ Lent (decimal 0 (fieldOf (now (s .entry)) n)) (now (buf .entry)) r ⌝ }
 {
