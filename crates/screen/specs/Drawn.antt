@@ -1,0 +1,42 @@
+-- A drawing's change list on a screen row: what is asked of the profile and the line, and the columns that its texts take.
+use mathlib.Core.List.{List, [], _∷_}
+use Prim.Native.Nat.{ℕ, _+_, _*_, _≤_}
+use lib.ListN.{length}
+use Rattle.text.specs.Each.{All}
+use Rattle.text.specs.Utf8.{Scalar}
+use Rattle.text.specs.Utf8.Valid.{Valid}
+use Rattle.text.specs.Utf8.Code.{size}
+use Rattle.text.specs.Class.{Profile}
+use Rattle.text.specs.Class.Ascii.{AsciiClasses}
+use Rattle.text.specs.Width.{widthOf}
+use Rattle.text.specs.Width.Symbols.{SymbolColumns}
+use Rattle.drawing.specs.Change.{Change, text, torn, allAttributes, clearToEnd, cursorRight}
+use Rattle.screen.specs.SymbolClasses.{SymbolClasses}
+use Rattle.screen.specs.ConvertedBytes.{Byte}
+pub mod Texts
+pub mod LineDrawing
+pub mod Clip
+pub mod Attributes
+pub mod Spans
+
+-- a profile's printable ASCII and the symbols of line drawing have class other and width 1; two columns a byte at most
+pub record ProfileLaws (P : Profile) : Type 0 where
+  pub ascii : AsciiClasses P
+  pub symbols : SymbolClasses P
+  pub symbolColumns : SymbolColumns P
+  pub narrow : (s : List Scalar) → All Valid s → widthOf P s ≤ 2 * size s
+
+-- a converted line
+pub record Line (s : List ℕ) : Type 0 where
+  pub bytes : All Byte s
+  pub short : length s ≤ 32768
+
+-- the columns of a list's texts; a right arrow's 08 has none, and its `>` stands behind a kind 4, which no other change has
+unfoldable pub columns : Profile → List Change → ℕ
+unfolding widthOf
+columns P [] = 0
+columns P (text s ∷ cs) = widthOf P s + columns P cs
+columns P (torn ∷ cs) = columns P cs
+columns P (allAttributes a ∷ cs) = columns P cs
+columns P (clearToEnd c ∷ cs) = columns P cs
+columns P (cursorRight ∷ cs) = 0
