@@ -1,5 +1,4 @@
 -- A converted line of bytes is a line of bytes: a law that text's files do not have.
-use mathlib.Core.Path.{_∙_}
 use Prim.Native.Nat.{ℕ, _≤_}
 use native.Mathlib.Omega.{arith}
 use mathlib.Core.Bool.{Bool, true, _&&_}

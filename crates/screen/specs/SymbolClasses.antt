@@ -1,7 +1,7 @@
 -- Symbols of one column have class other: a law that text's files do not have.
 use mathlib.Core.Path.{_≡_, sym}
 use Prim.Native.Nat.{ℕ}
-use mathlib.Core.Bool.{true, _||_}
+use mathlib.Core.Bool.{true}
 use Rattle.text.specs.Tests.{in-range, is-true, or-T, true-T}
 use Rattle.text.specs.Utf8.{to, within}
 use Rattle.text.specs.Class.{Profile, controls, extends, number}

@@ -4,12 +4,12 @@ use mathlib.Core.Logic.{_≢_}
 use Prim.Native.Nat.{ℕ, zero, suc, _-_, _≤_, max}
 use native.Mathlib.Omega.{arith}
 use mathlib.Core.Bool.{Bool, true, cond, true≢false, _&&_}
-use mathlib.Core.List.{List, [], _∷_}
+use mathlib.Core.List.{List}
 use mathlib.Core.Option.{Option}
 use lib.ListN.{length, take, replicate}
 use lib.Seq.{take-append-seam}
 use lib.Dec.{eqb, leb, ltb}
-use borrow.Author.Tests.{eq-eqb, le-leb, le-ltb, leb-true}
+use borrow.Author.Tests.{eq-eqb, le-leb, le-ltb}
 use Rattle.text.specs.Tests.{cases, in-range}
 use Rattle.text.specs.Each.{All}
 use Rattle.text.specs.Class.{Profile}
@@ -43,35 +43,37 @@ use Rattle.screen.specs.Drawn.{ProfileLaws, Line, columns, rowColumns}
 use Rattle.screen.specs.Drawn.Spans.{read-fit}
 use Rattle.screen.specs.Drawn.WellFormed.{DrawnList, list-records, never-malformed}
 use Rattle.screen.specs.Drawn.Cursor.{list-passed}
-use Rattle.screen.specs.Drawn.Columns.{ListOf, window-list, rows-list}
+use Rattle.screen.specs.Drawn.Columns.{window-list, rows-list}
 
--- what `screen_row` says of a list in rows of W columns, where its texts take c columns of n that were to be drawn
+-- a change list drawn into n columns, of which its texts take c, in a row of W columns
 pub record InRow (P : Profile) (n c : ℕ) (list : List ℕ) : Type 0 where
   pub never-10 : (W room : ℕ) → screenCall P W room list .number ≢ 10
   pub never-11 : (W room : ℕ) → n ≤ W → screenCall P W room list .number ≢ 11
   pub exactly-11 : (W room : ℕ) → 1 ≤ W → W ≤ 4096 → eqb (screenCall P W room list .number) 11 ≡ ltb W c
+  pub few : c ≤ max 1 n
 
 -- the change list that a call leaves
 abbrev pub listOf : Drawn → List ℕ
 listOf d = take (d .count) (d .list)
 
 module _ (P : Profile) where
-  -- a window drawing of any converted line, in a row of the window's columns
+  -- a window drawing of any converted line
   abbrev pub WindowInRow : Type 0
   WindowInRow = (s : List ℕ) → Line s → (start end : ℕ) (current : Option ℕ) (matches : List ℕ)
       → let cs : List Change = render P start end current (read P matches s) in InRow P (end - start) (columns P cs) (encode cs)
 
-  -- a row drawing, in a row of its rows' columns
+  -- a row drawing
   abbrev pub RowsInRow : Type 0
   RowsInRow = (s : List ℕ) → Line s → (first count width : ℕ) (mode : Mode) (current : Option ℕ) (matches : List ℕ)
       → let ss : List Span = read P matches s in
       let cs : List Change = renderWrapped P first count width mode current ss in InRow P (rowColumns P first count width mode ss) (columns P cs) (encode cs)
 
-  -- what an accepted `draw_window` leaves of any line of bytes, and what an accepted `draw_row` leaves
+  -- what an accepted `draw_window` leaves, of any line of bytes
   abbrev pub WindowCallInRow : Type 0
   WindowCallInRow = (line : List ℕ) → All Byte line → (conv places room start end : ℕ) (current : Option ℕ) (matches : List ℕ) → windowCall P conv places room start end current matches line .number ≡ 0
       → InRow P (end - start) (columns P (render P start end current (read P matches (convert P line)))) (listOf (windowCall P conv places room start end current matches line))
 
+  -- what an accepted `draw_row` leaves
   abbrev pub RowCallInRow : Type 0
   RowCallInRow = (line : List ℕ) → All Byte line → (conv places room first count width mode : ℕ) (current : Option ℕ) (matches : List ℕ) → rowCall P conv places room first count width mode current matches line .number ≡ 0
       → let ss : List Span = read P matches (convert P line) in
@@ -117,7 +119,7 @@ module _ (P : Profile) (H : ProfileLaws P) (cs : List Change) (d : DrawnList P c
       few k = omega arith
 
   in-row : (n : ℕ) → columns P cs ≤ max 1 n → InRow P n (columns P cs) (encode cs)
-  in-row n c = record { never-10 = not-10; never-11 = λ W room h. not-11 n W room c h; exactly-11 = λ W room h k. at-11 W room (rw (le-leb 1 W h, le-leb W 4096 k)) }
+  in-row n c = record { never-10 = not-10; never-11 = λ W room h. not-11 n W room c h; exactly-11 = λ W room h k. at-11 W room (rw (le-leb 1 W h, le-leb W 4096 k)); few = c }
 
 -- ---- lists that drawings send
 

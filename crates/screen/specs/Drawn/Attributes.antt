@@ -1,7 +1,7 @@
 -- Attributes that drawings send: intensity, underline and blink stay as document 01 has them.
 use Prim.Native.Nat.{ℕ, zero, suc, _-_, _≤_}
 use native.Mathlib.Omega.{arith}
-use mathlib.Core.Bool.{Bool, true, false, cond, _&&_}
+use mathlib.Core.Bool.{Bool, true, _&&_}
 use mathlib.Core.List.{List, [], _∷_}
 use lib.Dec.{T, eqb, leb, leb→le}
 use Rattle.text.specs.Tests.{and-T}
@@ -34,54 +34,54 @@ InLimits a = FontInLimits (a .font)
 -- ---- orders
 
 -- an order whose value document 01 has
-unfoldable pub known-value : Sgr → Bool
-known-value Reset = true
-known-value (Intensity x) = leb x 2
-known-value (Underline x) = leb x 2
-known-value (Blink x) = leb x 2
-known-value (Italic x) = true
-known-value (Inverse x) = true
-known-value (Invisible x) = true
-known-value (StrikeThrough x) = true
-known-value (Overline x) = true
-known-value (Foreground x) = true
-known-value (Background x) = true
-known-value (UnderlineColor x) = true
+unfoldable pub knownValue : Sgr → Bool
+knownValue Reset = true
+knownValue (Intensity x) = leb x 2
+knownValue (Underline x) = leb x 2
+knownValue (Blink x) = leb x 2
+knownValue (Italic x) = true
+knownValue (Inverse x) = true
+knownValue (Invisible x) = true
+knownValue (StrikeThrough x) = true
+knownValue (Overline x) = true
+knownValue (Foreground x) = true
+knownValue (Background x) = true
+knownValue (UnderlineColor x) = true
 
 abbrev pub KnownValue : Sgr → Type 0
-KnownValue o = T (known-value o)
+KnownValue o = T (knownValue o)
 
-unfoldable known-meaning : Meaning → Bool
-known-meaning (Order o) = known-value o
-known-meaning (Group w) = true
-known-meaning Unknown = true
+unfoldable knownMeaning : Meaning → Bool
+knownMeaning (Order o) = knownValue o
+knownMeaning (Group w) = true
+knownMeaning Unknown = true
 
 abbrev KnownMeaning : Meaning → Type 0
-KnownMeaning x = T (known-meaning x)
+KnownMeaning x = T (knownMeaning x)
 
 -- what the parameters k above their ranges' lows say
 allKnown : ℕ → List Known → Bool
 allKnown k [] = true
-allKnown k (r ∷ rs) = known-meaning (r .says k) && allKnown k rs
+allKnown k (r ∷ rs) = knownMeaning (r .says k) && allKnown k rs
 
 known-all : (k : ℕ) → T (allKnown k known)
-unfolding allKnown known known-meaning known-value
+unfolding allKnown known knownMeaning knownValue
 known-all k = tt
 
 meaning-known : (rs : List Known) (p : ℕ) → ((k : ℕ) → T (allKnown k rs)) → KnownMeaning (meaningOf rs p)
-unfolding meaningOf allKnown known-meaning
+unfolding meaningOf allKnown knownMeaning
 meaning-known [] p t = tt
 meaning-known (r ∷ rs) p t =
-    both KnownMeaning (within (to (r .low) (r .high)) p) (and-T (known-meaning (r .says (p - r .low))) (allKnown (p - r .low) rs) (t (p - r .low)) .0) (meaning-known rs p (λ k. and-T (known-meaning (r .says k)) (allKnown k rs) (t k) .1))
+    both KnownMeaning (within (to (r .low) (r .high)) p) (and-T (knownMeaning (r .says (p - r .low))) (allKnown (p - r .low) rs) (t (p - r .low)) .0) (meaning-known rs p (λ k. and-T (knownMeaning (r .says k)) (allKnown k rs) (t k) .1))
 
 coloured-known : (t : Target) (c : Color) → KnownValue (coloured t c)
-unfolding coloured known-value
+unfolding coloured knownValue
 coloured-known target.Foreground c = tt
 coloured-known target.Background c = tt
 coloured-known target.Underline c = tt
 
 after-known : (w : ColorState) (p : ℕ) → KnownMeaning (meaningAfter w p)
-unfolding meaningAfter known-meaning
+unfolding meaningAfter knownMeaning
 after-known Ready p = meaning-known known p known-all
 after-known (WantKind t) p = both KnownMeaning (eqb p 5) tt (both KnownMeaning (eqb p 2) tt tt)
 after-known (WantIndex t) p = both KnownMeaning (leb p 255) (coloured-known t _) tt
@@ -90,7 +90,7 @@ after-known (WantGreen t r) p = both KnownMeaning (leb p 255) tt tt
 after-known (WantBlue t r g) p = both KnownMeaning (leb p 255) (coloured-known t _) tt
 
 follow-known : (x : Meaning) (go : ColorState → List Sgr) → KnownMeaning x → ((w : ColorState) → All KnownValue (go w)) → All KnownValue (follow x go)
-unfolding follow known-meaning
+unfolding follow knownMeaning
 follow-known (Order o) go t a = all-cons t (a Ready)
 follow-known (Group w) go t a = a w
 follow-known Unknown go t a = all-nil
@@ -114,7 +114,7 @@ unfolding plain plainWith
 plain-limits = zero-font
 
 apply-limits : (a : Attributes) (o : Sgr) → InLimits a → KnownValue o → InLimits (apply a o)
-unfolding apply known-value plainWith withFont withFlags withColors
+unfolding apply knownValue plainWith withFont withFlags withColors
 apply-limits a Reset f t = zero-font
 apply-limits a (Intensity x) f t = record { intensity = leb→le x 2 t; underline = f .underline; blink = f .blink }
 apply-limits a (Underline x) f t = record { intensity = f .intensity; underline = leb→le x 2 t; blink = f .blink }

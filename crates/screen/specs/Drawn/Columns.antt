@@ -1,15 +1,14 @@
 -- What window drawings and row drawings send: well-formed lists, with texts of no more columns than are drawn.
-use mathlib.Core.Path.{_≡_, refl, sym, ap, subst, _∙_}
+use mathlib.Core.Path.{_≡_, refl}
 use Prim.Native.Nat.{ℕ, zero, suc, _+_, _-_, _*_, _%_, _≤_, _<_, min, max}
 use native.Mathlib.Nat.{zero-add}
 use native.Mathlib.Omega.{arith}
-use mathlib.Core.Bool.{Bool, true, false, cond, not, _&&_}
+use mathlib.Core.Bool.{Bool, cond, not, _&&_}
 use mathlib.Core.List.{List, [], _∷_, _++_}
 use mathlib.Core.Option.{Option}
 use lib.ListN.{length}
-use lib.Dec.{eqb, leb, ltb, ltb→lt}
-use borrow.Author.Tests.{leb-true, leb-false}
-use Rattle.text.specs.Tests.{cases, and-T, true-T}
+use lib.Dec.{eqb, ltb, ltb→lt}
+use Rattle.text.specs.Tests.{and-T, true-T}
 use Rattle.text.specs.Each.{All, all-nil, all-cons, all-append}
 use Rattle.text.specs.Utf8.{Scalar, ascii, bytesOf}
 use Rattle.text.specs.Class.{Profile}
@@ -22,10 +21,8 @@ use Rattle.spans.specs.Spans.{Content, Span}
 use Rattle.rows.specs.Rows.{Mode, Row, rows}
 use Rattle.drawing.specs.Attributes as style
 use Rattle.drawing.specs.Attributes.{Style, number}
-use Rattle.drawing.specs.Clip.{clip}
 use Rattle.drawing.specs.Marks.{scalarMark}
-use Rattle.drawing.specs.Change as change
-use Rattle.drawing.specs.Change.{Change, allAttributes, clipped}
+use Rattle.drawing.specs.Change.{Change, allAttributes, clearToEnd, clipped}
 use Rattle.drawing.specs.Draw as draw
 use Rattle.drawing.specs.Draw.{State, Sent, sent, move, meets, windowed, writeTruncated, writeMarks, renderSequence, textStyle, renderSpan, renderSpans, initial, leftArrow, rightArrow, closeWindow, render, endOf, startOf, closeRows, renderWrapped}
 use Rattle.screen.specs.Branches.{both, by-case}
@@ -34,7 +31,7 @@ use Rattle.screen.specs.Drawn.Texts.{Drawable, spaces-drawable, byteMark
 use Rattle.screen.specs.Drawn.LineDrawing.{text-drawable}
 use Rattle.screen.specs.Drawn.Clip.{Clipped, IfSome, left, clip-text}
 use Rattle.screen.specs.Drawn.Attributes.{InLimits, plain-limits, applyAll-limits, linked-limits, styled-limits, arrows-limits}
-use Rattle.screen.specs.Drawn.Spans.{Fit}
+use Rattle.screen.specs.Drawn.Spans.{Fit, FitSpans}
 use Rattle.screen.specs.Drawn.WellFormed.{Sendable, text, torn, attributes, clear, DrawnList, done, next, arrow, arrow-sendable}
 
 module _ (P : Profile) where
@@ -62,7 +59,7 @@ least-of : (n a b s : ℕ) → n ≤ a - s → n ≤ b - s → n ≤ min a b - s
 least-of n a b s h k = omega arith
 
 module _ (P : Profile) (H : ProfileLaws P) where
-  clipped-sent : {offset limit : ℕ} {x : List Scalar} {o : Option (List Scalar)} → Drawable P H x → IfSome P H (Clipped P H offset limit (widthOf P x) (length (bytesOf x))) o
+  clipped-sent : {offset limit : ℕ} {x : List Scalar} {o : Option (List Scalar)} → Drawable P x → IfSome (Clipped P offset limit (widthOf P x) (length (bytesOf x))) o
       → Sendable P (clipped o) × ((columns P (clipped o ∷ []) ≤ limit - offset) × (columns P (clipped o ∷ []) ≤ widthOf P x - offset))
   unfolding clipped columns
   clipped-sent d IfSome.torn = (torn, (omega arith, omega arith))
@@ -109,7 +106,7 @@ module _ (P : Profile) (H : ProfileLaws P) where
       clipped-columns : v ≤ end - p - (start - p) → v ≤ w - (start - p) → start < p + w → before p + v ≤ before (p + w)
       clipped-columns i f l = let e : min p end ≡ p = least p end r in rw e (least-of (p - start + v) (p + w) end start (in-text f l) (in-window i))
 
-    write-step : (t : State) (s : Style) {x : List Scalar} → Drawable P H x → InLimits (t .attrs) → Step t (writeTruncated P start end t s x)
+    write-step : (t : State) (s : Style) {x : List Scalar} → Drawable P x → InLimits (t .attrs) → Step t (writeTruncated P start end t s x)
     unfolding writeTruncated move
     write-step t s {x} d f =
         let w : ℕ = widthOf P x in
@@ -143,12 +140,12 @@ module _ (P : Profile) (H : ProfileLaws P) where
         record { changes = all-append (a .changes) (b .changes); limits = b .limits; columns = rw (columns-append P (a .changes) (writeMarks P start end _ s .changes)) (omega (arith, a .columns, b .columns)) }
 
     span-step : (current : Option ℕ) (t : State) (place : ℕ) (c : Content) → Fit P c → InLimits (t .attrs) → Step t (renderSpan P start end current t place c)
-    unfolding renderSpan renderSequence Fit
-    span-step current t place (spans.text m s) x f = write-step t (textStyle P start end current m) (text-drawable P H (t .lineDrawing) (x .0) (x .1)) f
-    span-step current t place (spans.control b) x f = write-step t style.control (byteMark-drawable P H b x) f
-    span-step current t place (spans.invalid b) x f = write-step t style.control (byteMark-drawable P H b x) f
+    unfolding renderSpan renderSequence
+    span-step current t place (spans.text m s) x f = write-step t (textStyle P start end current m) (let y = x .text m s refl in text-drawable P H (t .lineDrawing) (y .0) (y .1)) f
+    span-step current t place (spans.control b) x f = write-step t style.control (byteMark-drawable P H b (x .control b refl)) f
+    span-step current t place (spans.invalid b) x f = write-step t style.control (byteMark-drawable P H b (x .invalid b refl)) f
     span-step current t place (spans.unprintable s) x f = marks-step t s f
-    span-step current t place (spans.escape (sgr os)) x f = silent t _ (applyAll-limits (t .attrs) f x) (omega arith)
+    span-step current t place (spans.escape (sgr os)) x f = silent t _ (applyAll-limits (t .attrs) f (x .orders os refl)) (omega arith)
     span-step current t place (spans.escape eraseToEnd) x f = silent t _ f (omega arith)
     span-step current t place (spans.escape ignored) x f = silent t _ f (omega arith)
     span-step current t place (spans.escape (hyperlink a n)) x f = silent t _ (linked-limits (t .attrs) (place + a) n f) (omega arith)
@@ -157,7 +154,7 @@ module _ (P : Profile) (H : ProfileLaws P) where
     span-step current t place spans.crlf x f = silent t _ f (omega arith)
     span-step current t place spans.lf x f = silent t _ f (omega arith)
 
-    spans-list : (current : Option ℕ) (close : State → List Change) → ((t : State) → ListOf P 0 (close t)) → (t : State) → InLimits (t .attrs) → {ss : List Span} → All (λ (s : Span). Fit P (s .content)) ss
+    spans-list : (current : Option ℕ) (close : State → List Change) → ((t : State) → ListOf P 0 (close t)) → (t : State) → InLimits (t .attrs) → {ss : List Span} → FitSpans P ss
         → DrawnList P (renderSpans P start end current close t ss) × (before (t .position) + columns P (renderSpans P start end current close t ss) ≤ end - start)
     unfolding renderSpans
     spans-list current close c t f all-nil = let l = c t in (l .list, omega (arith, l .few))
@@ -169,16 +166,19 @@ module _ (P : Profile) (H : ProfileLaws P) where
 
   -- ---- windows
 
-  right-closed : (cs : List Change) → Type 0
-  right-closed cs = ListOf P 0 (cs ++ (allAttributes style.plain ∷ []))
+  -- the end of a list: what comes before the default attributes
+  abbrev Closing : List Change → Type 0
+  Closing cs = ListOf P 0 (cs ++ (allAttributes style.plain ∷ []))
+
+  cleared : (b : Bool) (t : State) → Closing (cond b (clearToEnd (t .endOfLine) ∷ []) [])
+  unfolding columns
+  cleared b t = both Closing b (record { list = next clear (next (attributes plain-limits) done); few = omega arith }) (record { list = next (attributes plain-limits) done; few = omega arith })
 
   close-window : (end : ℕ) (t : State) → ListOf P 0 (closeWindow end t)
-  unfolding closeWindow rightArrow columns right-closed
-  close-window end t =
-      both right-closed (ltb end (t .position)) (record { list = arrow; few = omega (arith, control-columns P (H .ascii) 0x08 (omega arith) refl) })
-      (both right-closed (ltb (t .position) end) (record { list = next clear (next (attributes plain-limits) done); few = omega arith }) (record { list = next (attributes plain-limits) done; few = omega arith }))
+  unfolding closeWindow rightArrow columns
+  close-window end t = both Closing (ltb end (t .position)) (record { list = arrow; few = omega (arith, control-columns P (H .ascii) 0x08 (omega arith) refl) }) (cleared (ltb (t .position) end) t)
 
-  pub window-list : (start end : ℕ) (current : Option ℕ) {ss : List Span} → All (λ (s : Span). Fit P (s .content)) ss → ListOf P (max 1 (end - start)) (render P start end current ss)
+  pub window-list : (start end : ℕ) (current : Option ℕ) {ss : List Span} → FitSpans P ss → ListOf P (max 1 (end - start)) (render P start end current ss)
   unfolding render initial leftArrow columns
   window-list zero end current a = let r = spans-list 0 end current (closeWindow end) (close-window end) initial plain-limits a in record { list = r .0; few = omega (arith, r .1) }
   window-list (suc start) end current a =
@@ -188,10 +188,10 @@ module _ (P : Profile) (H : ProfileLaws P) where
   -- ---- rows
 
   close-rows : (room : Bool) (t : State) → ListOf P 0 (closeRows room t)
-  unfolding closeRows columns right-closed
-  close-rows room t = both right-closed room (record { list = next clear (next (attributes plain-limits) done); few = omega arith }) (record { list = next (attributes plain-limits) done; few = omega arith })
+  unfolding closeRows
+  close-rows room t = cleared room t
 
-  pub rows-list : (first count width : ℕ) (mode : Mode) (current : Option ℕ) {ss : List Span} → All (λ (s : Span). Fit P (s .content)) ss → ListOf P (rowColumns P first count width mode ss) (renderWrapped P first count width mode current ss)
+  pub rows-list : (first count width : ℕ) (mode : Mode) (current : Option ℕ) {ss : List Span} → FitSpans P ss → ListOf P (rowColumns P first count width mode ss) (renderWrapped P first count width mode current ss)
   unfolding renderWrapped initial rowColumns
   rows-list first count width mode current {ss} a =
       let rs : List Row = rows P width mode ss in

@@ -3,10 +3,10 @@ use mathlib.Core.Path.{_≡_, refl, sym, ap, subst, _∙_}
 use Prim.Native.Nat.{ℕ, _+_, _-_, _≤_, _<_}
 use native.Mathlib.Nat.{add-zero, zero-add, add-assoc}
 use native.Mathlib.Omega.{arith}
-use mathlib.Core.Bool.{Bool, true, false, cond, true≢false, _||_}
-use mathlib.Core.List.{List, [], _∷_, _++_, map}
+use mathlib.Core.Bool.{Bool, true, false, cond}
+use mathlib.Core.List.{List, [], _∷_, map}
 use lib.Dec.{eqb, ltb}
-use borrow.Author.Tests.{eqb-true, eqb-false, ne-eqb, ltb-true, ltb-false, lt-ltb, le-ltb}
+use borrow.Author.Tests.{eqb-false, ne-eqb, ltb-true, ltb-false, le-ltb}
 use Rattle.text.specs.Tests.{cases, or-false}
 use Rattle.text.specs.Each.{All, all-nil, all-cons, all-split}
 use Rattle.text.specs.Utf8.{Scalar, ascii, asciis, decode, runOf, bytesOf, reads}
@@ -19,19 +19,19 @@ use Rattle.text.specs.Width.{widthOf}
 use Rattle.text.specs.Width.Laws.{width-append, width-nil}
 use Rattle.text.specs.Cluster.{clusters, joinAll}
 use Rattle.text.specs.Cluster.Ascii.{control-width}
-use Rattle.text.specs.Cluster.Laws.{clusters-all, clusters-nil, join-cons, join-nil}
+use Rattle.text.specs.Cluster.Laws.{clusters-all, join-cons, join-nil}
 use Rattle.drawing.specs.Attributes.{plain, arrows}
 use Rattle.drawing.specs.Change as change
-use Rattle.drawing.specs.Change.{Change, allAttributes, clearToEnd, cursorRight, kindOf, body, attributeBytes, colorBytes}
+use Rattle.drawing.specs.Change.{Change, allAttributes, cursorRight, kindOf, body, attributeBytes, colorBytes}
 use Rattle.screen.specs.Records.Laws.{recordOf}
 use Rattle.screen.specs.WellFormed.{clustersIn, isBackspace}
-use Rattle.screen.specs.Row.{Screen, back, withAttributes, blankScreen, passes, write, clear, right, onCluster, onClusters, onRecord, onRecords}
+use Rattle.screen.specs.Row.{Screen, withAttributes, blankScreen, passes, write, clear, right, onCluster, onClusters, onRecord, onRecords}
 use Rattle.screen.specs.Row.Laws.{passed-stays}
 use Rattle.screen.specs.Branches.{by-case}
 use Rattle.screen.specs.ClusterParts.{Wide}
 use Rattle.screen.specs.Drawn.{ProfileLaws, columns}
 use Rattle.screen.specs.Drawn.Texts.{Text}
-use Rattle.screen.specs.Drawn.WellFormed.{Sendable, text, torn, attributes, DrawnList, done, next, arrow, text-clusters, one-byte}
+use Rattle.screen.specs.Drawn.WellFormed.{Sendable, text, torn, attributes, DrawnList, done, next, arrow, text-clusters}
 
 module _ (P : Profile) (H : ProfileLaws P) (W : ℕ) (some : 1 ≤ W) where
   -- n columns are written

@@ -16,9 +16,8 @@ use Rattle.text.specs.Utf8.Valid.{Valid, sequence-take}
 use Rattle.text.specs.Class.{Profile}
 use Rattle.text.specs.Class.Ascii.{printable-class, printable-columns}
 use Rattle.text.specs.Class.Code.{printable}
-use Rattle.text.specs.Width.{widthOf}
 use Rattle.text.specs.Width.Symbols.{symbol}
-use Rattle.text.specs.Cluster.{classOf, clusters}
+use Rattle.text.specs.Cluster.{classOf}
 use Rattle.text.specs.Cluster.Same.{clusters-each, widthOf-each}
 use Rattle.drawing.specs.Marks.{replacements, lineDrawn}
 use Rattle.screen.specs.ClusterParts.{Wide}
@@ -107,7 +106,7 @@ module _ (P : Profile) (H : ProfileLaws P) where
       (all-cons (p .0) (q .0), rw (bytes-cons (shown c) (lineDrawn s), bytes-cons c s) (simp length-append (omega (arith, p .1, q .1))))
 
   -- a text as it is, or line-drawn
-  pub text-drawable : (b : Bool) {s : List Scalar} → Text P s → length (bytesOf s) ≤ 32768 → Drawable P H (cond b (lineDrawn s) s)
+  pub text-drawable : (b : Bool) {s : List Scalar} → Text P s → length (bytesOf s) ≤ 32768 → Drawable P (cond b (lineDrawn s) s)
   text-drawable true {s} t h =
       let v = lineDrawn-valid (t .valid) in
       record { text = record { wide = wide-shown (clusters-each P Shown (λ c d q. rw q (shown-class c)) (each-shown s)) (t .wide); valid = v .0 }; size = omega (arith, v .1) }

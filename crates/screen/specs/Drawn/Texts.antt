@@ -1,10 +1,10 @@
 -- Texts that drawings write: spaces and marks are valid, and each of their clusters has a width.
-use mathlib.Core.Path.{_≡_, refl, sym, ap, ap₂, subst, _∙_}
-use Prim.Native.Nat.{ℕ, zero, suc, _+_, _-_, _*_, _/_, _%_, _≤_, _<_}
+use mathlib.Core.Path.{_≡_, refl, sym, ap₂, subst, _∙_}
+use Prim.Native.Nat.{ℕ, zero, suc, _+_, _-_, _/_, _%_, _≤_, _<_}
 use native.Mathlib.Omega.{arith}
-use mathlib.Core.Bool.{Bool, true, false, cond, _&&_}
+use mathlib.Core.Bool.{true}
 use mathlib.Core.List.{List, [], _∷_, _++_, map, append-nil}
-use lib.ListN.{length, getD, replicate, length-append, length-map, length-replicate}
+use lib.ListN.{length, replicate, length-append, length-map, length-replicate}
 use lib.Dec.{ltb}
 use Rattle.text.specs.Tests.{cases, every, every-one}
 use Rattle.text.specs.Each.{All, all-nil, all-cons, all-append}
@@ -28,6 +28,11 @@ module _ (P : Profile) where
   pub record Text (s : List Scalar) : Type 0 where
     pub wide : Wide P (clusters P s)
     pub valid : All Valid s
+
+  -- a text that a drawing clips and sends: at most three times as long as a line
+  pub record Drawable (s : List Scalar) : Type 0 where
+    pub text : Text s
+    pub size : length (bytesOf s) ≤ 98304
 
   pub no-text : Text []
   no-text = record { wide = rw (clusters-nil P) all-nil; valid = all-nil }
@@ -69,12 +74,7 @@ module _ (P : Profile) (H : ProfileLaws P) where
   spaces-end zero y = ends-none P y
   spaces-end (suc n) y = ends-other P y (ascii 0x20) (spaces n) (printable-class P (H .ascii) 0x20 refl)
 
-  -- a text that a drawing clips and sends: at most three times as long as a line
-  pub record Drawable (s : List Scalar) : Type 0 where
-    pub text : Text P s
-    pub size : length (bytesOf s) ≤ 98304
-
-  pub spaces-drawable : (n : ℕ) → n ≤ 98304 → Drawable (spaces n)
+  pub spaces-drawable : (n : ℕ) → n ≤ 98304 → Drawable P (spaces n)
   spaces-drawable n h = record { text = spaces-text n; size = omega (arith, spaces-size n) }
 
   -- ---- marks
@@ -94,9 +94,9 @@ module _ (P : Profile) (H : ProfileLaws P) where
   codes-printable all-nil = all-nil
   codes-printable (all-cons {a = c} p a) = all-cons {a = c .code} (p .1) (codes-printable a)
 
-  mark-drawable : {s : List Scalar} → All PrintableScalar s → length s ≤ 98304 → Drawable s
+  mark-drawable : {s : List Scalar} → All PrintableScalar s → length s ≤ 98304 → Drawable P s
   mark-drawable {s} a h =
-      subst Drawable (codes-same a) (record { text = printable-text (codes-printable a); size = rw (asciis-bytes (codes s), length-map s (λ (c : Scalar). c .code)) h })
+      subst (Drawable P) (codes-same a) (record { text = printable-text (codes-printable a); size = rw (asciis-bytes (codes s), length-map s (λ (c : Scalar). c .code)) h })
 
   byte : (b : ℕ) → printable b ≡ true → PrintableScalar (ascii b)
   byte b e = (refl, e)
@@ -105,7 +105,7 @@ module _ (P : Profile) (H : ProfileLaws P) where
   unfolding every hexDigit
   digit d h = (cases (ltb d 10) (λ e. rw e) (λ e. rw e), every-one (λ d. printable (hexDigit d .code)) 16 0 d tt (omega arith) (omega arith))
 
-  pub byteMark-drawable : (b : ℕ) → b ≤ 0xFF → Drawable (byteMark b)
+  pub byteMark-drawable : (b : ℕ) → b ≤ 0xFF → Drawable P (byteMark b)
   unfolding byteMark
   byteMark-drawable b h = mark-drawable (all-cons (byte 0x3C refl) (all-cons (digit (b / 16) (omega arith)) (all-cons (digit (b % 16) (omega arith)) (all-cons (byte 0x3E refl) all-nil)))) (omega arith)
 
@@ -117,7 +117,7 @@ module _ (P : Profile) (H : ProfileLaws P) where
       cases (ltb v 0x10000) (λ e. rw e (all-nil, omega arith))
       (λ e. cases (ltb v 0x100000) (λ f. rw (e, f) (all-cons low all-nil, omega arith)) (λ f. rw (e, f) (all-cons (digit (v / 0x100000 % 16) (omega arith)) (all-cons low all-nil), omega arith)))
 
-  pub scalarMark-drawable : (v : ℕ) → Drawable (scalarMark v)
+  pub scalarMark-drawable : (v : ℕ) → Drawable P (scalarMark v)
   unfolding scalarMark
   scalarMark-drawable v =
       mark-drawable
@@ -127,5 +127,5 @@ module _ (P : Profile) (H : ProfileLaws P) where
       (simp length-append (omega (arith, upper v .1)))
 
   -- an arrow
-  pub printable-one : (b : ℕ) → printable b ≡ true → Drawable (ascii b ∷ [])
+  pub printable-one : (b : ℕ) → printable b ≡ true → Drawable P (ascii b ∷ [])
   printable-one b e = mark-drawable (all-cons (byte b e) all-nil) (omega arith)

@@ -10,14 +10,12 @@ use borrow.Author.Tests.{le-leb}
 use Rattle.buffer.specs.Numbers.{le4}
 use Rattle.text.specs.Tests.{is-true}
 use Rattle.text.specs.Each.{All, all-nil, all-cons, all-map}
-use Rattle.text.specs.Utf8.{Scalar, ascii, asciis, decode, decodeFrom, runOf, bytesOf}
-use Rattle.text.specs.Utf8.AsciiTexts.{run-asciis}
+use Rattle.text.specs.Utf8.{Scalar, ascii, bytesOf}
 use Rattle.text.specs.Utf8.Valid.{Valid, run-text}
 use Rattle.text.specs.Class.{Profile}
 use Rattle.text.specs.Class.Code.{printable}
 use Rattle.text.specs.Width.{widthOf}
 use Rattle.text.specs.Cluster.{clusters}
-use Rattle.text.specs.Cluster.Laws.{clusters-one}
 use Rattle.spans.specs.declared.sgr.Color.{Color}
 use Rattle.spans.specs.declared.sgr.Color.the-variants.{Default, Palette, Rgb}
 use Rattle.drawing.specs.declared.attributes.Attributes.{Attributes}
@@ -86,10 +84,6 @@ module _ (P : Profile) where
   unfolding clustersIn
   text-clusters v = ap (clusters P) (run-text v)
 
-  pub one-byte : (b : ℕ) → b < 0x80 → clustersIn P (b ∷ []) ≡ (ascii b ∷ []) ∷ []
-  unfolding clustersIn asciis
-  one-byte b h = ap (clusters P) (run-asciis (all-cons h all-nil)) ∙ clusters-one P (ascii b)
-
   wide-true : {gs : List (List Scalar)} → Wide P gs → wide P gs ≡ true
   unfolding wide
   wide-true all-nil = refl
@@ -121,8 +115,8 @@ module _ (P : Profile) where
     arrow : DrawnList (change.text (ascii 0x08 ∷ []) ∷ cursorRight ∷ allAttributes arrows ∷ change.text (ascii 0x3E ∷ []) ∷ allAttributes plain ∷ [])
 
   backspace-formed : WellFormedChange (change.text (ascii 0x08 ∷ []))
-  unfolding ofKind kindOf body utf8 runOf decode decodeFrom wide isBackspace bytesOf
-  backspace-formed = record { short = omega arith; kind = refl; wide = rw (one-byte 0x08 (omega arith)) refl }
+  unfolding ofKind kindOf body wide clustersIn
+  backspace-formed = record { short = omega arith; kind = refl; wide = refl }
 
   right-formed : WellFormedChange cursorRight
   unfolding ofKind kindOf body
