@@ -33,20 +33,10 @@ InLimits a = FontInLimits (a .font)
 
 -- ---- orders
 
--- an order whose value document 01 has
+-- an order whose value document 01 has: plain attributes stay in limits
 unfoldable pub knownValue : Sgr → Bool
-knownValue Reset = true
-knownValue (Intensity x) = leb x 2
-knownValue (Underline x) = leb x 2
-knownValue (Blink x) = leb x 2
-knownValue (Italic x) = true
-knownValue (Inverse x) = true
-knownValue (Invisible x) = true
-knownValue (StrikeThrough x) = true
-knownValue (Overline x) = true
-knownValue (Foreground x) = true
-knownValue (Background x) = true
-knownValue (UnderlineColor x) = true
+unfolding apply plain
+knownValue o = let f : Font = apply plain o .font in leb (f .intensity) 2 && (leb (f .underline) 2 && leb (f .blink) 2)
 
 abbrev pub KnownValue : Sgr → Type 0
 KnownValue o = T (knownValue o)
@@ -116,8 +106,8 @@ plain-limits = zero-font
 apply-limits : (a : Attributes) (o : Sgr) → InLimits a → KnownValue o → InLimits (apply a o)
 unfolding apply knownValue plainWith withFont withFlags withColors
 apply-limits a Reset f t = zero-font
-apply-limits a (Intensity x) f t = record { intensity = leb→le x 2 t; underline = f .underline; blink = f .blink }
-apply-limits a (Underline x) f t = record { intensity = f .intensity; underline = leb→le x 2 t; blink = f .blink }
+apply-limits a (Intensity x) f t = record { intensity = leb→le x 2 (and-T (leb x 2) true t .0); underline = f .underline; blink = f .blink }
+apply-limits a (Underline x) f t = record { intensity = f .intensity; underline = leb→le x 2 (and-T (leb x 2) true t .0); blink = f .blink }
 apply-limits a (Blink x) f t = record { intensity = f .intensity; underline = f .underline; blink = leb→le x 2 t }
 apply-limits a (Italic x) f t = f
 apply-limits a (Inverse x) f t = f

@@ -2,18 +2,18 @@
 use mathlib.Core.Path.{_≡_, refl, sym, subst, _∙_}
 use Prim.Native.Nat.{ℕ, suc, _+_, _-_, _*_, _≤_, _<_}
 use native.Mathlib.Omega.{arith}
-use mathlib.Core.Bool.{Bool, true, false, cond, _&&_}
+use mathlib.Core.Bool.{Bool, true, false, cond}
 use mathlib.Core.List.{List, [], _∷_, _++_}
 use lib.ListN.{length, getD, length-append}
 use lib.Seq.{take-length, take-append-seam, drop-append-seam}
-use lib.Dec.{T, eqb, leb, ltb, eqb→eq, leb→le, ltb→lt}
-use borrow.Author.Tests.{le-leb}
-use Rattle.text.specs.Tests.{cases, and-T, is-true, true-T, in-range, every, every-one}
+use lib.Dec.{T, eqb, leb, ltb}
+use borrow.Author.Tests.{eqb-true, leb-true, ltb-true, le-leb}
+use Rattle.text.specs.Tests.{cases, in-range, every, every-one}
 use Rattle.text.specs.Each.{Each, nil, cons, All, all-nil, all-cons}
 use Rattle.text.specs.Utf8.{Scalar, to, within, sequence, value, scalar, bytesOf}
 use Rattle.text.specs.Utf8.Laws.{bytes-cons, bytes-nil, decode-good}
 use Rattle.text.specs.Utf8.Valid.{Valid, sequence-take}
-use Rattle.text.specs.Class.{Profile}
+use Rattle.text.specs.Class.{Profile, number}
 use Rattle.text.specs.Class.Ascii.{printable-class, printable-columns}
 use Rattle.text.specs.Class.Code.{printable}
 use Rattle.text.specs.Width.Symbols.{symbol}
@@ -26,18 +26,16 @@ use Rattle.screen.specs.Drawn.Texts.{Text, Drawable}
 
 -- ---- the replacements
 
--- a symbol, in one sequence of at most three bytes
-abbrev single : List ℕ → Bool
-single r = symbol (value r) && (eqb (sequence r) (length r) && (ltb 0 (length r) && leb (length r) 3))
-
 -- what replaces a scalar from 5F to 7E
 abbrev replacement : ℕ → List ℕ
 replacement v = getD replacements (v - 0x5F) []
 
-record Replacement (r : List ℕ) : Type 0 where
-  symbol : symbol (value r) ≡ true
-  valid : Valid (scalar r)
-  short : length r ≤ 3
+abbrev replaces : ℕ → Bool
+replaces v = within (to 0x5F 0x7E) v
+
+-- a test of all of them
+replacement-passes : (f : List ℕ → Bool) → T (every (λ v. f (replacement v)) 0x5F 32) → (v : ℕ) → replaces v ≡ true → f (replacement v) ≡ true
+replacement-passes f t v e = let w = in-range 0x5F 0x7E v e in every-one (λ v. f (replacement v)) 32 0x5F v t (w .0) (omega (arith, w .1))
 
 sequence-valid : (r : List ℕ) → sequence r ≡ length r → 0 < length r → Valid (scalar r)
 unfolding scalar
@@ -48,40 +46,44 @@ sequence-valid (b ∷ s) e h = record {
       ∙ rw (take-append-seam s t, drop-append-seam s t);
 }
 
-single-all : T (every (λ v. single (replacement v)) 0x5F 32)
-unfolding every replacements value sequence
-single-all = tt
+-- a symbol, in one sequence of at most three bytes
+record Replacement (r : List ℕ) : Type 0 where
+  symbol : symbol (value r) ≡ true
+  valid : Valid (scalar r)
+  short : length r ≤ 3
 
-replaced : (v : ℕ) → within (to 0x5F 0x7E) v ≡ true → Replacement (replacement v)
-replaced v e =
-    let r : List ℕ = replacement v in
-    let w = in-range 0x5F 0x7E v e in
-    let p = and-T (symbol (value r)) (eqb (sequence r) (length r) && (ltb 0 (length r) && leb (length r) 3)) (true-T (every-one (λ v. single (replacement v)) 32 0x5F v single-all (w .0) (omega (arith, w .1)))) in
-    let q = and-T (eqb (sequence r) (length r)) (ltb 0 (length r) && leb (length r) 3) (p .1) in
-    let l = and-T (ltb 0 (length r)) (leb (length r) 3) (q .1) in
-    record { symbol = is-true _ (p .0); valid = sequence-valid r (eqb→eq _ _ (q .0)) (ltb→lt _ _ (l .0)); short = leb→le _ _ (l .1) }
+replaced : (v : ℕ) → replaces v ≡ true → Replacement (replacement v)
+unfolding every replacements value sequence
+replaced v e = record {
+  symbol = replacement-passes (λ r. symbol (value r)) tt v e;
+  valid = sequence-valid (replacement v) (eqb-true _ _ (replacement-passes (λ r. eqb (sequence r) (length r)) tt v e)) (ltb-true _ _ (replacement-passes (λ r. ltb 0 (length r)) tt v e));
+  short = leb-true _ _ (replacement-passes (λ r. leb (length r) 3) tt v e);
+}
 
 -- ---- scalars
 
 -- what a scalar is shown as
 abbrev shown : Scalar → Scalar
-shown c = cond (within (to 0x5F 0x7E) (c .code)) (scalar (replacement (c .code))) c
+shown c = cond (replaces (c .code)) (scalar (replacement (c .code))) c
 
 shown-valid : (c : Scalar) → Valid c → Valid (shown c) × (length (shown c .bytes) ≤ 3 * length (c .bytes))
 unfolding scalar
-shown-valid c v = cases (within (to 0x5F 0x7E) (c .code)) (λ e. let r = replaced (c .code) e in rw e (r .valid, omega (arith, r .short, v .some))) (λ e. rw e (v, omega arith))
+shown-valid c v = cases (replaces (c .code)) (λ e. let r = replaced (c .code) e in rw e (r .valid, omega (arith, r .short, v .some))) (λ e. rw e (v, omega arith))
+
+-- what a printable scalar and a symbol have alike, a scalar and what it is shown as have alike
+shown-same : (f : ℕ → ℕ) (n : ℕ) → ((v : ℕ) → printable v ≡ true → f v ≡ n) → ((v : ℕ) → symbol v ≡ true → f v ≡ n) → (c : Scalar) → f (c .code) ≡ f (shown c .code)
+unfolding scalar
+shown-same f n p s c = cases (replaces (c .code)) (λ e. rw e (p (c .code) (printed (c .code) e) ∙ sym (s _ (replaced (c .code) e .symbol)))) (λ e. rw e)
+  where
+    printed : (v : ℕ) → replaces v ≡ true → printable v ≡ true
+    printed v e = let w = in-range 0x5F 0x7E v e in rw (le-leb 0x20 v (omega (arith, w .0)), le-leb v 0x7E (w .1))
 
 module _ (P : Profile) (H : ProfileLaws P) where
-  printed : (v : ℕ) → within (to 0x5F 0x7E) v ≡ true → printable v ≡ true
-  printed v e = let w = in-range 0x5F 0x7E v e in rw (le-leb 0x20 v (omega (arith, w .0)), le-leb v 0x7E (w .1))
-
   shown-class : (c : Scalar) → classOf P c ≡ classOf P (shown c)
-  unfolding scalar
-  shown-class c = cases (within (to 0x5F 0x7E) (c .code)) (λ e. rw e (printable-class P (H .ascii) (c .code) (printed (c .code) e) ∙ sym (H .symbols .other _ (replaced (c .code) e .symbol)))) (λ e. rw e)
+  shown-class = shown-same (λ v. number (P .class v)) 11 (printable-class P (H .ascii)) (H .symbols .other)
 
   shown-width : (c : Scalar) → P .width (c .code) ≡ P .width (shown c .code)
-  unfolding scalar
-  shown-width c = cases (within (to 0x5F 0x7E) (c .code)) (λ e. rw e (printable-columns P (H .ascii) (c .code) (printed (c .code) e) ∙ sym (H .symbolColumns .one _ (replaced (c .code) e .symbol)))) (λ e. rw e)
+  shown-width = shown-same (P .width) 1 (printable-columns P (H .ascii)) (H .symbolColumns .one)
 
   -- ---- texts
 
