@@ -25,7 +25,7 @@ pub mod WellFormed
 pub mod Cursor
 pub mod Columns
 
--- a profile's printable ASCII and the symbols of line drawing have class other and width 1; two columns a byte at most
+-- what is asked of a profile: ASCII as document 01 has it, symbols of class other and one column, two columns a byte at most
 pub record ProfileLaws (P : Profile) : Type 0 where
   pub ascii : AsciiClasses P
   pub symbols : SymbolClasses P
@@ -37,7 +37,7 @@ pub record Line (s : List ℕ) : Type 0 where
   pub bytes : All Byte s
   pub short : length s ≤ 32768
 
--- the columns of a list's texts; a right arrow's 08 has none, and its `>` stands behind a kind 4, which no other change has
+-- the columns of a list's texts without a right arrow's two: its 08 has no width, and its `>` stands behind kind 4, which nothing else sends
 unfoldable pub columns : Profile → List Change → ℕ
 unfolding widthOf
 columns P [] = 0

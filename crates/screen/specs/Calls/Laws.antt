@@ -134,8 +134,8 @@ module _ (P : Profile) (H : ProfileLaws P) where
 
 -- ---- lists that accepted drawings leave
 
-left : (r room : ℕ) (list : List ℕ) → r ≡ 0 → take (counted (length list) r) (lent 0 room list r) ≡ list
-left r room list e = rw (e, counted-accepted (length list), lent-accepted 0 room list) (take-append-seam list (replicate (room - length list) 0))
+left-list : (r room : ℕ) (list : List ℕ) → r ≡ 0 → take (counted (length list) r) (lent 0 room list r) ≡ list
+left-list r room list e = rw (e, counted-accepted (length list), lent-accepted 0 room list) (take-append-seam list (replicate (room - length list) 0))
 
 module _ (P : Profile) (conv places room : ℕ) (matches : List ℕ) (qs : List Question) (draw : List Span → List Change) (line : List ℕ) where
   abbrev called : Drawn
@@ -143,7 +143,7 @@ module _ (P : Profile) (conv places room : ℕ) (matches : List ℕ) (qs : List 
 
   called-list : called .number ≡ 0 → listOf called ≡ encode (draw (read P matches (convert P line)))
   unfolding drawing
-  called-list e = left _ room (encode (draw (read P matches (convert P line)))) e
+  called-list e = left-list _ room (encode (draw (read P matches (convert P line)))) e
 
   -- reading was accepted
   called-read : called .number ≡ 0 → readCall P conv places matches line .number ≡ 0

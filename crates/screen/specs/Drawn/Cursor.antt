@@ -1,4 +1,4 @@
--- Where a drawing's list leaves the cursor: behind its texts' columns, pending at the last, or past it where they are more.
+-- The cursor stands behind the columns of a list's texts, and a text would pass the last column exactly where they are more than the row's.
 use mathlib.Core.Path.{_≡_, refl, sym, ap, subst, _∙_}
 use Prim.Native.Nat.{ℕ, _+_, _-_, _≤_, _<_}
 use native.Mathlib.Nat.{add-zero, zero-add, add-assoc}
@@ -34,13 +34,13 @@ use Rattle.screen.specs.Drawn.Texts.{Text}
 use Rattle.screen.specs.Drawn.WellFormed.{Sendable, text, torn, attributes, DrawnList, done, next, arrow, text-clusters}
 
 module _ (P : Profile) (H : ProfileLaws P) (W : ℕ) (some : 1 ≤ W) where
-  -- n columns are written
+  -- n columns are written: the cursor is behind them, or pending on the last
   record At (n : ℕ) (t : Screen) : Type 0 where
     passed : t .passed ≡ false
     pending : t .pending ≡ eqb n W
     cursor : t .cursor ≡ cond (eqb n W) (W - 1) n
 
-  -- n columns were to be written
+  -- texts of n columns were met
   record Met (n : ℕ) (t : Screen) : Type 0 where
     inside : n ≤ W → At n t
     over : W < n → t .passed ≡ true

@@ -126,6 +126,6 @@ module _ (P : Profile) (H : ProfileLaws P) where
       (all-cons (digit (v % 16) (omega arith)) (all-cons (byte 0x3E refl) all-nil))))))
       (simp length-append (omega (arith, upper v .1)))
 
-  -- an arrow
+  -- a scalar by itself, as arrows are
   pub printable-one : (b : ℕ) → printable b ≡ true → Drawable P (ascii b ∷ [])
   printable-one b e = mark-drawable (all-cons (byte b e) all-nil) (omega arith)

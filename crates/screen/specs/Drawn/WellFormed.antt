@@ -94,7 +94,7 @@ module _ (P : Profile) where
     kind : ofKind (λ n. eqb n bodySize) (kindOf c) (body c) ≡ true
     wide : cond (eqb (kindOf c) 1) (wide P (clustersIn P (body c))) true ≡ true
 
-  -- a change that a drawing sends, those of a right arrow apart
+  -- a change that a drawing sends, a right arrow's apart
   pub data Sendable : Change → Type 0 where
     text : {s : List Scalar} → Text P s → length (bytesOf s) < 4294967296 → Sendable (change.text s)
     torn : Sendable change.torn
