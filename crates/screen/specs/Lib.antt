@@ -2,3 +2,8 @@ pub mod Records
 pub mod WellFormed
 pub mod Row
 pub mod Calls
+pub mod Branches
+pub mod ClusterParts
+pub mod SymbolClasses
+pub mod ConvertedBytes
+pub mod Drawn
