@@ -1,203 +1,118 @@
-// The fields of a line of text: words, decimal numbers, lists of them, and hexadecimal bytes.
+// The fields of a case, parted by single spaces: words, decimal numbers, lists of them parted by commas, and hexadecimal bytes. `-` is
+// an empty list, no bytes, or the largest number.
+ghost use mathlib.Core.Path.{_≡_};
+ghost use Rattle.vectors.specs.Fields.{startOf, fieldOf, digitOf, withDigit, decimal, listed, hexByte, hexBytes, Kept};
 use buffer::byte_at;
-ghost use Prim.Native.Nat.{_≤_};
-ghost use lib.ListN.{length};
-ghost use Rattle.io.specs.Counts.{Counts};
-ghost use Rattle.vectors.specs.Fields.{Past};
+use buffer::push_byte;
+use buffer::push_number;
+use buffer::smaller;
 
-// The first place from `at` on that holds `stop` or a newline, or the end.
-pub(crate) fn past(s: &[u8], at: usize, stop: u8) -> usize
-    requires { ⌜ at ≤ length (now s) ⌝ }
-    ensures { λ r. ⌜ Past (now (s .entry)) at r ⌝ }
+// Where the n-th field begins, or the end where there are fewer.
+fn field_start(s: &[u8], n: usize) -> usize
+    ensures { λ r. ⌜ r ≡ startOf (now (s .entry)) n ⌝ }
 {
-    let mut i = at;
+    let mut i = 0;
+    let mut left = n;
     while i < s.len() {
-        if (s[i] == stop) | (s[i] == b'\n') {
+        if left == 0 {
             return i;
         }
+        if s[i] == b' ' {
+            left -= 1;
+        }
         i += 1;
     }
     i
 }
 
-// The place behind that one.
-pub(crate) fn behind(s: &[u8], at: usize, stop: u8) -> usize
-    requires { ⌜ at ≤ length (now s) ⌝ }
-    ensures { λ r. ⌜ Past (now (s .entry)) at r ⌝ }
+// The n-th field, counted from 0.
+pub(crate) fn field<'a>(s: &'a [u8], n: usize) -> &'a [u8]
+    ensures { λ r. ⌜ now r ≡ fieldOf (now (s .entry)) n ⌝ }
 {
-    let i = past(s, at, stop);
-    if i < s.len() {
-        return i + 1;
-    }
-    i
+    let at = field_start(s, n);
+    let end = bytes::scan::find(s, at, s.len(), b' ');
+    &s[at..end]
 }
 
-// Does the word stand at `at`?
-pub(crate) fn is_word(s: &[u8], at: usize, word: &[u8]) -> bool
-    requires { ⌜ at ≤ length (now s) ⌝ }
-{
-    let mut i = 0;
-    while i < word.len() {
-        if s.len() - at <= i {
-            return false;
-        }
-        if s[at + i] != word[i] {
-            return false;
-        }
-        i += 1;
-    }
-    true
-}
-
+// The value of a decimal or hexadecimal digit, 16 for any other byte.
 fn digit(b: u8) -> usize
-    ensures { λ r. ⌜ r ≤ 24 ⌝ }
+    ensures { λ r. ⌜ r ≡ digitOf b ⌝ }
 {
-    if b'a' <= b {
-        return (b % 16) as usize + 9;
+    if (0x30 <= b) & (b <= 0x39) {
+        return (b - 0x30) as usize;
     }
-    (b % 16) as usize
-}
-
-// Ten times a number, within usize.
-fn times_ten(n: usize) -> usize {
-    let two = std::num::wrapping_add_usize(n, n);
-    let four = std::num::wrapping_add_usize(two, two);
-    let eight = std::num::wrapping_add_usize(four, four);
-    std::num::wrapping_add_usize(eight, two)
-}
-
-// The decimal number from `at` to `end`.
-pub(crate) fn number(s: &[u8], at: usize, end: usize) -> usize {
-    let mut n: usize = 0;
-    let mut i = at;
-    while i < end {
-        n = std::num::wrapping_add_usize(times_ten(n), digit(byte_at(s, i)));
-        i += 1;
+    if (0x61 <= b) & (b <= 0x66) {
+        return (b - 0x57) as usize;
     }
-    n
+    16
 }
 
-// The field that stands n fields behind `at`.
-pub(crate) fn field(s: &[u8], at: usize, n: usize) -> usize
-    requires { ⌜ at ≤ length (now s) ⌝ }
-    ensures { λ r. ⌜ Past (now (s .entry)) at r ⌝ }
+// A decimal digit more; where there is no such digit or no such number, the largest number.
+fn with_digit(n: usize, b: u8) -> usize
+    ensures { λ r. ⌜ r ≡ withDigit n b ⌝ }
 {
-    let mut i = at;
-    let mut k: usize = 0;
-    while k < n {
-        i = behind(s, i, b' ');
-        k += 1;
+    let d = digit(b);
+    if 9 < d {
+        return usize::MAX;
     }
-    i
+    if n <= (usize::MAX - d) / 10 {
+        return n * 10 + d;
+    }
+    usize::MAX
 }
 
-// The decimal number that is the field at `at`.
-pub(crate) fn number_at(s: &[u8], at: usize) -> usize
-    requires { ⌜ at ≤ length (now s) ⌝ }
+// The number that is the n-th field.
+pub(crate) fn number(s: &[u8], n: usize) -> usize
+    ensures { λ r. ⌜ r ≡ decimal 0 (fieldOf (now (s .entry)) n) ⌝ }
 {
-    number(s, at, past(s, at, b' '))
-}
-
-// The end of the number at `at` in a list that ends at `end`.
-fn number_end(s: &[u8], at: usize, end: usize) -> usize
-    requires { ⌜ at ≤ length (now s) ⌝ }
-    ensures { λ r. ⌜ r ≤ length (now (s .entry)) ⌝ }
-{
-    let comma = past(s, at, b',');
-    if comma < end {
-        return comma;
-    }
-    past(s, at, b' ')
-}
-
-// The numbers of the list at `at`, parted by commas, as many as `out` holds; how many. A single `-` is none.
-pub(crate) fn numbers(s: &[u8], at: usize, out: &mut [usize]) -> usize
-    requires { ⌜ at ≤ length (now s) ⌝ }
-    ensures { λ r. ⌜ Counts r (now (out .exit)) ⌝ }
-{
-    let end = past(s, at, b' ');
-    let mut i = at;
-    let mut n = 0;
-    while n < out.len() {
-        if end <= i {
-            return n;
-        }
-        if s[i] == b'-' {
-            return n;
-        }
-        let stop = number_end(s, i, end);
-        out[n] = number(s, i, stop);
-        n += 1;
-        i = behind(s, stop, b',');
-    }
-    n
-}
-
-// The hexadecimal byte whose first digit is at `at`.
-pub(crate) fn hex_byte(s: &[u8], at: usize) -> u8 {
-    if at < s.len() {
-        return ((digit(s[at]) * 16 + digit(byte_at(s, at + 1))) % 256) as u8;
-    }
-    0
-}
-
-// The hexadecimal bytes from `at` to `end`, as many as `out` holds; their number. A single `-` is none.
-pub(crate) fn hex_bytes(s: &[u8], at: usize, end: usize, out: &mut [u8]) -> usize
-    ensures { λ r. ⌜ Counts r (now (out .exit)) ⌝ }
-{
-    let mut i = at;
-    let mut n = 0;
-    while n < out.len() {
-        if end <= i {
-            return n;
-        }
-        if end - i < 2 {
-            return n;
-        }
-        out[n] = hex_byte(s, i);
-        n += 1;
-        i += 2;
-    }
-    n
-}
-
-fn same(a: &[u8], b: &[u8]) -> bool {
+    let digits = field(s, n);
+    let mut v = 0;
     let mut i = 0;
-    while i < a.len() {
-        if a[i] != byte_at(b, i) {
-            return false;
-        }
+    while i < digits.len() {
+        v = with_digit(v, digits[i]);
         i += 1;
     }
-    true
+    v
 }
 
-// Are these the hexadecimal bytes from `at` to `end`, with zeros after them?
-pub(crate) fn shows(s: &[u8], at: usize, end: usize, bytes: &[u8]) -> bool {
-    let mut want = [0u8; 163984];
-    hex_bytes(s, at, end, &mut want);
-    same(bytes, &want)
-}
-
-fn same_numbers(a: &[usize], b: &[usize]) -> bool {
-    let mut i = 0;
-    while i < a.len() {
-        if b.len() <= i {
-            return false;
-        }
-        if a[i] != b[i] {
-            return false;
-        }
-        i += 1;
-    }
-    true
-}
-
-// Are these the numbers of the list at `at`, with zeros after them?
-pub(crate) fn shows_numbers(s: &[u8], at: usize, list: &[usize]) -> bool
-    requires { ⌜ at ≤ length (now s) ⌝ }
+// The numbers of a list, as many as `out` holds; how many.
+pub(crate) fn numbers(text: &[u8], out: &mut [usize]) -> usize
+    ensures { λ r. ⌜ Kept (now (out .entry)) (now (out .exit)) (listed (now (text .entry))) r ⌝ }
 {
-    let mut want = [0usize; 8192];
-    numbers(s, at, &mut want);
-    same_numbers(list, &want)
+    if byte_at(text, 0) == b'-' {
+        return 0;
+    }
+    let mut at = 0;
+    let mut n = 0;
+    let mut i = 0;
+    while i < text.len() {
+        let b = text[i];
+        i += 1;
+        if b == b',' {
+            at = push_number(out, at, n);
+            n = 0;
+            continue;
+        }
+        n = with_digit(n, b);
+    }
+    smaller(push_number(out, at, n), out.len())
+}
+
+fn hex_byte(high: u8, low: u8) -> u8
+    ensures { λ r. ⌜ r ≡ hexByte high low ⌝ }
+{
+    ((digit(high) * 16 + digit(low)) % 256) as u8
+}
+
+// The bytes of a hexadecimal text, as many as `out` holds; how many.
+pub(crate) fn bytes(text: &[u8], out: &mut [u8]) -> usize
+    ensures { λ r. ⌜ Kept (now (out .entry)) (now (out .exit)) (hexBytes (now (text .entry))) r ⌝ }
+{
+    let mut at = 0;
+    let mut i = 0;
+    while i < text.len() / 2 {
+        at = push_byte(out, at, hex_byte(text[2 * i], text[2 * i + 1]));
+        i += 1;
+    }
+    smaller(at, out.len())
 }

@@ -1,184 +1,118 @@
-// The rows program: recorded inputs, handed over in parts, and what is printed for them.
-ghost use Prim.Native.Nat.{_≤_};
+// The rows program: an input, handed over in parts, and what is printed for it. The input is some bytes, one byte repeated, and more
+// bytes.
+ghost use mathlib.Core.Path.{_≡_};
+ghost use Prim.Native.Nat.{_+_, _-_, _≤_};
 ghost use lib.ListN.{length};
-ghost use Rattle.io.specs.Counts.{Counts};
+ghost use Rattle.vectors.specs.Fields.{Kept};
+ghost use Rattle.vectors.specs.Program.{inputAt, partOf};
 use super::fields;
+use super::fields::field;
+use super::fields::number;
+use super::output::print;
+use super::output::print_hex;
+use super::output::print_number;
 use buffer::byte_at;
+use buffer::push_byte;
 use buffer::smaller;
 use rows_io::input::Input;
 use rows_io::input::begin;
 use rows_io::input::with_part;
-use rows_io::output::print;
 
-// A place in a list of bytes, and how many of the byte there were taken.
-struct Place {
+// The byte at a place of the input.
+fn input_byte(prefix: &[u8], byte: u8, times: usize, suffix: &[u8], at: usize) -> u8
+    ensures { λ r. ⌜ r ≡ inputAt (now (prefix .entry)) byte times (now (suffix .entry)) at ⌝ }
+{
+    if at < prefix.len() {
+        return prefix[at];
+    }
+    let behind = at - prefix.len();
+    if behind < times {
+        return byte;
+    }
+    byte_at(suffix, behind - times)
+}
+
+// The bytes from `at` to `end`, as many as `part` holds; how many.
+fn fill(
+    prefix: &[u8],
+    byte: u8,
+    times: usize,
+    suffix: &[u8],
     at: usize,
-    taken: usize,
-}
-
-// How many bytes were put into a part, and the place of the next.
-struct Filled {
-    count: usize,
-    next: Place,
-}
-
-// How often the byte at `at` is in the input: once, or as often as a number behind `*` says.
-fn times(list: &[u8], at: usize) -> usize
-    requires { ⌜ at ≤ length (now list) ⌝ }
+    end: usize,
+    part: &mut [u8],
+) -> usize
+    ensures { λ r. ⌜ Kept (now (part .entry)) (now (part .exit)) (partOf (inputAt (now (prefix .entry)) byte times (now (suffix .entry))) at (end - at)) r ⌝ }
 {
-    let end = fields::past(list, at, b',');
-    let star = fields::past(list, at, b'*');
-    if star < end {
-        return fields::number(list, star + 1, end);
-    }
-    1
-}
-
-// The place of the byte behind that at `place`.
-fn next(list: &[u8], place: Place) -> Place {
-    let at = place.at;
-    if list.len() <= at {
-        return place;
-    }
-    let taken = std::num::wrapping_add_usize(place.taken, 1);
-    if taken < times(list, at) {
-        return Place {
-            at: at,
-            taken: taken,
-        };
-    }
-    Place {
-        at: fields::behind(list, at, b','),
-        taken: 0,
-    }
-}
-
-// The bytes from `start` on, up to `size` and as many as `part` holds.
-fn fill(list: &[u8], start: Place, size: usize, part: &mut [u8]) -> Filled
-    ensures { λ r. ⌜ Counts (r .count) (now (part .exit)) ⌝ }
-{
-    let mut place = start;
     let mut n = 0;
-    while n < part.len() {
-        let at = place.at;
-        if (size <= n) | (list.len() <= at) {
-            return Filled {
-                count: n,
-                next: place,
-            };
-        }
-        part[n] = fields::hex_byte(list, at);
-        place = next(list, place);
-        n += 1;
+    let mut i = at;
+    while i < end {
+        n = push_byte(part, n, input_byte(prefix, byte, times, suffix, i));
+        i += 1;
     }
-    Filled {
-        count: n,
-        next: place,
-    }
+    smaller(n, part.len())
 }
 
-// What was read, the place of the next byte, and whether there is none.
-struct Reading {
-    input: Input,
-    next: Place,
-    ended: bool,
-}
-
-// One part more, of `size` bytes or what is left.
-fn more(list: &[u8], state: Reading, size: usize, line: &mut [u8]) -> Reading {
-    let mut buf = io::buffer();
-    let got = fill(list, state.next, size, &mut buf);
-    let n = got.count;
-    let next = got.next;
-    let input = with_part(line, state.input, &buf[..n]);
-    Reading {
-        input: input,
-        next: next,
-        ended: n < size,
+// How many bytes the program prints for what it has read, and the last 64 of them at most.
+fn print_text(line: &[u8], state: Input) {
+    let mut out = [0u8; 65536];
+    let n = rows_io::output::print(&mut out, line, state);
+    print(b" = ");
+    print_number(n);
+    print(b" ");
+    if n <= 64 {
+        return print_hex(&out, 0, n);
     }
+    print_hex(&out, n - 64, n);
 }
 
-// The input read in parts, the first of `first` bytes. A proved loop has to end, so it counts its turns down, from a number that no
-// case uses up.
-fn read_in_parts(list: &[u8], first: usize, later: usize, line: &mut [u8]) -> Input {
-    let start = begin();
-    let mut state = Reading {
-        input: start,
-        next: Place { at: 0, taken: 0 },
-        ended: false,
-    };
-    let mut size = first;
-    let mut turns: usize = 200000;
-    while 0 < turns {
-        let input = state.input;
-        if state.ended | !input.more {
-            return input;
-        }
-        state = more(list, state, size, line);
-        size = later;
-        turns -= 1;
-    }
-    let last = state.input;
-    last
-}
-
-// The place of the last line of n bytes.
-fn last_line(out: &[u8], n: usize) -> usize {
-    let mut i = n;
-    while 1 < i {
-        if byte_at(out, i - 2) == b'\n' {
-            return i - 1;
-        }
-        i -= 1;
-    }
-    0
-}
-
-// Are the n bytes those of the field at `at`, or is their last line what stands there behind `...`?
-fn is_printed(out: &[u8], n: usize, s: &[u8], at: usize) -> bool
-    requires { ⌜ at ≤ length (now s) ⌝ }
-{
-    let end = fields::past(s, at, b' ');
-    if fields::is_word(s, at, b"...") {
-        let from = smaller(last_line(out, n), out.len());
-        return fields::shows(s, at + 3, end, &out[from..]);
-    }
-    fields::shows(s, at, end, out)
-}
-
-// Is what stands at `at` printed for the list's bytes, read in such parts?
-fn is_answered(list: &[u8], first: usize, later: usize, s: &[u8], at: usize) -> bool
-    requires { ⌜ at ≤ length (now s) ⌝ }
+// The same for an input, handed over in a first part of `first` bytes and later parts of `later`. The last is the first that is shorter,
+// of no bytes where the others have them all.
+fn print_rows(prefix: &[u8], byte: u8, times: usize, suffix: &[u8], first: usize, later: usize)
+    requires { ⌜ length (now prefix) + times + length (now suffix) ≤ 4294967296 ⌝ }
 {
     let mut line = [170u8; 4097];
-    let mut out = [0u8; 65536];
-    let state = read_in_parts(list, first, later, &mut line);
-    let n = print(&mut out, &line, state);
-    is_printed(&out, n, s, at)
-}
-
-// The same for the list's bytes one by one, and parted at each place: a list without `*` has no more than there are tried.
-fn is_answered_in_parts(list: &[u8], s: &[u8], at: usize) -> bool
-    requires { ⌜ at ≤ length (now s) ⌝ }
-{
-    let mut k = 0;
-    while k <= list.len() / 3 + 1 {
-        if !is_answered(list, k, 4096, s, at) {
-            return false;
+    let mut part = io::buffer();
+    let total = prefix.len() + times + suffix.len();
+    let mut at = fill(
+        prefix,
+        byte,
+        times,
+        suffix,
+        0,
+        smaller(first, total),
+        &mut part,
+    );
+    let mut state = with_part(&mut line, begin(), &part[..at]);
+    while at <= total {
+        if !state.more {
+            return print_text(&line, state);
         }
-        k += 1;
+        let end = at + smaller(later, total - at);
+        let n = fill(prefix, byte, times, suffix, at, end, &mut part);
+        state = with_part(&mut line, state, &part[..n]);
+        if n < later {
+            return print_text(&line, state);
+        }
+        if n == 0 {
+            return;
+        }
+        at += n;
     }
-    is_answered(list, 1, 1, s, at)
 }
 
-// Is the case met whose input stands at `at`: bytes parted by commas, `-` for none?
-pub(crate) fn is_met(s: &[u8], at: usize) -> bool
-    requires { ⌜ at ≤ length (now s) ⌝ }
-{
-    let text = fields::field(s, at, 2);
-    if fields::is_word(s, at, b"-") {
-        return is_answered_in_parts(b"", s, text);
+pub(crate) fn answer(s: &[u8]) {
+    let mut prefix = [0u8; 64];
+    let mut byte = [0u8; 1];
+    let mut suffix = [0u8; 64];
+    let n = fields::bytes(field(s, 1), &mut prefix);
+    fields::bytes(field(s, 2), &mut byte);
+    let times = number(s, 3);
+    let m = fields::bytes(field(s, 4), &mut suffix);
+    if 10000000 < times {
+        return;
     }
-    let end = fields::past(s, at, b' ');
-    is_answered_in_parts(&s[at..end], s, text)
+    let first = number(s, 5);
+    let later = number(s, 6);
+    print_rows(&prefix[..n], byte[0], times, &suffix[..m], first, later);
 }

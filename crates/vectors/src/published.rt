@@ -1,73 +1,54 @@
 // Published vectors: what bytes are decoded as, and where clusters end.
-ghost use Prim.Native.Nat.{_≤_};
-ghost use lib.ListN.{length};
 use super::fields;
+use super::fields::field;
+use super::output::print;
+use super::output::print_comma;
+use super::output::print_number;
+use check::same;
 use text::class::Profile;
-use text::utf8::Sequence;
+use text::segmentation::next_boundary;
+use text::utf8::first_sequence;
 
-// Is this the item from `at` to `end`: a scalar's number, or `-` for a damaged byte?
-fn is_listed(unit: Sequence, s: &[u8], at: usize, end: usize) -> bool
-    requires { ⌜ at ≤ length (now s) ⌝ }
-{
-    if fields::is_word(s, at, b"-") {
-        return unit.len == 0;
-    }
-    if unit.len == 0 {
-        return false;
-    }
-    unit.code as usize == fields::number(s, at, end)
-}
-
-// The bytes that a sequence takes, or that a damaged byte does.
-fn taken(unit: Sequence) -> usize
-    ensures { λ r. ⌜ 1 ≤ r ⌝ }
-{
-    if unit.len == 0 {
-        return 1;
-    }
-    unit.len
-}
-
-// Is the line decoded as the list at `at` says?
-pub(crate) fn decodes(line: &[u8], s: &[u8], at: usize) -> bool
-    requires { ⌜ at ≤ length (now s) ⌝ }
-{
+// The scalars, `-` for a byte that begins no well-formed sequence.
+fn print_scalars(line: &[u8]) {
     let mut i = 0;
-    let mut list = at;
     while i < line.len() {
-        let unit = text::utf8::first_sequence(&line[i..]);
-        if !is_listed(unit, s, list, fields::past(s, list, b',')) {
-            return false;
+        print_comma(i);
+        let unit = first_sequence(&line[i..]);
+        let n = unit.len;
+        if n == 0 {
+            print(b"-");
+            i += 1;
+            continue;
         }
-        let n = taken(unit);
         if line.len() - i < n {
-            return false;
+            return;
         }
-        list = fields::behind(s, list, b',');
+        print_number(unit.code as usize);
         i += n;
     }
-    true
 }
 
-// Do the line's clusters have the lengths of the list at `at`?
-pub(crate) fn segments(line: &[u8], s: &[u8], at: usize) -> bool
-    requires { ⌜ at ≤ length (now s) ⌝ }
-{
+// The lengths of the clusters.
+fn print_clusters(line: &[u8]) {
     let mut i = 0;
-    let mut list = at;
     while i < line.len() {
-        let end = text::segmentation::next_boundary(Profile { version: 0 }, line, i);
+        print_comma(i);
+        let end = next_boundary(Profile { version: 0 }, line, i);
         if end <= i {
-            return false;
+            return;
         }
-        if line.len() < end {
-            return false;
-        }
-        if end - i != fields::number(s, list, fields::past(s, list, b',')) {
-            return false;
-        }
-        list = fields::behind(s, list, b',');
+        print_number(end - i);
         i = end;
     }
-    true
+}
+
+pub(crate) fn answer(name: &[u8], s: &[u8]) {
+    let mut line = [0u8; 256];
+    let n = fields::bytes(field(s, 1), &mut line);
+    print(b" = ");
+    if same(name, b"scalars") {
+        return print_scalars(&line[..n]);
+    }
+    print_clusters(&line[..n]);
 }

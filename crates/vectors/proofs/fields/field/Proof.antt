@@ -1,34 +1,33 @@
-use Prim.Native.Nat.{_-_}
-use Rattle.vectors.specs.Fields.{Past}
+use Rattle.vectors.proofs.FieldText.{start-inside, field-is}
 use borrow.Author.Needs.{needs}
 use Rattle.vectors.proofs.fields.field.Statement.{statement}
 use Rattle.vectors.proofs.fields.field.Tie as tie
 
-abbrev Inv-loop : tie.InvT-loop
-Inv-loop s at n i₀ k₀ i k = Past s at i
+field-start-requires : tie.Need-field-start-requires
+field-start-requires c κs = search needs
 
-abbrev μ-loop : tie.MeasureT-loop
-μ-loop s at n i₀ k₀ i k = n - k
+find-requires : tie.Need-find-requires
+find-requires c κs = (search start-inside, search needs)
 
-loop-holds : tie.Need-loop-holds Inv-loop μ-loop
-loop-holds c = record { from = search needs; inside = search needs }
+sub-result : tie.Need-sub-result
+sub-result c = search needs
 
-behind-requires : tie.Need-behind-requires Inv-loop μ-loop
-behind-requires c κs = search needs
+part-result-start : tie.Need-part-result-start
+part-result-start c = search needs
 
-add-k : tie.Need-add-k Inv-loop μ-loop
-add-k c = search needs
+part-result-end : tie.Need-part-result-end
+part-result-end c = search needs
 
-loop-less : tie.Need-loop-less Inv-loop μ-loop
-loop-less c = search needs
-
-loop-again : tie.Need-loop-again Inv-loop μ-loop
-loop-again c = record { from = search needs; inside = search needs }
-
-returns : tie.Need-returns Inv-loop μ-loop
-returns c = search needs
+returns : tie.Need-returns
+returns c = search field-is
 
 pub field-spec : {M : Type 1} → statement M
 field-spec =
     tie.close
-    (tie.spec Inv-loop μ-loop loop-holds behind-requires add-k loop-less loop-again returns)
+    (tie.spec
+    field-start-requires
+    find-requires
+    sub-result
+    part-result-start
+    part-result-end
+    returns)

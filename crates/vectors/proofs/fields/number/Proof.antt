@@ -1,28 +1,29 @@
-use Prim.Native.Nat.{_-_}
+use mathlib.Core.Path.{_≡_}
+use Prim.Native.Nat.{_-_, _≤_}
+use lib.ListN.{length, drop}
+use Rattle.vectors.specs.Fields.{decimal}
+use Rattle.vectors.proofs.FieldText.{number-turn, number-end}
 use borrow.Author.Needs.{needs}
 use Rattle.vectors.proofs.fields.number.Statement.{statement}
 use Rattle.vectors.proofs.fields.number.Tie as tie
 
 abbrev Inv-loop : tie.InvT-loop
-Inv-loop s at end n₀ i₀ n i = Unit {0}
+Inv-loop s n digits v₀ i₀ v i = (decimal v (drop i digits) ≡ decimal 0 digits) × (i ≤ length digits)
 
 abbrev μ-loop : tie.MeasureT-loop
-μ-loop s at end n₀ i₀ n i = end - i
+μ-loop s n digits v₀ i₀ v i = length digits - i
+
+field-requires : tie.Need-field-requires Inv-loop μ-loop
+field-requires c κs = search needs
 
 loop-holds : tie.Need-loop-holds Inv-loop μ-loop
-loop-holds c = tt
+loop-holds c = search needs
 
-times-ten-requires : tie.Need-times-ten-requires Inv-loop μ-loop
-times-ten-requires c κs = search needs
+shared-slice-read-with-digit : tie.Need-shared-slice-read-with-digit Inv-loop μ-loop
+shared-slice-read-with-digit c = search needs
 
-byte-at-requires : tie.Need-byte-at-requires Inv-loop μ-loop
-byte-at-requires c κs = search needs
-
-digit-requires : tie.Need-digit-requires Inv-loop μ-loop
-digit-requires c κs = search needs
-
-wrapping-add-usize-requires : tie.Need-wrapping-add-usize-requires Inv-loop μ-loop
-wrapping-add-usize-requires c κs = search needs
+with-digit-requires : tie.Need-with-digit-requires Inv-loop μ-loop
+with-digit-requires c κs = search needs
 
 add-i : tie.Need-add-i Inv-loop μ-loop
 add-i c = search needs
@@ -31,10 +32,10 @@ loop-less : tie.Need-loop-less Inv-loop μ-loop
 loop-less c = search needs
 
 loop-again : tie.Need-loop-again Inv-loop μ-loop
-loop-again c = tt
+loop-again c = (search number-turn, search needs)
 
 returns : tie.Need-returns Inv-loop μ-loop
-returns c = tt
+returns c = search number-end
 
 pub number-spec : {M : Type 1} → statement M
 number-spec =
@@ -42,11 +43,10 @@ number-spec =
     (tie.spec
     Inv-loop
     μ-loop
+    field-requires
     loop-holds
-    times-ten-requires
-    byte-at-requires
-    digit-requires
-    wrapping-add-usize-requires
+    shared-slice-read-with-digit
+    with-digit-requires
     add-i
     loop-less
     loop-again

@@ -1,49 +1,46 @@
 use mathlib.Core.Path.{_≡_}
-use Prim.Native.Nat.{_-_, _≤_}
+use Prim.Native.Nat.{_-_}
 use lib.ListN.{length}
-use Rattle.vectors.specs.Fields.{counted}
+use Rattle.buffer.specs.Sink.{sink, emit}
+use Rattle.vectors.specs.Program.{inputAt, partOf}
+use Rattle.vectors.proofs.InputParts.{part-turn, part-end}
+use Rattle.vectors.proofs.FieldText.{kept}
 use borrow.Author.Needs.{needs}
 use Rattle.vectors.proofs.program.fill.Statement.{statement}
 use Rattle.vectors.proofs.program.fill.Tie as tie
 
 abbrev Inv-loop : tie.InvT-loop
-Inv-loop list size part₀ place₀ n₀ part place n = (n ≤ length part₀) × (length part ≡ length part₀)
+Inv-loop prefix byte times suffix at end part₀ n₀ i₀ part n i = (emit (sink part n) (partOf (inputAt prefix byte times suffix) i (end - i)) ≡ emit (sink part₀ 0) (partOf (inputAt prefix byte times suffix) at (end - at))) × (length part ≡ length part₀)
 
 abbrev μ-loop : tie.MeasureT-loop
-μ-loop list size part₀ place₀ n₀ part place n = length part₀ - n
+μ-loop prefix byte times suffix at end part₀ n₀ i₀ part n i = end - i
 
 loop-holds : tie.Need-loop-holds Inv-loop μ-loop
 loop-holds c = search needs
 
-same-length : tie.Need-same-length Inv-loop μ-loop
-same-length c = search needs
+input-byte-requires : tie.Need-input-byte-requires Inv-loop μ-loop
+input-byte-requires c κs = search needs
 
-returns : tie.Need-returns Inv-loop μ-loop
-returns c = search counted
+push-byte-requires : tie.Need-push-byte-requires Inv-loop μ-loop
+push-byte-requires c κs = search needs
 
-hex-byte-requires : tie.Need-hex-byte-requires Inv-loop μ-loop
-hex-byte-requires c κs = search needs
-
-slice-write-part : tie.Need-slice-write-part Inv-loop μ-loop
-slice-write-part c = search needs
-
-next-requires : tie.Need-next-requires Inv-loop μ-loop
-next-requires c κs = search needs
-
-add-n : tie.Need-add-n Inv-loop μ-loop
-add-n c = search needs
+add-i : tie.Need-add-i Inv-loop μ-loop
+add-i c = search needs
 
 loop-less : tie.Need-loop-less Inv-loop μ-loop
 loop-less c = search needs
 
 loop-again : tie.Need-loop-again Inv-loop μ-loop
-loop-again c = search needs
+loop-again c = (part-turn _ _ _ _ (c .before .before .before .before .before .before .loop .inv .0) _ _ (c .before .before .before .before .before .loop-test .taken) (c .before .before .before .input-byte .ensures) (c .before .before .push-byte .ensures), search needs)
 
-same-length-2 : tie.Need-same-length-2 Inv-loop μ-loop
-same-length-2 c = search needs
+smaller-requires : tie.Need-smaller-requires Inv-loop μ-loop
+smaller-requires c κs = search needs
 
-returns-2 : tie.Need-returns-2 Inv-loop μ-loop
-returns-2 c = search counted
+same-length : tie.Need-same-length Inv-loop μ-loop
+same-length c = search needs
+
+returns : tie.Need-returns Inv-loop μ-loop
+returns c = search (kept, part-end)
 
 pub fill-spec : {M : Type 1} → statement M
 fill-spec =
@@ -52,13 +49,11 @@ fill-spec =
     Inv-loop
     μ-loop
     loop-holds
-    same-length
-    returns
-    hex-byte-requires
-    slice-write-part
-    next-requires
-    add-n
+    input-byte-requires
+    push-byte-requires
+    add-i
     loop-less
     loop-again
-    same-length-2
-    returns-2)
+    smaller-requires
+    same-length
+    returns)
