@@ -2,12 +2,11 @@
 use mathlib.Core.Path.{_≡_, refl, sym, ap, ap₂, _∙_}
 use Prim.Native.Nat.{ℕ, zero, suc, _+_, _-_, _*_, _<_, _≤_}
 use native.Mathlib.Omega.{arith}
-use mathlib.Core.Bool.{cond}
 use mathlib.Core.Logic.{_≢_}
 use mathlib.Core.List.{List, [], _∷_, _++_, append-assoc}
 use lib.ListN.{length, take, drop, getD, replicate, length-drop, drop-of-length-le}
-use lib.Seq.{length-take-le, take-nil, take-all, take-take, take-length, drop-cons, getD-take}
-use lib.Dec.{eqb, leb}
+use lib.Seq.{length-take-le, take-nil, drop-cons, getD-take}
+use lib.Dec.{leb}
 use borrow.Author.Tests.{eq-eqb, ne-eqb, leb-true, leb-false}
 use Rattle.text.specs.Tests.{cases}
 use Rattle.buffer.specs.Numbers.{smallerOf, le4}
@@ -16,7 +15,7 @@ use Rattle.buffer.specs.Sink.Laws.{emit-append, emit-none}
 use Rattle.screen.specs.Row.{Cell, plain, withBackground, blank, cell, rowBytes}
 use Rattle.screen.specs.Row.Contracts.{part, bodyAt, blankAt, cellOf, cellIn, cellsIn, CellReady}
 use Rattle.screen.specs.Row.Contracts.Laws.{cell-at, cells-enough}
-use Rattle.screen.specs.Screen.{rowOf, RowReady}
+use Rattle.screen.specs.Screen.{rowOf}
 use Rattle.screen.specs.Output.{cellBytes}
 use Rattle.screen.specs.Output.Laws.{row-nil, row-cons, row-append}
 use Rattle.screen.specs.declared.screen.Screen as code

@@ -3,17 +3,17 @@ use mathlib.Core.Path.{_≡_, refl, sym, ap, _∙_}
 use Prim.Native.Nat.{ℕ, suc, _+_, _-_, _*_, _<_, _≤_}
 use native.Mathlib.Numerals.{add-one}
 use native.Mathlib.Omega.{arith}
-use mathlib.Core.Bool.{Bool, true, false, cond}
+use mathlib.Core.Bool.{Bool, true, false}
 use mathlib.Core.Logic.{_≢_}
-use mathlib.Core.List.{List, [], _∷_}
-use lib.ListN.{length, take, drop, getD, length-take, length-drop, length-set, drop-of-length-le}
+use mathlib.Core.List.{List}
+use lib.ListN.{length, take, drop, getD, length-drop, drop-of-length-le}
 use lib.Seq.{take-nil, length-take-le, getD-take, take-all, drop-length, sets}
 use lib.Dec.{eqb, leb}
-use borrow.Author.Tests.{eq-eqb, ne-eqb, le-leb, lt-leb, leb-true, leb-false}
+use borrow.Author.Tests.{eq-eqb, ne-eqb, leb-true, leb-false}
 use Rattle.text.specs.Tests.{cases}
 use Rattle.buffer.specs.Numbers.{smallerOf}
-use Rattle.screen.specs.Row.{Cell, plain, blank, isLater, allLater}
-use Rattle.screen.specs.Row.Contracts.{part, cellOf, cellsIn, cellIn, firstColumn, laters, setCell, sameNumbers, clusterNumbers, CellReady, CellsReady, ClusterReady}
+use Rattle.screen.specs.Row.{plain, blank, isLater, allLater}
+use Rattle.screen.specs.Row.Contracts.{part, cellOf, cellsIn, cellIn, firstColumn, laters, setCell, sameNumbers, clusterNumbers, CellReady, CellsReady}
 use Rattle.screen.specs.Row.Contracts.Laws.{cells-enough, cell-at, same-next, first-found, first-none, later-more, laters-more, laters-none}
 
 -- ---- part_len

@@ -1,6 +1,6 @@
 -- A change by its kind: what its function makes of the screen.
 use mathlib.Core.Path.{_≡_, refl, sym, ap, _∙_}
-use Prim.Native.Nat.{ℕ, _+_, _-_, _*_, _<_, _≤_}
+use Prim.Native.Nat.{ℕ, _+_, _-_, _≤_}
 use native.Mathlib.Omega.{arith}
 use mathlib.Core.Bool.{Bool, true, false, cond, _&&_}
 use mathlib.Core.Logic.{_≢_}
@@ -8,18 +8,17 @@ use mathlib.Core.Option.{Option}
 use mathlib.Core.List.{List}
 use lib.ListN.{length, take, drop, length-drop}
 use lib.Seq.{length-take-le}
-use lib.Dec.{T, eqb, ltb, eqb→eq}
-use borrow.Author.Tests.{eq-eqb, ne-eqb, lt-ltb, le-ltb, eqb-true, eqb-false, ltb-true, ltb-false}
+use lib.Dec.{eqb, ltb, eqb→eq}
+use borrow.Author.Tests.{ne-eqb, le-ltb, eqb-true, ltb-true}
 use Rattle.text.specs.Tests.{cases, and-T, true-T}
 use Rattle.text.specs.Class.{Profile}
 use Rattle.screen.specs.WellFormed.{color, fields}
 use Rattle.screen.specs.Row.{Screen, withAttributes, clear, right}
 use Rattle.screen.specs.Row.Contracts.{part}
-use Rattle.screen.specs.Screen.{withAt, withAttributesAt, withRefusal, cursorOf, rowOf, screenOf, formed, textOn, recordOf, recordOn, RowReady, BodyReady, Stepped}
+use Rattle.screen.specs.Screen.{withAt, withAttributesAt, withRefusal, rowOf, screenOf, formed, textOn, recordOf, recordOn, RowReady, BodyReady, Stepped}
 use Rattle.screen.specs.Screen.Laws.{text-record, attributes-record, clear-record, other-record}
 use Rattle.screen.specs.declared.records.Head.{Head}
 use Rattle.screen.specs.declared.screen.Screen as code
-use Rattle.screen.proofs.Clusters.{cursor-small}
 
 body-is : (list : List ℕ) (start len : ℕ) → take (start + len - start) (drop start list) ≡ part list start len
 body-is list start len = ap (part list start) (let e : start + len - start ≡ len = omega arith in e)

@@ -1,17 +1,17 @@
 -- Kind 3: the row's numbers up to the cursor, blank from there on.
-use mathlib.Core.Path.{_≡_, refl, sym, ap, ap₂, _∙_}
+use mathlib.Core.Path.{_≡_, refl, ap, ap₂, _∙_}
 use Prim.Native.Nat.{ℕ, _-_, _*_, _≤_}
 use native.Mathlib.Omega.{arith}
 use mathlib.Core.Bool.{true}
 use mathlib.Core.Option.{some}
-use mathlib.Core.List.{List, _++_}
-use lib.ListN.{length, take, replicate, length-replicate}
+use mathlib.Core.List.{List}
+use lib.ListN.{length, replicate, length-replicate}
 use lib.Seq.{length-sets}
 use lib.Dec.{eqb}
 use borrow.Author.Tests.{ne-eqb}
 use Rattle.text.specs.Tests.{cases}
 use Rattle.screen.specs.Row.{Cell, blank, withBackground, put, screen, clear}
-use Rattle.screen.specs.Row.Contracts.{part, bodyAt, blankAt, cellsIn, sameNumbers, CellsReady}
+use Rattle.screen.specs.Row.Contracts.{part, bodyAt, sameNumbers, CellsReady}
 use Rattle.screen.specs.Screen.{largerOf, cursorOf, reached, Reached, cutLeft, rowOf, screenOf, formed, ClearReady, Stepped}
 use Rattle.screen.specs.declared.screen.Screen as code
 use Rattle.screen.proofs.Clusters.{cursor-small}

@@ -1,8 +1,8 @@
 -- A cluster of a text: what it does to the screen that the numbers stand for.
 use mathlib.Core.Path.{_≡_, refl, sym, ap, _∙_}
-use Prim.Native.Nat.{ℕ, zero, suc, _+_, _-_, _*_, _<_, _≤_}
+use Prim.Native.Nat.{ℕ, zero, suc, _+_, _-_, _<_, _≤_}
 use native.Mathlib.Omega.{arith}
-use mathlib.Core.Bool.{Bool, true, false, cond, _&&_, _||_, and-false}
+use mathlib.Core.Bool.{true, false, cond, _&&_, _||_, and-false}
 use mathlib.Core.Logic.{_≢_}
 use mathlib.Core.List.{List, [], _∷_}
 use lib.ListN.{length, take, drop, getD, length-drop}
@@ -11,9 +11,9 @@ use lib.Dec.{eqb, ltb}
 use borrow.Author.Tests.{ne-eqb, lt-ltb, le-ltb, eqb-true, eqb-false, ltb-true, ltb-false}
 use Rattle.text.specs.Tests.{cases}
 use Rattle.text.specs.Utf8.{sameBytes}
-use Rattle.screen.specs.Row.{Cell, Screen, screen, back, passes, write}
-use Rattle.screen.specs.Row.Contracts.{part, bodyAt}
-use Rattle.screen.specs.Screen.{withAt, withRefusal, cursorOf, rowOf, screenOf, formed, pass, clusterOn, RowReady, ClusterOnReady, Stepped}
+use Rattle.screen.specs.Row.{Screen, back, write}
+use Rattle.screen.specs.Row.Contracts.{part}
+use Rattle.screen.specs.Screen.{withAt, withRefusal, cursorOf, rowOf, screenOf, formed, clusterOn, ClusterOnReady, Stepped}
 use Rattle.screen.specs.declared.screen.Screen as code
 
 one-byte : (s : List ℕ) (n b : ℕ) → n ≤ length s → sameBytes (take n s) (b ∷ []) ≡ (eqb (getD s 0 0) b && eqb n 1)

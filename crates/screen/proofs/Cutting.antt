@@ -2,16 +2,15 @@
 use mathlib.Core.Path.{_≡_, refl, sym, ap, _∙_}
 use Prim.Native.Nat.{ℕ, _+_, _-_, _*_, _<_, _≤_}
 use native.Mathlib.Omega.{arith}
-use mathlib.Core.Bool.{Bool, true, false, cond, _&&_}
-use mathlib.Core.List.{List, []}
+use mathlib.Core.Bool.{Bool, true, false}
+use mathlib.Core.List.{List}
 use lib.ListN.{length, take, drop, length-drop, drop-of-length-le}
 use lib.Seq.{length-take-le, sets}
-use lib.Dec.{ltb}
 use borrow.Author.Tests.{lt-ltb, le-ltb}
 use Rattle.screen.specs.Row.{isLater}
 use Rattle.screen.specs.Row.Contracts.{cellsIn, cellIn, firstColumn, laters, sameNumbers, CellsReady}
 use Rattle.screen.specs.Row.Contracts.Laws.{cells-enough, first-le, laters-le}
-use Rattle.screen.specs.Screen.{withEnd, largerOf, reached, Reached, cutLeft, cutRight}
+use Rattle.screen.specs.Screen.{withEnd, largerOf, Reached, cutLeft, cutRight}
 use Rattle.screen.specs.declared.screen.Screen.{Screen}
 
 -- ---- reach

@@ -1,14 +1,14 @@
 -- The changes of a list, record by record.
-use mathlib.Core.Path.{_≡_, refl, sym, ap, ap₂, _∙_}
-use mathlib.Core.Logic.{_⊎_, inr}
-use Prim.Native.Nat.{ℕ, suc, _+_, _-_, _*_, _<_, _≤_}
+use mathlib.Core.Path.{_≡_, refl, sym, ap, _∙_}
+use mathlib.Core.Logic.{inr}
+use Prim.Native.Nat.{ℕ, suc, _+_, _-_, _<_, _≤_}
 use native.Mathlib.Omega.{arith}
 use mathlib.Core.Bool.{Bool, true, false}
-use mathlib.Core.Option.{Option, none, some}
+use mathlib.Core.Option.{Option, some}
 use mathlib.Core.List.{List, [], _∷_}
 use lib.ListN.{length, take, drop, getD, length-drop, drop-of-length-le}
 use lib.Seq.{length-take-le, drop-cons, drop-drop}
-use lib.Dec.{leb, eqb}
+use lib.Dec.{leb}
 use borrow.Author.Tests.{le-leb, lt-leb, leb-true, leb-false, ne-eqb}
 use Rattle.text.specs.Tests.{cases}
 use Rattle.text.specs.Class.{Profile}
@@ -16,7 +16,6 @@ use Rattle.screen.specs.Records.{littleEndian, Record, recordAt, records
 use Rattle.screen.specs.Records.Laws.{records-first}
 use Rattle.screen.specs.Records.Contracts.{HeadReady, headAt}
 use Rattle.screen.specs.Row.{Screen, blankScreen}
-use Rattle.screen.specs.Row.Contracts.{part}
 use Rattle.screen.specs.Screen.{withRefusal, rowOf, screenOf, recordOf, recordOn, recordsOn, RowReady, BodyReady, DrawReady, Drawn, Stepped}
 use Rattle.screen.specs.Screen.Laws.{records-none, records-step, records-malformed, record-cut}
 use Rattle.screen.specs.declared.records.Head.{Head}

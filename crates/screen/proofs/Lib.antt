@@ -10,3 +10,4 @@ pub mod Texts
 pub mod Changes
 pub mod Drawing
 pub mod Bytes
+pub mod RowCall

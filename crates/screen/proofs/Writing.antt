@@ -1,22 +1,21 @@
 -- A cluster written into a row's numbers is written into its cells.
-use mathlib.Core.Path.{_≡_, refl, sym, ap, ap₂, subst, _∙_}
-use Prim.Native.Nat.{ℕ, suc, _+_, _-_, _*_, _<_, _≤_}
+use mathlib.Core.Path.{_≡_, refl, sym, ap, ap₂, _∙_}
+use Prim.Native.Nat.{ℕ, _+_, _-_, _*_, _<_, _≤_}
 use native.Mathlib.Omega.{arith}
 use mathlib.Core.Bool.{Bool, true, false, cond, _&&_}
-use mathlib.Core.Logic.{_≢_}
-use mathlib.Core.Option.{Option, none, some}
+use mathlib.Core.Option.{some}
 use mathlib.Core.List.{List, [], _∷_, _++_, append-assoc, append-nil}
 use lib.ListN.{length, take, drop, getD, replicate, length-append, length-drop, length-replicate, take-append-drop, replicate-append-replicate}
 use lib.Seq.{length-take-le, take-take, take-at, drop-at, drop-drop, drop-append-add, take-append-le, length-sets, sets}
 use lib.Dec.{eqb, ltb}
-use borrow.Author.Tests.{lt-ltb, le-ltb, ne-eqb, ltb-true, ltb-false}
+use borrow.Author.Tests.{ne-eqb, ltb-true, ltb-false}
 use Rattle.text.specs.Tests.{cases}
 use Rattle.screen.specs.Row.{Cell, plain, blank, cell, clusterCells, isLater, lostEnd, put, Screen, screen, write}
 use Rattle.screen.specs.Row.Laws.{lostEnd-length}
 use Rattle.screen.specs.Row.Contracts.{part, bodyAt, blankAt, cellOf, cellsIn, cellIn, firstColumn, laters, sameNumbers, clusterNumbers, CellsReady}
 use Rattle.screen.specs.Row.Contracts.Laws.{cells-enough, cells-written, cells-same, same-length, first-le, lost-end, laters-le}
 use Rattle.screen.specs.Row.Put.{drop-take, put-cells}
-use Rattle.screen.specs.Screen.{withAt, withEnd, largerOf, cursorOf, reached, Reached, cutLeft, cutRight, rowOf, screenOf, formed, RowReady, WriteReady, Stepped}
+use Rattle.screen.specs.Screen.{withAt, withEnd, largerOf, cursorOf, reached, Reached, cutLeft, cutRight, rowOf, screenOf, formed, WriteReady, Stepped}
 use Rattle.screen.specs.declared.screen.Screen as code
 
 pub larger-is : (a b : ℕ) → largerOf a b ≡ a + (b - a)

@@ -1,5 +1,5 @@
 -- What the contracts of src/output.rt say: a cell's bytes.
-use Prim.Native.Nat.{ℕ, _*_, _≤_}
+use Prim.Native.Nat.{ℕ}
 use mathlib.Core.List.{List, _++_}
 use lib.ListN.{length}
 use Rattle.buffer.specs.Numbers.{le4}

@@ -25,7 +25,7 @@ use Rattle.drawing.specs.Change as change
 use Rattle.drawing.specs.Change.{Change, allAttributes, cursorRight, kindOf, body, attributeBytes, colorBytes}
 use Rattle.screen.specs.Records.Laws.{recordOf}
 use Rattle.screen.specs.WellFormed.{clustersIn, isBackspace}
-use Rattle.screen.specs.Row.{Screen, withAttributes, blankScreen, passes, write, clear, right, onCluster, onClusters, onRecord, onRecords}
+use Rattle.screen.specs.Row.{Screen, withAttributes, blankScreen, passes, write, clear, onCluster, onClusters, onRecord, onRecords}
 use Rattle.screen.specs.Row.Laws.{passed-stays}
 use Rattle.screen.specs.Branches.{by-case}
 use Rattle.screen.specs.ClusterParts.{Wide}

@@ -1,8 +1,8 @@
 -- The bytes of cells one after the other.
 use mathlib.Core.Path.{_≡_, refl, sym, ap, _∙_}
-use Prim.Native.Nat.{ℕ, zero, suc}
+use Prim.Native.Nat.{ℕ}
 use mathlib.Core.List.{List, [], _∷_, _++_, append-assoc}
-use lib.ListN.{length, replicate}
+use lib.ListN.{length}
 use Rattle.buffer.specs.Numbers.{le4}
 use Rattle.screen.specs.Row.{Cell, rowBytes}
 use Rattle.screen.specs.Output.{cellBytes}

@@ -2,12 +2,12 @@
 use mathlib.Core.Path.{_≡_, refl, sym, ap, ap₂, _∙_}
 use Prim.Native.Nat.{ℕ, zero, suc, _+_, _-_, _≤_, _<_}
 use native.Mathlib.Omega.{arith}
-use mathlib.Core.Bool.{Bool, true, false, cond, _&&_}
+use mathlib.Core.Bool.{true, false, cond, _&&_}
 use mathlib.Core.List.{List, [], _∷_, _++_, append-assoc}
 use lib.ListN.{length, take, drop, getD, replicate, length-append, length-drop, length-replicate, List·getD-append}
-use lib.Seq.{take-nil, length-take-le, take-append-le, drop-append-le, take-append-add, drop-append-add, take-take, take-at, drop-at, getD-take, getD-append-add, take-all}
-use lib.Dec.{eqb, ltb}
-use borrow.Author.Tests.{lt-ltb, le-ltb, ltb-true, ltb-false}
+use lib.Seq.{take-nil, length-take-le, take-append-le, drop-append-le, take-append-add, drop-append-add, take-take, take-at, getD-take, getD-append-add}
+use lib.Dec.{ltb}
+use borrow.Author.Tests.{ltb-true, ltb-false}
 use Rattle.text.specs.Tests.{cases}
 use Rattle.screen.specs.Row.{Cell, plain, blank, isLater, lostEnd, lostStart, put}
 use Rattle.screen.specs.Row.Contracts.{laters}

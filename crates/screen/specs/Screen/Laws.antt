@@ -10,7 +10,7 @@ use lib.ListN.{length, drop, length-append, length-drop}
 use lib.Dec.{eqb, ltb}
 use borrow.Author.Tests.{eq-eqb, ne-eqb, eqb-true, eqb-false}
 use Rattle.text.specs.Tests.{cases}
-use Rattle.text.specs.Utf8.{Scalar, decode, decodeFrom, runOf, bytesOf, reads, sameBytes}
+use Rattle.text.specs.Utf8.{Scalar, decode, decodeFrom, runOf, bytesOf, reads}
 use Rattle.text.specs.Utf8.Laws.{bytesOf-append}
 use Rattle.text.specs.Class.{Profile}
 use Rattle.text.specs.Width.{widthOf}

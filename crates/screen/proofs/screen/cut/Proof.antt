@@ -1,4 +1,3 @@
-use mathlib.Core.Path.{_≡_}
 use borrow.Author.Needs.{needs}
 use Rattle.screen.proofs.screen.cut.Statement.{statement}
 use Rattle.screen.proofs.screen.cut.Tie as tie

@@ -1,4 +1,4 @@
-use Rattle.screen.proofs.Cutting.{right-begins, right-fills, right-cut, right-past}
+use Rattle.screen.proofs.Cutting.{right-fills, right-cut, right-past}
 use borrow.Author.Needs.{needs}
 use Rattle.screen.proofs.screen.cut_right.Statement.{statement}
 use Rattle.screen.proofs.screen.cut_right.Tie as tie

@@ -2,13 +2,13 @@
 use mathlib.Core.Path.{_≡_, refl, sym, ap, ap₂, _∙_}
 use Prim.Native.Nat.{ℕ, zero, suc, _+_, _-_, _*_, _<_, _≤_}
 use native.Mathlib.Omega.{arith}
-use mathlib.Core.Bool.{Bool, true, false, cond, _&&_, and-false}
+use mathlib.Core.Bool.{true, false, and-false}
 use mathlib.Core.List.{List, [], _∷_, _++_}
-use lib.ListN.{length, take, drop, getD, set, replicate, length-append}
+use lib.ListN.{length, take, drop, getD, replicate, length-append}
 use lib.Seq.{length-take-le, drop-cons, split-at, sets, sets-eq}
 use Rattle.text.specs.Tests.{cases, and-T, is-true, true-T}
 use Rattle.screen.specs.Row.{Cell, plain, blank, isLater, allLater, lostEnd, lostStart}
-use Rattle.screen.specs.Row.Contracts.{cellOf, cellsIn, cellIn, firstColumn, laters, setCell, sameNumbers, clusterNumbers}
+use Rattle.screen.specs.Row.Contracts.{cellOf, cellsIn, cellIn, firstColumn, laters, setCell, sameNumbers}
 
 three : (k : ℕ) → 3 * suc k ≡ suc (suc (suc (3 * k)))
 three k = omega arith
