@@ -77,6 +77,16 @@ console_answer console_draw_window(const uint8_t *line, size_t line_len, const s
  * or count 0. */
 console_answer console_draw_row(const uint8_t *line, size_t line_len, const size_t *matches, size_t matches_len, size_t current, size_t first, size_t count, size_t width, size_t mode, uint8_t *conv, size_t conv_len, console_span *spans, size_t spans_len, uint8_t *list, size_t list_len);
 
+/* The receiving side: a row of `width` columns, 1 to 4,096, blank at first, after the
+ * changes of a list such as a drawing leaves. out holds, for each cell, a 4-byte
+ * little-endian length of its cluster, the cluster and its attribute body of 24 bytes;
+ * the later cells of a wide cluster have length 0 and the same body, a blank is a space.
+ * The count is the bytes. Refused by 5 for another width; by 10 where the list is
+ * malformed or a text is not UTF-8 or has a cluster of width 0 other than 08; by 11
+ * where a text would pass the last column; by 9 where out is too short. A drawing's list
+ * is never refused by 10, and never by 11 in the columns that it was drawn into. */
+console_answer console_screen_row(const uint8_t *list, size_t list_len, size_t width, uint8_t *out, size_t out_len);
+
 #ifdef __cplusplus
 }
 #endif

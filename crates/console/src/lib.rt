@@ -8,6 +8,8 @@ ghost use Rattle.spans.specs.Calls.{readCall};
 ghost use Rattle.spans.specs.Calls.Contracts.{readAs};
 ghost use Rattle.rows.specs.Calls.{rowsCall, heightCall};
 ghost use Rattle.rows.specs.Calls.Contracts.{wrappedAs};
+ghost use Rattle.screen.specs.Calls.{screenCall};
+ghost use Rattle.screen.specs.Calls.Code.{shown};
 ghost use Rattle.drawing.specs.Calls.{windowCall, rowCall};
 ghost use Rattle.drawing.specs.Rendering.{currentOf};
 ghost use Rattle.drawing.specs.Requests.{drawnAs};
@@ -103,4 +105,11 @@ pub extern "C" fn console_draw_row(
         spans,
         list,
     )
+}
+
+#[no_mangle]
+pub extern "C" fn console_screen_row(list: &[u8], width: usize, out: &mut [u8]) -> Answer
+    ensures { λ r. ⌜ shown r (now (out .exit)) ≡ screenCall profile01 width (length (now (out .entry))) (now (list .entry)) ⌝ }
+{
+    screen::screen_row(list, width, out)
 }
