@@ -55,9 +55,10 @@ module _ (list row : List ℕ) (width : ℕ) (t : code.Screen) (color : ℕ) (re
     pub clear-cuts : CellsReady row₁ 0 (u .end)
     clear-cuts = let e : u .end ≡ end₁ = ap (λ (x : code.Screen). x .end) (reach .state) in record { order = omega arith; room = omega (arith, e, end-small, long₁, ready .ready .room) }
 
-    pub clear-step : (row′ : List ℕ) → row′ ≡ cutLeft list row₁ (u .end) c → length row′ ≡ length row → Stepped list width row t (formed true (λ u. clear width u (part list color 4))) row′ after
+    pub clear-step : (row′ : List ℕ) → row′ ≡ cutLeft list row₁ (u .end) c → length row′ ≡ length row → Stepped list width row t (formed true (λ u. clear width u (part list color 4))) row′ (record { at = u .at; attributes = u .attributes; end = c; color = color; refusal = u .refusal })
     clear-step row′ cut long =
         let g : row′ ≡ row₂ = cut ∙ ap₂ (λ (l : List ℕ) (x : code.Screen). cutLeft list l (x .end) c) (reach .numbers) (reach .state) in
+        rw (reach .state)
         record {
           same = ap (λ (l : List ℕ). screenOf list width l after) g ∙ cleared-same;
           ready = record { some = ready .ready .some; at = ready .ready .at; end = small; room = omega (arith, long, ready .ready .room) };

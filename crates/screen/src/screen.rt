@@ -231,11 +231,11 @@ fn clear_to_end(list: &[u8], row: &mut [usize], width: usize, t: Screen, color: 
     let u = reach(row, t, c);
     cut_left(list, row, u.end, c);
     Screen {
-        at: t.at,
-        attributes: t.attributes,
+        at: u.at,
+        attributes: u.attributes,
         end: c,
         color: color,
-        refusal: t.refusal,
+        refusal: u.refusal,
     }
 }
 
