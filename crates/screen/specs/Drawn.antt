@@ -14,8 +14,8 @@ use Rattle.spans.specs.Spans.{Span}
 use Rattle.rows.specs.Rows.{Row, Mode, rows}
 use Rattle.drawing.specs.Draw.{endOf, startOf}
 use Rattle.drawing.specs.Change.{Change, text, torn, allAttributes, clearToEnd, cursorRight}
-use Rattle.screen.specs.SymbolClasses.{SymbolClasses}
-use Rattle.screen.specs.ConvertedBytes.{Byte}
+use Rattle.text.specs.Class.Symbols.{SymbolClasses}
+use Rattle.text.specs.Overstrike.Bytes.{Byte}
 pub mod Texts
 pub mod LineDrawing
 pub mod Clip

@@ -4,8 +4,4 @@ pub mod Row
 pub mod Calls
 pub mod Screen
 pub mod Output
-pub mod Branches
-pub mod ClusterParts
-pub mod SymbolClasses
-pub mod ConvertedBytes
 pub mod Drawn

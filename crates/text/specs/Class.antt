@@ -9,6 +9,7 @@ pub mod Document01
 pub mod Ascii
 pub mod Code
 pub mod Profile01
+pub mod Symbols
 
 pub data Class : Type 0 where
   cr lf control extend zwj classL classV classT classLV classLVT regionalIndicator other : Class

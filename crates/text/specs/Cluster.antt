@@ -10,6 +10,7 @@ pub mod Spaces
 pub mod Ascii
 pub mod Same
 pub mod Printable
+pub mod Parts
 
 -- what the rules ask of the scalars before, besides the last one's class: an odd number of regional indicators ends there
 pub record Context : Type 0 where

@@ -10,6 +10,7 @@ pub mod Laws
 pub mod Noise
 pub mod Length
 pub mod Code
+pub mod Bytes
 
 -- Overstrike
 pub data Style : Type 0 where

@@ -10,7 +10,7 @@ use lib.ListN.{length, take, replicate}
 use lib.Seq.{take-append-seam}
 use lib.Dec.{eqb, leb, ltb}
 use borrow.Author.Tests.{eq-eqb, le-leb, le-ltb}
-use Rattle.text.specs.Tests.{cases, in-range}
+use Rattle.text.specs.Tests.{cases, in-range, both}
 use Rattle.text.specs.Each.{All}
 use Rattle.text.specs.Class.{Profile}
 use Rattle.text.specs.Class.Code.{profileOf}
@@ -36,9 +36,8 @@ use Rattle.drawing.specs.Calls.Laws.{drawing-unread}
 use Rattle.screen.specs.Records.{records}
 use Rattle.screen.specs.Row.{rowBytes}
 use Rattle.screen.specs.Calls.{screenOf, screenCall}
-use Rattle.screen.specs.Branches.{both}
-use Rattle.screen.specs.ConvertedBytes.{Byte, converted-bytes}
-use Rattle.screen.specs.SymbolClasses.{symbol-classes}
+use Rattle.text.specs.Overstrike.Bytes.{Byte, converted-bytes}
+use Rattle.text.specs.Class.Symbols.{symbol-classes}
 use Rattle.screen.specs.Drawn.{ProfileLaws, Line, columns, rowColumns}
 use Rattle.screen.specs.Drawn.Spans.{read-fit}
 use Rattle.screen.specs.Drawn.WellFormed.{DrawnList, list-records, never-malformed}

@@ -4,7 +4,7 @@ use native.Mathlib.Omega.{arith}
 use mathlib.Core.Bool.{Bool, true, _&&_}
 use mathlib.Core.List.{List, [], _∷_}
 use lib.Dec.{T, eqb, leb, leb→le}
-use Rattle.text.specs.Tests.{and-T}
+use Rattle.text.specs.Tests.{and-T, both}
 use Rattle.text.specs.Each.{All, all-nil, all-cons}
 use Rattle.text.specs.Utf8.{to, within}
 use Rattle.spans.specs.Sgr.{Known, known, meaningOf, coloured, meaningAfter, follow, ordersFrom, orders}
@@ -21,7 +21,6 @@ use Rattle.drawing.specs.declared.attributes.Font.{Font}
 use Rattle.drawing.specs.declared.attributes.Attributes.{Attributes}
 use Rattle.drawing.specs.Attributes as style
 use Rattle.drawing.specs.Attributes.{Style, plainWith, plain, apply, applyAll, linked, styled, arrows, withFont, withFlags, withColors}
-use Rattle.screen.specs.Branches.{both}
 
 pub record FontInLimits (f : Font) : Type 0 where
   pub intensity : f .intensity ≤ 2

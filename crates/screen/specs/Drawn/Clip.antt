@@ -8,7 +8,7 @@ use mathlib.Core.Option.{Option, none, some}
 use lib.ListN.{length}
 use lib.Dec.{eqb, leb, ltb}
 use borrow.Author.Tests.{eqb-true, leb-true, ltb-true, ltb-false, ne-eqb}
-use Rattle.text.specs.Tests.{cases, or-false}
+use Rattle.text.specs.Tests.{cases, or-false, by-case}
 use Rattle.text.specs.Each.{All, all-cons, all-append, all-split}
 use Rattle.text.specs.Utf8.{Scalar, bytesOf}
 use Rattle.text.specs.Utf8.Valid.{Valid}
@@ -18,8 +18,7 @@ use Rattle.text.specs.Width.Laws.{width-append, width-nil}
 use Rattle.text.specs.Cluster.{clusters}
 use Rattle.text.specs.Overstrike.Length.{size-append}
 use Rattle.drawing.specs.Clip.{spaces, clipEnd, clipStart, clip}
-use Rattle.screen.specs.Branches.{by-case}
-use Rattle.screen.specs.ClusterParts.{Wide, Ends, ends-none, ends-same, Clustered, none, more, clustered, first-before}
+use Rattle.text.specs.Cluster.Parts.{Wide, Ends, ends-none, ends-same, Clustered, none, more, clustered, first-before}
 use Rattle.screen.specs.Drawn.{ProfileLaws}
 use Rattle.screen.specs.Drawn.Texts.{Text, no-text, spaces-text, spaces-front, spaces-width, spaces-size, spaces-end}
 

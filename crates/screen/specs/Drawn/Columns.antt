@@ -8,7 +8,7 @@ use mathlib.Core.List.{List, [], _∷_, _++_}
 use mathlib.Core.Option.{Option}
 use lib.ListN.{length}
 use lib.Dec.{eqb, ltb, ltb→lt}
-use Rattle.text.specs.Tests.{and-T, true-T}
+use Rattle.text.specs.Tests.{and-T, true-T, both, by-case}
 use Rattle.text.specs.Each.{All, all-nil, all-cons, all-append}
 use Rattle.text.specs.Utf8.{Scalar, ascii, bytesOf}
 use Rattle.text.specs.Class.{Profile}
@@ -25,7 +25,6 @@ use Rattle.drawing.specs.Marks.{scalarMark}
 use Rattle.drawing.specs.Change.{Change, allAttributes, clearToEnd, clipped}
 use Rattle.drawing.specs.Draw as draw
 use Rattle.drawing.specs.Draw.{State, Sent, sent, move, meets, windowed, writeTruncated, writeMarks, renderSequence, textStyle, renderSpan, renderSpans, initial, leftArrow, rightArrow, closeWindow, render, endOf, startOf, closeRows, renderWrapped}
-use Rattle.screen.specs.Branches.{both, by-case}
 use Rattle.screen.specs.Drawn.{ProfileLaws, columns, rowColumns}
 use Rattle.screen.specs.Drawn.Texts.{Drawable, spaces-drawable, byteMark-drawable, scalarMark-drawable}
 use Rattle.screen.specs.Drawn.LineDrawing.{text-drawable}

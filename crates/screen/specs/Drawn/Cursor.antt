@@ -7,7 +7,7 @@ use mathlib.Core.Bool.{Bool, true, false, cond}
 use mathlib.Core.List.{List, [], _∷_, map}
 use lib.Dec.{eqb, ltb}
 use borrow.Author.Tests.{eqb-false, ne-eqb, ltb-true, ltb-false, le-ltb}
-use Rattle.text.specs.Tests.{cases, or-false}
+use Rattle.text.specs.Tests.{cases, or-false, by-case}
 use Rattle.text.specs.Each.{All, all-nil, all-cons, all-split}
 use Rattle.text.specs.Utf8.{Scalar, ascii, asciis, decode, runOf, bytesOf, reads}
 use Rattle.text.specs.Utf8.AsciiTexts.{run-asciis}
@@ -27,8 +27,7 @@ use Rattle.screen.specs.Records.Laws.{recordOf}
 use Rattle.screen.specs.WellFormed.{clustersIn, isBackspace}
 use Rattle.screen.specs.Row.{Screen, withAttributes, blankScreen, passes, write, clear, onCluster, onClusters, onRecord, onRecords}
 use Rattle.screen.specs.Row.Laws.{passed-stays}
-use Rattle.screen.specs.Branches.{by-case}
-use Rattle.screen.specs.ClusterParts.{Wide}
+use Rattle.text.specs.Cluster.Parts.{Wide}
 use Rattle.screen.specs.Drawn.{ProfileLaws, columns}
 use Rattle.screen.specs.Drawn.Texts.{Text}
 use Rattle.screen.specs.Drawn.WellFormed.{Sendable, text, torn, attributes, DrawnList, done, next, arrow, text-clusters}

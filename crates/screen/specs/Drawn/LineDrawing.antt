@@ -20,7 +20,7 @@ use Rattle.text.specs.Width.Symbols.{symbol}
 use Rattle.text.specs.Cluster.{classOf}
 use Rattle.text.specs.Cluster.Same.{clusters-each, widthOf-each}
 use Rattle.drawing.specs.Marks.{replacements, lineDrawn}
-use Rattle.screen.specs.ClusterParts.{Wide}
+use Rattle.text.specs.Cluster.Parts.{Wide}
 use Rattle.screen.specs.Drawn.{ProfileLaws}
 use Rattle.screen.specs.Drawn.Texts.{Text, Drawable}
 

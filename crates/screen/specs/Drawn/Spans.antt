@@ -9,7 +9,7 @@ use lib.ListN.{length, take, drop, getD, length-append, length-drop, take-append
 use lib.Seq.{getD-drop}
 use lib.Dec.{eqb, leb}
 use borrow.Author.Tests.{eqb-false}
-use Rattle.text.specs.Tests.{cases}
+use Rattle.text.specs.Tests.{cases, both}
 use Rattle.text.specs.Each.{All, all-nil, all-cons, all-append}
 use Rattle.text.specs.Utf8.{Scalar, decode, runOf, bytesOf, reads}
 use Rattle.text.specs.Utf8.Runs.{run-valid, run-fits}
@@ -28,9 +28,8 @@ use Rattle.spans.specs.Spans.Laws.{no-spans}
 use Rattle.spans.specs.Spans.FirstSpan.{isPlain, NoText, escape-special, kind-noText, plainCluster, plain-same, plainSize, plainText, skipped, step-text, step-special, step-invalid}
 use Rattle.spans.specs.Spans.ContentLaw.{textIn, contentIn, contentOf, content}
 use Rattle.spans.specs.Spans.ContentKinds.{style-content, style-orders}
-use Rattle.screen.specs.Branches.{both}
-use Rattle.screen.specs.ClusterParts.{Wide, Ends, ends-none, ends-same, Clustered, more, clustered, first-before}
-use Rattle.screen.specs.ConvertedBytes.{Byte}
+use Rattle.text.specs.Cluster.Parts.{Wide, Ends, ends-none, ends-same, Clustered, more, clustered, first-before}
+use Rattle.text.specs.Overstrike.Bytes.{Byte}
 use Rattle.screen.specs.Drawn.{Line}
 use Rattle.screen.specs.Drawn.Texts.{Text}
 use Rattle.screen.specs.Drawn.Attributes.{KnownValue, orders-known}

@@ -20,7 +20,7 @@ use Rattle.text.specs.Cluster.Laws.{clusters-nil}
 use Rattle.text.specs.Cluster.Printable.{Printable, printable-width}
 use Rattle.drawing.specs.Clip.{spaces}
 use Rattle.drawing.specs.Marks.{hexDigit, byteMark, upperDigits, scalarMark}
-use Rattle.screen.specs.ClusterParts.{Wide, Ends, ends-none, ends-other, other-wide}
+use Rattle.text.specs.Cluster.Parts.{Wide, Ends, ends-none, ends-other, other-wide}
 use Rattle.screen.specs.Drawn.{ProfileLaws}
 
 module _ (P : Profile) where

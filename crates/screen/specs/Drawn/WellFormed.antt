@@ -26,7 +26,7 @@ use Rattle.screen.specs.Records.{records}
 use Rattle.screen.specs.Records.Laws.{Short, recordOf, records-encode}
 use Rattle.screen.specs.WellFormed.{color, fields, utf8, ofKind, wellFormed, clustersIn, isBackspace, wide, wideTexts}
 use Rattle.screen.specs.Row.{bodySize}
-use Rattle.screen.specs.ClusterParts.{Wide}
+use Rattle.text.specs.Cluster.Parts.{Wide}
 use Rattle.screen.specs.Drawn.{ProfileLaws}
 use Rattle.screen.specs.Drawn.Texts.{Text, printable-one}
 use Rattle.screen.specs.Drawn.Attributes.{InLimits, plain-limits, arrows-limits}

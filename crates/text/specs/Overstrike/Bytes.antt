@@ -1,19 +1,19 @@
--- A converted line of bytes is a line of bytes: a law that text's files do not have.
+-- A converted line of bytes is a line of bytes.
 use Prim.Native.Nat.{ℕ, _≤_}
 use native.Mathlib.Omega.{arith}
 use mathlib.Core.Bool.{Bool, true, _&&_}
 use mathlib.Core.List.{List, [], _∷_, _++_, reverseAux}
 use lib.Dec.{T, leb, leb→le}
 use Rattle.text.specs.Tests.{and-T}
 use Rattle.text.specs.Each.{All, all-nil, all-cons, all-append, all-split}
 use Rattle.text.specs.Utf8.{Scalar, decode, Piece, run, damaged, runs, bytesOf, ascii, asciis, sameBytes, reads}
 use Rattle.text.specs.Utf8.Laws.{decodedBytes-decode, pieceBytes, pieceBytes-runs}
 use Rattle.text.specs.Class.{Profile, isControl}
 use Rattle.text.specs.Cluster.{joins, clusters, joinAll}
 use Rattle.text.specs.Cluster.Laws.{clusters-all}
 use Rattle.text.specs.Overstrike.{Style, normal, bold, underline, boldUnderline, order, Pending, none, held, struck, State, state, eraseFrom, backspace, strike, onBackspace, onCluster, step, steps, finish, convertRun, convertPieces, convert}
 use Rattle.text.specs.Overstrike.Laws.{convert-pieces}
-use Rattle.screen.specs.Branches.{both}
+use Rattle.text.specs.Tests.{both}
 
 abbrev pub Byte : ℕ → Type 0
 Byte b = b ≤ 0xFF

@@ -1,15 +1,15 @@
--- Symbols of one column have class other: a law that text's files do not have.
+-- Symbols of one column have class other.
 use mathlib.Core.Path.{_≡_, sym}
 use Prim.Native.Nat.{ℕ}
 use mathlib.Core.Bool.{true}
 use Rattle.text.specs.Tests.{in-range, is-true, or-T, true-T}
 use Rattle.text.specs.Utf8.{to, within}
 use Rattle.text.specs.Class.{Profile, controls, extends, number}
 use Rattle.text.specs.Class.Code.{profileOf}
 use Rattle.text.specs.Class.Document01.{other-class, quiet-test}
 use Rattle.text.specs.Class.Ranges.{clear}
 use Rattle.text.specs.Width.Symbols.{symbol}
 use Rattle.text.specs.declared.class.Profile as code
 use lib.Dec.{T}
 
 pub record SymbolClasses (P : Profile) : Type 0 where

@@ -1,4 +1,4 @@
--- Clusters of parts of a text: laws that text's files do not have.
+-- Clusters of parts of a text.
 use mathlib.Core.Path.{_≡_, refl, sym, ap, ap₂, subst, _∙_}
 use Prim.Native.Nat.{ℕ, suc, _≤_, suc-le-suc}
 use native.Mathlib.Omega.{arith}
