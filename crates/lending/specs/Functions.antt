@@ -2,6 +2,7 @@
 --     asks             a call of such a function: tokens and parameters go to it, and tokens and last values come back
 --     answers          the end of such a function
 --     walks            the function meets its contract, from a walk of its body with the parameters in their locals
+--     asks-whole, answers-whole, walks-whole   the same over the assertions behind the entries, where the entries are not known one by one
 --     hands-on         the function lends its slices on to one call, and meets the same contract
 -- Assumes `Given`.
 use mathlib.Core.Path.{_≡_}
@@ -18,7 +19,7 @@ use prog.Wp.{Heap, Env, Calls, Loops, WpFn, Closed}
 use ghost.Atoms.{Atoms, sem}
 use contract.Running.{Running, GhostRules, givenOf, tables, tablesOf}
 use contract.Lifetimes.{Lfts, Shares, toks}
-use types.Kit.{Given, Go, Item, Post, Seq, Sq, runs, prop, atRet, ‵, raw, _⊛_, some, _$_, _∵_, !, qed, by, move, use0, use1, split, join, pick, suffices, show, frame, done}
+use types.Kit.{Given, Go, Item, Post, Seq, Sq, runs, prop, atRet, ‵, raw, _⊛_, some, _$_, _∵_, !, qed, move, use0, use1, split, join, pick, suffices, show, frame, done}
 use types.Run.{Opds}
 use sound.WpLaws.{FmC, fmOf}
 use denote.RattleType.{RattleType, Denots, Valss, mirs, flat, owns}
@@ -57,7 +58,7 @@ module _ {M : Type 1} {𝓤 : URA M} {H : Heap 𝓤} {A : Atoms 𝓤} (W : Given
   Promise = tripleOf 𝓤 H A S (closing 𝓤 H A (ended n ks R) c)
 
   module _ (κs : Lfts n) (qs : Shares n) (a : Args S κs) where
-    abbrev bound : c κs a .ghost → Promise .Ghost
+    abbrev pub bound : c κs a .ghost → Promise .Ghost
     bound g = ((κs, qs, tt, a, spelt ks κs a), g)
 
     -- what a caller has, and what a call leaves
@@ -67,29 +68,43 @@ module _ {M : Type 1} {𝓤 : URA M} {H : Heap 𝓤} {A : Atoms 𝓤} (W : Given
     abbrev Left : Lasts (ended n ks R) κs a → List (Item 𝓤) → List (Item 𝓤)
     Left ws Γ = tokens n κs qs ++ (lasts κs ks a ws ++ Γ)
 
-    abbrev Lasting : Lasts (ended n ks R) κs a → SProp 𝓤
+    abbrev pub Lasting : Lasts (ended n ks R) κs a → SProp 𝓤
     Lasting ws = sem 𝓤 H A (lastsOf κs (slots ks) (all yes (slots ks)) a ws)
 
-    abbrev Ensures : c κs a .ghost → Res S κs → Lasts (ended n ks R) κs a → SProp 𝓤
+    abbrev pub Ensures : c κs a .ghost → Res S κs → Lasts (ended n ks R) κs a → SProp 𝓤
     Ensures g r ws = c κs a .ensures g r (atExit (ended n ks R) κs a ws)
 
+    -- the same as the assertions behind them
+    abbrev pub Owned : SProp 𝓤
+    Owned = sem 𝓤 H A (owns (Ts ks κs) a (spelt ks κs a))
+
     module _ {K : Type 0} (t : K) (g : c κs a .ghost) where
+      asked-whole : {E : Env 𝓤 H} {hs : List Held} {Γ : List (Item 𝓤)} {C : Calls 𝓤 H} {Λ : Loops 𝓤 H} {q : Post 𝓤 H} {rest : Body} {f : Name} {xs : List Operand} {i : ℕ} → FmC 𝓤 H (W .laws) C → Triple 𝓤 (C f) Promise → ent 𝓤 (emp 𝓤) (c κs a .requires g)
+          → Opds K W (raw (Promise .pre (bound g)) ∷ Locals E hs ∷ Γ) E xs (args ks κs a) → (L : Spelling 𝓤 H A (R .row κs)) → ((r : Res S κs) → Typed (R .row κs .mir) (L .spell r ∷ []) → T (takes E hs i (L .spell r)) × WT (L .spell r))
+          → ((r : Res S κs) → Is (R .row κs) r (L .spell r ∷ []) → (ws : Lasts (ended n ks R) κs a) → Seq K W (raw (toks 𝓤 A n κs qs) ∷ raw (Lasting ws) ∷ Locals E (setAt i (value (L .spell r)) hs) ∷ raw (Ensures g r ws) ∷ ‵ (R .row κs .own r (L .spell r ∷ [])) ∷ Γ) (runs C Λ E rest q))
+          → Seq K W (raw (toks 𝓤 A n κs qs) ∷ raw Owned ∷ Locals E hs ∷ Γ) (runs C Λ E (seq (call f xs (place i [])) rest) q)
+      asked-whole fm met req os L fits k =
+          join t $ use0 W (raw (c κs a .requires g)) req $ move t (1 ∷ 0 ∷ []) $ join t $ use1 W (raw (Promise .pre (bound g))) (id⊢ 𝓤 _) $
+          calls t fm S (closing 𝓤 H A (ended n ks R) c) met (bound g) os L fits (λ r is. move t (2 ∷ []) $
+          use1 W (some (λ (ws : Lasts (ended n ks R) κs a). raw (Lasting ws) ⊛ raw (Ensures g r ws))) (id⊢ 𝓤 _) $ pick t (λ ws. split t $ move t (3 ∷ 0 ∷ 2 ∷ 1 ∷ []) $ k r is ws))
+
       asked : {E : Env 𝓤 H} {hs : List Held} {Γ : List (Item 𝓤)} {C : Calls 𝓤 H} {Λ : Loops 𝓤 H} {q : Post 𝓤 H} {rest : Body} {f : Name} {xs : List Operand} {i : ℕ} → FmC 𝓤 H (W .laws) C → Triple 𝓤 (C f) Promise → ent 𝓤 (emp 𝓤) (c κs a .requires g)
           → Opds K W (raw (Promise .pre (bound g)) ∷ Locals E hs ∷ Γ) E xs (args ks κs a) → (L : Spelling 𝓤 H A (R .row κs)) → ((r : Res S κs) → Typed (R .row κs .mir) (L .spell r ∷ []) → T (takes E hs i (L .spell r)) × WT (L .spell r))
           → ((r : Res S κs) → Is (R .row κs) r (L .spell r ∷ []) → (ws : Lasts (ended n ks R) κs a) → Seq K W (Left ws (Locals E (setAt i (value (L .spell r)) hs) ∷ raw (Ensures g r ws) ∷ ‵ (R .row κs .own r (L .spell r ∷ [])) ∷ Γ)) (runs C Λ E rest q))
           → Seq K W (Brought (Locals E hs ∷ Γ)) (runs C Λ E (seq (call f xs (place i [])) rest) q)
       asked {E} {hs} {Γ} {i = i} fm met req os L fits k =
-          gathers W (tokens n κs qs) (parts (Ts ks κs) a (spelt ks κs a)) (Locals E hs ∷ Γ) (toks 𝓤 A n κs qs) (sem 𝓤 H A (owns (Ts ks κs) a (spelt ks κs a))) (of-tokens 𝓤 H A n κs qs) (of-parts 𝓤 H A (Ts ks κs) a (spelt ks κs a)) $
-          join t $ use0 W (raw (c κs a .requires g)) req $ move t (1 ∷ 0 ∷ []) $ join t $ use1 W (raw (Promise .pre (bound g))) (id⊢ 𝓤 _) $
-          calls t fm S (closing 𝓤 H A (ended n ks R) c) met (bound g) os L fits (λ r is. move t (2 ∷ []) $
-          use1 W (some (λ (ws : Lasts (ended n ks R) κs a). raw (Lasting ws) ⊛ raw (Ensures g r ws))) (id⊢ 𝓤 _) $ pick t (λ ws. split t $ move t (3 ∷ 0 ∷ 2 ∷ 1 ∷ []) $
-          spreads W (tokens n κs qs) (lasts κs ks a ws) (Locals E (setAt i (value (L .spell r)) hs) ∷ raw (Ensures g r ws) ∷ ‵ (R .row κs .own r (L .spell r ∷ [])) ∷ Γ) (toks 𝓤 A n κs qs) (Lasting ws) (tokens-of 𝓤 H A n κs qs) (lasts-of 𝓤 H A κs ks a ws) $ k r is ws))
+          gathers W (tokens n κs qs) (parts (Ts ks κs) a (spelt ks κs a)) (Locals E hs ∷ Γ) (toks 𝓤 A n κs qs) Owned (of-tokens 𝓤 H A n κs qs) (of-parts 𝓤 H A (Ts ks κs) a (spelt ks κs a)) $ asked-whole fm met req os L fits (λ r is ws.
+          spreads W (tokens n κs qs) (lasts κs ks a ws) (Locals E (setAt i (value (L .spell r)) hs) ∷ raw (Ensures g r ws) ∷ ‵ (R .row κs .own r (L .spell r ∷ [])) ∷ Γ) (toks 𝓤 A n κs qs) (Lasting ws) (tokens-of 𝓤 H A n κs qs) (lasts-of 𝓤 H A κs ks a ws) $ k r is ws)
+
+      answered-whole : (v : Val) (r : Res S κs) (ws : Lasts (ended n ks R) κs a) → Seq K W (raw (toks 𝓤 A n κs qs) ∷ raw (Lasting ws) ∷ ‵ (R .row κs .own r (v ∷ [])) ∷ raw (Ensures g r ws) ∷ []) (prop (Promise .post (bound g) v))
+      answered-whole v r ws =
+          suffices t (ex 𝓤 (λ (x : Res S κs). sep 𝓤 (Back 𝓤 H A S (bound g .0) v x) (ensured 𝓤 H A (ended n ks R) c κs a g x))) (W .laws .⇛-intro _) $ show t (λ (x : Res S κs). sep 𝓤 (Back 𝓤 H A S (bound g .0) v x) (ensured 𝓤 H A (ended n ks R) c κs a g x)) r $
+          move t (0 ∷ 2 ∷ []) $ join t $ frame t $ show t (λ (us : Lasts (ended n ks R) κs a). sep 𝓤 (Lasting us) (Ensures g r us)) ws $ frame t $ done t
 
       answered : (v : Val) (r : Res S κs) (ws : Lasts (ended n ks R) κs a) → ent 𝓤 (emp 𝓤) (Ensures g r ws) → Seq K W (Left ws (‵ (R .row κs .own r (v ∷ [])) ∷ [])) (prop (Promise .post (bound g) v))
       answered v r ws e =
           gathers W (tokens n κs qs) (lasts κs ks a ws) (‵ (R .row κs .own r (v ∷ [])) ∷ []) (toks 𝓤 A n κs qs) (Lasting ws) (of-tokens 𝓤 H A n κs qs) (of-lasts 𝓤 H A κs ks a ws) $
-          suffices t (ex 𝓤 (λ (x : Res S κs). sep 𝓤 (Back 𝓤 H A S (bound g .0) v x) (ensured 𝓤 H A (ended n ks R) c κs a g x))) (W .laws .⇛-intro _) $ show t (λ (x : Res S κs). sep 𝓤 (Back 𝓤 H A S (bound g .0) v x) (ensured 𝓤 H A (ended n ks R) c κs a g x)) r $
-          move t (0 ∷ 2 ∷ []) $ join t $ frame t $ show t (λ (us : Lasts (ended n ks R) κs a). sep 𝓤 (Lasting us) (Ensures g r us)) ws $ frame t $ by t e
+          use0 W (raw (Ensures g r ws)) e $ move t (1 ∷ 2 ∷ 3 ∷ 0 ∷ []) $ answered-whole v r ws
 
 -- ---- a function f whose calls mean γ
 module _ {M : Type 1} (𝓤 : URA M) (H : Heap 𝓤) (𝓜 : Model 𝓤 H) (𝓖 : GhostRules 𝓤 H) (𝓡 : Running 𝓤 H 𝓜) (γ : Routines) where
@@ -99,7 +114,7 @@ module _ {M : Type 1} (𝓤 : URA M) (H : Heap 𝓤) (𝓜 : Model 𝓤 H) (𝓖
   abbrev pub C : Calls 𝓤 H
   C = tables 𝓤 H 𝓜 𝓡 γ .C
 
-  abbrev Λ : Loops 𝓤 H
+  abbrev pub Λ : Loops 𝓤 H
   Λ = tables 𝓤 H 𝓜 𝓡 γ .Λ
 
   fm : FmC 𝓤 H (W .laws) C
@@ -107,7 +122,7 @@ module _ {M : Type 1} (𝓤 : URA M) (H : Heap 𝓤) (𝓜 : Model 𝓤 H) (𝓖
   fm = fmOf 𝓤 H (W .laws) (tablesOf 𝓤 H 𝓜 (tables 𝓤 H 𝓜 𝓡 γ))
 
   module _ (n : ℕ) (ks : List (Kind n)) (R : Slot n) (c : Clauses 𝓤 (ended n ks R)) where
-    abbrev promise : Contract 𝓤
+    abbrev pub promise : Contract 𝓤
     promise = Promise W n ks R c
 
     -- a call of the function that k means
@@ -118,19 +133,30 @@ module _ {M : Type 1} (𝓤 : URA M) (H : Heap 𝓤) (𝓜 : Model 𝓤 H) (𝓖
           → Seq K W (Brought W n ks R c κs qs a (Locals E hs ∷ Γ)) (runs C Λ E (seq (call k xs (place i [])) rest) q)
       asks = asked W n ks R c κs qs a t g fm (cited 𝓤 H promise 𝓜 𝓡 γ k r means met)
 
+      pub asks-whole : {E : Env 𝓤 H} {hs : List Held} {Γ : List (Item 𝓤)} {Λ : Loops 𝓤 H} {q : Post 𝓤 H} {rest : Body} {xs : List Operand} {i : ℕ} → ent 𝓤 (emp 𝓤) (c κs a .requires g)
+          → Opds K W (raw (promise .pre (bound W n ks R c κs qs a g)) ∷ Locals E hs ∷ Γ) E xs (args ks κs a) → (L : Spelling 𝓤 H (𝓖 .A) (R .row κs)) → ((x : Res (signed n ks R) κs) → Typed (R .row κs .mir) (L .spell x ∷ []) → T (takes E hs i (L .spell x)) × WT (L .spell x))
+          → ((x : Res (signed n ks R) κs) → Is (R .row κs) x (L .spell x ∷ []) → (ws : Lasts (ended n ks R) κs a)
+          → Seq K W (raw (toks 𝓤 (𝓖 .A) n κs qs) ∷ raw (Lasting W n ks R c κs qs a ws) ∷ Locals E (setAt i (value (L .spell x)) hs) ∷ raw (Ensures W n ks R c κs qs a g x ws) ∷ ‵ (R .row κs .own x (L .spell x ∷ [])) ∷ Γ) (runs C Λ E rest q))
+          → Seq K W (raw (toks 𝓤 (𝓖 .A) n κs qs) ∷ raw (Owned W n ks R c κs qs a) ∷ Locals E hs ∷ Γ) (runs C Λ E (seq (call k xs (place i [])) rest) q)
+      asks-whole = asked-whole W n ks R c κs qs a t g fm (cited 𝓤 H promise 𝓜 𝓡 γ k r means met)
+
+    pub answers-whole : (κs : Lfts n) (qs : Shares n) (a : Args (signed n ks R) κs) {K : Type 0} → K → (g : c κs a .ghost) (v : Val) (x : Res (signed n ks R) κs) (ws : Lasts (ended n ks R) κs a)
+        → Seq K W (raw (toks 𝓤 (𝓖 .A) n κs qs) ∷ raw (Lasting W n ks R c κs qs a ws) ∷ ‵ (R .row κs .own x (v ∷ [])) ∷ raw (Ensures W n ks R c κs qs a g x ws) ∷ []) (prop (promise .post (bound W n ks R c κs qs a g) v))
+    answers-whole κs qs a t g = answered-whole W n ks R c κs qs a t g
+
     pub answers : (κs : Lfts n) (qs : Shares n) (a : Args (signed n ks R) κs) {K : Type 0} → K → (g : c κs a .ghost) (v : Val) (x : Res (signed n ks R) κs) (ws : Lasts (ended n ks R) κs a) → ent 𝓤 (emp 𝓤) (Ensures W n ks R c κs qs a g x ws)
         → Seq K W (Left W n ks R c κs qs a ws (‵ (R .row κs .own x (v ∷ [])) ∷ [])) (prop (promise .post (bound W n ks R c κs qs a g) v))
     answers κs qs a t g = answered W n ks R c κs qs a t g
 
   module _ (f : Fn) (n : ℕ) (ks : List (Kind n)) (R : Slot n) (c : Clauses 𝓤 (ended n ks R)) where
-    abbrev env : Blocks (f .locals) → Env 𝓤 H
+    abbrev pub env : Blocks (f .locals) → Env 𝓤 H
     env bs = envOf (f .locals) bs
 
-    abbrev Fitting : Type 0
+    abbrev pub Fitting : Type 0
     Fitting = (κs : Lfts n) (a : Args (signed n ks R) κs) (bs : Blocks (f .locals)) → Typed (mirs (Ts ks κs)) (args ks κs a) → Arguments (env bs) (args ks κs a)
 
     -- what a walk of the body shows, from the whole of what it is given
-    abbrev Whole : (κs : Lfts n) → Shares n → (a : Args (signed n ks R) κs) → c κs a .ghost → (E : Env 𝓤 H) → List Held → Body → Type 1
+    abbrev pub Whole : (κs : Lfts n) → Shares n → (a : Args (signed n ks R) κs) → c κs a .ghost → (E : Env 𝓤 H) → List Held → Body → Type 1
     Whole κs qs a g E hs b = Sq W (Locals E hs ∷ raw (toks 𝓤 (𝓖 .A) n κs qs) ∷ raw (sem 𝓤 H (𝓖 .A) (owns (Ts ks κs) a (spelt ks κs a))) ∷ raw (c κs a .requires g) ∷ []) (runs C Λ E b (atRet E ((promise n ks R c) .post (bound W n ks R c κs qs a g))))
 
     -- or from its entries
@@ -153,10 +179,13 @@ module _ {M : Type 1} (𝓤 : URA M) (H : Heap 𝓤) (𝓜 : Model 𝓤 H) (𝓖
         (apply∗ 𝓤 P (Q (y .0 .4)))
 
     module _ (key : Name) (closed : Closed 𝓤 H C Λ key f) where
+      pub walks-whole : Fitting → ((κs : Lfts n) (qs : Shares n) (a : Args (signed n ks R) κs) (g : c κs a .ghost) → Are (Ts ks κs) (Ises (Ts ks κs)) a (spelt ks κs a) → (bs : Blocks (f .locals)) → Whole κs qs a g (env bs) (room ∷ values (args ks κs a)) (f .body)) → Triple 𝓤 (𝓡 .run (γ key)) (promise n ks R c)
+      walks-whole fits k = entered 𝓤 H (promise n ks R c) C Λ key f closed (walked fits k)
+
       pub walks : Fitting → ((κs : Lfts n) (qs : Shares n) (a : Args (signed n ks R) κs) (g : c κs a .ghost) → Are (Ts ks κs) (Ises (Ts ks κs)) a (spelt ks κs a) → (bs : Blocks (f .locals)) → Walk κs qs a g bs) → Triple 𝓤 (𝓡 .run (γ key)) (promise n ks R c)
-      walks fits k = entered 𝓤 H (promise n ks R c) C Λ key f closed (walked fits (λ κs qs a g are bs. move ! (1 ∷ 2 ∷ 0 ∷ []) $
+      walks fits k = walks-whole fits (λ κs qs a g are bs. move ! (1 ∷ 2 ∷ 0 ∷ []) $
           spreads W (tokens n κs qs) (parts (Ts ks κs) a (spelt ks κs a)) (Locals (env bs) (room ∷ values (args ks κs a)) ∷ raw (c κs a .requires g) ∷ []) (toks 𝓤 (𝓖 .A) n κs qs) (sem 𝓤 H (𝓖 .A) (owns (Ts ks κs) a (spelt ks κs a))) (tokens-of 𝓤 H (𝓖 .A) n κs qs) (parts-of 𝓤 H (𝓖 .A) (Ts ks κs) a (spelt ks κs a)) $
-          k κs qs a g are bs))
+          k κs qs a g are bs)
 
       module _ (k : Name) (r : Routine) (means : γ k ≡ r) (met : Triple 𝓤 (𝓡 .run r) (promise n ks R c)) (L : (κs : Lfts n) → Spelling 𝓤 H (𝓖 .A) (R .row κs)) where
         -- the call, once the arguments stand in locals
@@ -174,4 +203,4 @@ module _ {M : Type 1} (𝓤 : URA M) (H : Heap 𝓤) (𝓜 : Model 𝓤 H) (𝓖
             move ! (0 ∷ 2 ∷ []) $ join ! $ frame ! $ done !)
 
         pub hands-on : Fitting → ((κs : Lfts n) (qs : Shares n) (a : Args (signed n ks R) κs) (g : c κs a .ghost) (bs : Blocks (f .locals)) → Last κs qs a g (env bs) → Whole κs qs a g (env bs) (room ∷ values (args ks κs a)) (f .body)) → Triple 𝓤 (𝓡 .run (γ key)) (promise n ks R c)
-        hands-on fits b = entered 𝓤 H (promise n ks R c) C Λ key f closed (walked fits (λ κs qs a g are bs. b κs qs a g bs (last κs qs a g (env bs))))
+        hands-on fits b = walks-whole fits (λ κs qs a g are bs. b κs qs a g bs (last κs qs a g (env bs)))
