@@ -177,7 +177,7 @@ module _ {M : Type 1} (𝓤 : URA M) (H : Heap 𝓤) (𝓜 : Model 𝓤 H) (𝓖
 
         module _ (κs : Lfts n) (qs : Shares n) (a : Args (signed n own answer) κs) (g : c κs a .ghost) (E : Env 𝓤 H) where
           abbrev after : Val → SProp 𝓤
-          after = promise 𝓤 H 𝓜 𝓖 𝓡 γ n own answer c .post (bound G n own answer c κs qs a g)
+          after = promise 𝓤 H 𝓜 𝓖 𝓡 γ n own answer c .post (bound 𝓤 H 𝓜 𝓖 𝓡 γ n own answer c κs qs a g)
 
           abbrev code : Body → Goal 𝓤 H
           code b = runs calls (Λ 𝓤 H 𝓜 𝓖 𝓡 γ) E b (atRet E after)
@@ -186,7 +186,7 @@ module _ {M : Type 1} (𝓤 : URA M) (H : Heap 𝓤) (𝓜 : Model 𝓤 H) (𝓖
           Runs K hs Γ b = Seq K G (Locals E hs ∷ Γ) (code b)
 
           abbrev Begun : List (Item 𝓤)
-          Begun = raw (toks 𝓤 (𝓖 .A) n κs qs) ∷ raw (Owned G n own answer c κs qs a) ∷ []
+          Begun = raw (toks 𝓤 (𝓖 .A) n κs qs) ∷ raw (Owned 𝓤 H 𝓜 𝓖 𝓡 γ n own answer c κs qs a) ∷ []
 
           abbrev token : Item 𝓤
           token = ‵ (flft (lftAt n j ok κs) (shareAt n j ok qs))
@@ -232,7 +232,7 @@ module _ {M : Type 1} (𝓤 : URA M) (H : Heap 𝓤) (𝓜 : Model 𝓤 H) (𝓖
                 Left = ‵ (cells (mem R) (zs κs a (ν ∷ []) y ws) l 0) ∷ ‵ (other-lasts n j ok (ν ∷ []) κs nums elems post y pre a ws) ∷ raw (other-tokens 𝓤 (𝓖 .A) n j ok κs qs) ∷ raw (Saying κs a (ν ∷ []) y r ws) ∷ ‵ (row D′ .own r (spelt .spell r ∷ [])) ∷ kept
 
                 abbrev Written : List ℕ → List (Item 𝓤)
-                Written os = raw (toks 𝓤 (𝓖 .A) n κs qs) ∷ raw (Lasting G n own answer c κs qs a (us κs a (ν ∷ []) y ws os)) ∷ ‵ (row D′ .own r (spelt .spell r ∷ [])) ∷ raw (Ensures G n own answer c κs qs a g r (us κs a (ν ∷ []) y ws os)) ∷ []
+                Written os = raw (toks 𝓤 (𝓖 .A) n κs qs) ∷ raw (Lasting 𝓤 H 𝓜 𝓖 𝓡 γ n own answer c κs qs a (us κs a (ν ∷ []) y ws os)) ∷ ‵ (row D′ .own r (spelt .spell r ∷ [])) ∷ raw (Ensures 𝓤 H 𝓜 𝓖 𝓡 γ n own answer c κs qs a g r (us κs a (ν ∷ []) y ws os)) ∷ []
 
                 pub record Answered : Type 1 where
                   pub write : {K : Type 0} → K → {hs : List Held} {p u i : ℕ} {rest : Body} → valueAt E hs p ≡ some (sliceVal (l, 0) (length ys)) → valueAt E hs u ≡ some (sliceVal (x κs a .ptr) (m κs a)) → T (takes E hs i vunit)
@@ -246,16 +246,16 @@ module _ {M : Type 1} (𝓤 : URA M) (H : Heap 𝓤) (𝓜 : Model 𝓤 H) (𝓖
                           wrote t is-w met-w (zs κs a (ν ∷ []) y ws) l (x κs a) (room-less R fit (subst (λ (d : ℕ). d ≤ N .size) (sym all) (N .few (m κs a)))) (subst (λ (d : ℕ). N .each * d ≤ m κs a) (sym all) (N .wide (m κs a))) (e ∙ ap (λ (d : ℕ). some (sliceVal (l, 0) d)) (sym same)) e′ z (λ os h.
                           -- [the locals; the array's first places; the numbers' token; what is left in the numbers; the other last values; the other tokens; what is said; the answer; the other places]
                           move t (1 ∷ 8 ∷ 0 ∷ []) $ shuts t R s (N .size) (N .places (m κs a)) xs typ (zs κs a (ν ∷ []) y ws) same len in-E $ move t (1 ∷ 4 ∷ []) $ use2 G (raw (toks 𝓤 (𝓖 .A) n κs qs)) (token-in 𝓤 (𝓖 .A) n j ok κs qs) $
-                          move t (2 ∷ 3 ∷ []) $ use2 G (raw (Lasting G n own answer c κs qs a (us κs a (ν ∷ []) y ws os))) (last-in n j ok (ν ∷ []) κs nums elems post y 𝓤 H (𝓖 .A) pre a ws os) $
-                          move t (3 ∷ []) $ use1 G (raw (Ensures G n own answer c κs qs a g r (us κs a (ν ∷ []) y ws os))) (told κs a g (ν ∷ []) y r ws os (many len) h) $
+                          move t (2 ∷ 3 ∷ []) $ use2 G (raw (Lasting 𝓤 H 𝓜 𝓖 𝓡 γ n own answer c κs qs a (us κs a (ν ∷ []) y ws os))) (last-in n j ok (ν ∷ []) κs nums elems post y 𝓤 H (𝓖 .A) pre a ws os) $
+                          move t (3 ∷ []) $ use1 G (raw (Ensures 𝓤 H 𝓜 𝓖 𝓡 γ n own answer c κs qs a g r (us κs a (ν ∷ []) y ws os))) (told κs a g (ν ∷ []) y r ws os (many len) h) $
                           -- [what is said; what is left; the tokens; the locals; the answer]
                           move t (3 ∷ 2 ∷ 1 ∷ 4 ∷ 0 ∷ []) $ f os (answers-whole 𝓤 H 𝓜 𝓖 𝓡 γ n own answer c κs qs a t g (spelt .spell r) r (us κs a (ν ∷ []) y ws os)));
                     }
 
               pub record PlacesLent : Type 2 where
-                pub ask : {K : Type 0} → K → {hs : List Held} {os : List Operand} {i : ℕ} {rest : Body} → Opds K G (raw (promise 𝓤 H 𝓜 𝓖 𝓡 γ n its answer c′ .pre (bound G n its answer c′ ιs qs′ b (asked ιs b .0))) ∷ Locals E hs ∷ Lent) E os (args its ιs b)
+                pub ask : {K : Type 0} → K → {hs : List Held} {os : List Operand} {i : ℕ} {rest : Body} → Opds K G (raw (promise 𝓤 H 𝓜 𝓖 𝓡 γ n its answer c′ .pre (bound 𝓤 H 𝓜 𝓖 𝓡 γ n its answer c′ ιs qs′ b (asked ιs b .0))) ∷ Locals E hs ∷ Lent) E os (args its ιs b)
                     → ((r : row D′ .Denot) → Typed (row D′ .mir) (spelt .spell r ∷ []) → T (takes E hs i (spelt .spell r)) × WT (spelt .spell r)) → ((r : row D′ .Denot) (ws : After κs a (ν ∷ []) y) → Answered r ws → Runs K (setAt i (value (spelt .spell r)) hs) (Left r ws) rest)
-                    → Runs K hs (raw (toks 𝓤 (𝓖 .A) n ιs qs′) ∷ raw (Owned G n its answer c′ ιs qs′ b) ∷ Lent) (seq (call fc os (place i [])) rest)
+                    → Runs K hs (raw (toks 𝓤 (𝓖 .A) n ιs qs′) ∷ raw (Owned 𝓤 H 𝓜 𝓖 𝓡 γ n its answer c′ ιs qs′ b) ∷ Lent) (seq (call fc os (place i [])) rest)
 
               places-lent : Told → spotOf 𝓤 H E s .0 ≡ Arrays.arr R (N .size) → length xs ≡ N .size → Inside E s → PlacesLent
               places-lent told typ len in-E = record {
@@ -270,7 +270,7 @@ module _ {M : Type 1} (𝓤 : URA M) (H : Heap 𝓤) (𝓜 : Model 𝓤 H) (𝓖
               pub count : {K : Type 0} → K → {hs : List Held} {d i : ℕ} {rest : Body} → valueAt E hs d ≡ some (vint w64 (m κs a)) → ((k : ℕ) → T (takes E hs i (vint w64 k)))
                   → Step K G (Locals E (setAt i (value (vint w64 (length ys))) hs) ∷ Array-of ∷ Begun) (code rest) (Locals E hs ∷ Array-of ∷ Begun) (code (seq (call fp (copy (place d []) ∷ []) (place i [])) rest))
               pub lend : {K : Type 0} → K → (s : ℕ) {hs : List Held} {rest : Body} → spotOf 𝓤 H E s .0 ≡ Arrays.arr R (N .size) → valueAt E hs s ≡ some (list .spell xs)
-                  → ((ν : ℕ) (δ : GName) → PlacesLent s ν δ → Runs K (setAt s away hs) (raw (toks 𝓤 (𝓖 .A) n (ιs s ν δ) qs′) ∷ raw (Owned G n its answer c′ (ιs s ν δ) qs′ (b s ν δ)) ∷ Lent s ν δ) rest) → Runs K hs (Array-of ∷ Begun) rest
+                  → ((ν : ℕ) (δ : GName) → PlacesLent s ν δ → Runs K (setAt s away hs) (raw (toks 𝓤 (𝓖 .A) n (ιs s ν δ) qs′) ∷ raw (Owned 𝓤 H 𝓜 𝓖 𝓡 γ n its answer c′ (ιs s ν δ) qs′ (b s ν δ)) ∷ Lent s ν δ) rest) → Runs K hs (Array-of ∷ Begun) rest
 
             array-made : Told → m κs a < 2 ^ 64 → length xs ≡ N .size → ArrayMade
             array-made told small len = record {
@@ -279,7 +279,7 @@ module _ {M : Type 1} (𝓤 : URA M) (H : Heap 𝓤) (𝓜 : Model 𝓤 H) (𝓖
                   -- [the token; the slice; the lender's part; the other places; the locals; the tokens; the parameters]
                   move t (0 ∷ 5 ∷ []) $ use2 G (token ⊛ raw (toks 𝓤 (𝓖 .A) n (ιs s ν δ) qs′)) (token-replaced 𝓤 (𝓖 .A) (ν ∷ []) fullShare n j ok κs qs) $ split t $ move t (2 ∷ 6 ∷ []) $
                   rewrite t 0 (λ (ι : Lft). ‵ (MutSlice (named j) ι R .own (y s ν δ) (sliceVal (l s ν δ, 0) (length ys) ∷ []))) (sym (lft-with n j ok (ν ∷ []) κs)) refl $
-                  use2 G (slice ⊛ raw (Owned G n its answer c′ (ιs s ν δ) qs′ (b s ν δ))) (part-replaced n j ok (ν ∷ []) κs nums elems post (y s ν δ) 𝓤 H (𝓖 .A) apart′ pre apart a) $ split t $
+                  use2 G (slice ⊛ raw (Owned 𝓤 H 𝓜 𝓖 𝓡 γ n its answer c′ (ιs s ν δ) qs′ (b s ν δ))) (part-replaced n j ok (ν ∷ []) κs nums elems post (y s ν δ) 𝓤 H (𝓖 .A) apart′ pre apart a) $ split t $
                   -- [the numbers; the call's parameters; the numbers' token; the call's tokens; the lender's part; the other places; the locals]
                   move t (6 ∷ 3 ∷ 1 ∷ 4 ∷ 5 ∷ 2 ∷ []) $ f ν δ (places-lent s ν δ told typ len (value-inside E _ s e .0)));
             }
