@@ -192,9 +192,6 @@ module _ {s l₀ l : List ℕ} {p a : ℕ} (k : Converting s l₀ p a l) where
       pub convert-fits : p + u .len ≤ length s
       convert-fits = scalar-at s p u here read z .fits
 
-      pub convert-some : 1 ≤ u .len
-      convert-some = scalar-at s p u here read z .some
-
       -- what the scalar is shown as
       first-shown : (x : Scalar) → cond (within (to 0x5F 0x7E) (c .code)) (scalar (getD replacements (c .code - 0x5F) [])) c ≡ x
           → emit (emit (sink l a) (x .bytes)) (bytesOf (lineDrawn (textAt s (p + u .len)))) ≡ emit (sink l₀ 0) (bytesOf (lineDrawn (textAt s 0)))

@@ -189,9 +189,6 @@ module _ {w : Window} {s l₀ : List ℕ} {at₀ : ℕ} {t₀ : AttributeState} 
     marks-bad z = marks-done (none-at s p u here read z)
 
     module _ (z : u .len ≢ 0) where
-      pub marks-fits : p + u .len ≤ length s
-      marks-fits = scalar-at s p u here read z .fits
-
       pub marks-turn : (l₁ : List ℕ) (t₁ : Stepped) → Wrote l (t .at) (t .state) (scalarMarking w (u .code) (t .state)) l₁ (t₁ .at) (t₁ .state) → MarksOn w s l₀ at₀ t₀ (p + u .len) l₁ t₁
       unfolding writeMarks
       marks-turn l₁ t₁ h =

@@ -7,3 +7,5 @@ pub mod Statements
 pub mod Signatures
 pub mod Functions
 pub mod LocalArrays
+pub mod ReplacedParameter
+pub mod ElementsAsNumbers

@@ -2,10 +2,11 @@
 --     opens, shuts     the array goes out of the locals, as its first places and the others, and comes back
 --     lends, gets-back         its places are lent as a `&mut` slice for a lifetime of a call, and come back with what the call left there
 --     shares, shared-back      the same as a `&` slice, and come back as they were
---     lends-none       an array of no places is lent
+--     lends-none       an array of no places is lent.        room-less     fewer places have room
 -- Assumes `Given`.
 use mathlib.Core.Path.{_≡_, refl, sym, _∙_}
-use Prim.Native.Nat.{ℕ, zero}
+use Prim.Native.Nat.{ℕ, zero, _≤_}
+use native.Mathlib.Nat.{lt-of-le-of-lt, mul-le-mul-right}
 use native.Mathlib.Omega.{arith}
 use mathlib.Core.Option.{some as just}
 use mathlib.Core.List.{List, [], _∷_, _++_}
@@ -53,7 +54,7 @@ module _ (R : RattleType) where
   abbrev pub lent-shared : List (R .Denot) → ℕ → Lft → Fml
   lent-shared ys l κ = flent κ (arr-parts (part-of R) (length ys) .part fullShare ys l zero)
 
-  abbrev arr : ℕ → Ty
+  abbrev pub arr : ℕ → Ty
   arr n = tyArray (lone (R .mir)) n
 
   module _ {M : Type 1} (𝓤 : URA M) (H : Heap 𝓤) (A : Atoms 𝓤) (W : Given 𝓤 H A) (n : ℕ) where
@@ -108,6 +109,10 @@ module _ {M : Type 1} {𝓤 : URA M} {H : Heap 𝓤} {A : Atoms 𝓤} {K : Type 
 
     pub shared-back : {ν : ℕ} → Step K W (‵ (cells (mem R) ys l zero) ∷ Γ) G (‵ (flft (ν ∷ []) fullShare) ∷ ‵ (lent-shared R ys l (ν ∷ [])) ∷ Γ) G
     shared-back = step (λ s. lft-end t a $ lent-back t a $ fsplit t $ drop t $ use1 W (‵ (cells (mem R) ys l zero)) (whole-in 𝓤 H A W R ys l zero) $ s)
+
+-- fewer places have room
+pub room-less : (R : RattleType) {n k : ℕ} → Room R n → k ≤ n → Room R k
+room-less R r h = (lt-of-le-of-lt h (r .0), lt-of-le-of-lt (mul-le-mul-right (mem R .size) h) (r .1))
 
 -- a local array of no places, lent
 module _ {M : Type 1} {𝓤 : URA M} {H : Heap 𝓤} {A : Atoms 𝓤} {K : Type 0} {W : Given 𝓤 H A} {Γ : List (Item 𝓤)} {G : Goal 𝓤 H} (t : K) (R : RattleType) (a : Soaks G) (l : ℕ) (ℓ : Lifetime) where

@@ -92,7 +92,7 @@ takes [] hs i v = false
 takes (e ∷ E) hs zero v = free (first hs) && hasTy (e .0) v
 takes (e ∷ E) hs (suc i) v = takes E (rest hs) i v
 
-both : (a b : Bool) → T (a && b) → T a × T b
+pub both : (a b : Bool) → T (a && b) → T a × T b
 both true b z = (tt, z)
 both false b z = absurd z
 
@@ -105,7 +105,7 @@ value-held room e = let z : _≡_ {A = ℕ} 0 1 = cc in absurd (omega arith)
 value-held (value u) e = cc
 value-held away e = let z : _≡_ {A = ℕ} 0 1 = cc in absurd (omega arith)
 
-value-inside : (E : List (Ty × ℕ)) (hs : List Held) (i : ℕ) {v : Val} → valueAt E hs i ≡ some v → Inside E i × (held hs i ≡ value v)
+pub value-inside : (E : List (Ty × ℕ)) (hs : List Held) (i : ℕ) {v : Val} → valueAt E hs i ≡ some v → Inside E i × (held hs i ≡ value v)
 value-inside [] hs i e = let z : _≡_ {A = ℕ} 0 1 = cc in absurd (omega arith)
 value-inside (l ∷ E) hs zero e = (tt, value-held (first hs) e)
 value-inside (l ∷ E) hs (suc i) e = value-inside E (rest hs) i e

@@ -47,7 +47,7 @@ module _ {n : ℕ} where
   slots (k ∷ ks) = slot k ∷ slots ks
 
   module _ (κs : Lfts n) where
-    abbrev spelled : (k : Kind n) → slot k .row κs .Denot → List Val
+    abbrev pub spelled : (k : Kind n) → slot k .row κs .Denot → List Val
     spelled number x = vint w64 x ∷ []
     spelled (copied D L cs) x = LL.vals D L x
     spelled (shared j ok R) x = slice-vals x

@@ -20,9 +20,6 @@ use Rattle.rows_io.specs.declared.first_line.Part.{Part}
 pub digit-low : (b : ℕ) → digit b ≡ true → 0x30 ≤ b
 digit-low b e = leb→le _ _ (and-T (leb 0x30 b) (leb b 0x39) (true-T e) .0)
 
-pub digit-high : (b : ℕ) → digit b ≡ true → b ≤ 0x39
-digit-high b e = leb→le _ _ (and-T (leb 0x30 b) (leb b 0x39) (true-T e) .1)
-
 pub digit-in-width : (f : FirstLine) (b w : ℕ) → f .stage ≡ 0 → w ≡ more (f .width) b → _≡_ {A = FirstLine} (record { stage = 0; digits = true; width = w; mode = f .mode; ended = false }) (withDigit f b)
 unfolding withDigit
 digit-in-width f b w e k = rw (e, k)

@@ -12,4 +12,3 @@ pub mod SpanSteps
 pub mod Searching
 pub mod SegmentCursor
 pub mod ReadCall
-pub mod Listed

@@ -202,9 +202,6 @@ module _ (line matches : List ℕ) (c : Cursor) (z : AdvanceReady line matches c
       let f : c .matched .number + 1 ≤ c .index = rw e at (s .few) in
       record { small = s .small; last = s .last; from = s .from; order = rw e at (s .order); index = s .index; few = f }
 
-  pub going-room : c .matched .kind ≡ 2 → c .matched .number + 1 ≤ length matches
-  going-room k = let e = eq-eqb (c .matched .kind) 2 k in let f : c .matched .number + 1 ≤ c .index = rw e at (z .sound .few) in omega (arith, z .sound .index)
-
   pub going-on : (r : Cursor) → c .matched .kind ≡ 2 → OutsideBegun line matches (c .end) (c .matched .number + 1) c r → Advanced line matches c r
   unfolding behindSegment segmentsLeft
   going-on r k o =
@@ -299,9 +296,6 @@ module _ (line matches : List ℕ) (c d : Cursor) (z : NextRecordReady line matc
   span-ready h =
       let k : length (take end line) ≡ end = length-take-le end line end-fits in
       record { here = rw k h; small = rw k (omega (arith, end-fits, s .sound .small)); fresh = rw same-part (s .sound .fresh) }
-
-  pub count-room : d .count < 18446744073709551615
-  count-room = rw (s .count) (z .counts)
 
   module _ (P : Profile) where
     all-left : List Record → List Record

@@ -292,9 +292,6 @@ pub control-ready : (t : List ℕ) (c : Place) (a : ℕ) (x : Bool) → NextSpan
 control-ready t c a x z e f q = record { ready = z; control = rw e at (sym f ∙ q) }
 
 module _ (P : Profile) (t : List ℕ) (c : Place) (z : NextSpanReady t c) where
-  pub here-fits : c .at < 65536
-  here-fits = omega (arith, z .here, z .small)
-
   module _ (u : ℕ) (f : u ≡ packedAt P t (c .at)) where
     pub invalid-step : (m : Matched) (r : NextSpan) → u ≡ 0 → r ≡ invalidAt c → SpanStep P t m (c .at) r
     unfolding recordsFrom records recordOf kindOf matchOf

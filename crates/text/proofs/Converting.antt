@@ -259,9 +259,6 @@ rest-all : (t : List ℕ) (p : ℕ) → take (length t - p) (drop p t) ≡ drop 
 rest-all t p = take-all (length t - p) (drop p t) (rw (length-drop p t) (omega arith))
 
 module _ (line l : List ℕ) (d : Progress) (w : PieceReady line l d) where
-  pub piece-room : 8 * length (take (length line - d .read) (drop (d .read) line)) ≤ length (take (length l - d .written) (drop (d .written) l))
-  piece-room = rw (rest-all line (d .read), rest-all l (d .written), length-drop, length-drop) (omega (arith, w .room, w .here))
-
   -- no run there: a damaged byte copied
   pub piece-damaged : (v : code.Profile) (u : Sequence) → u ≡ firstSequence (decode (drop (d .read) line)) → u .len ≡ 0 → PieceDone (profileOf v) line l (set l (d .written) (getD line (d .read) 0)) d (record { read = d .read + 1; written = d .written + 1 })
   unfolding convertPieces runs

@@ -74,23 +74,6 @@ pub emit-end : (s : Sink) (xs : List ℕ) (j : ℕ) {e : Sink} → length xs ≤
 unfolding emit
 emit-end s xs j h p = rw (drop-of-length-le xs h) at p
 
--- ---- a machine that reads a list: what it writes of each, what it goes on with, and what it writes at the end
-
-module _ {A S : Type 0} (next : S → A → S) (gives : S → A → List ℕ) (ends : S → List ℕ) where
-  unfoldable pub run : S → List A → List ℕ
-  run s [] = ends s
-  run s (x ∷ xs) = gives s x ++ run (next s x) xs
-
-  -- a turn of a loop that runs it on what is left, and the end
-  pub run-turn : (z : A) (s s′ : S) (k k′ : Sink) (xs : List A) (j : ℕ) {e : Sink} → j < length xs → emit k (run s (drop j xs)) ≡ e → s′ ≡ next s (getD xs j z) → k′ ≡ emit k (gives s (getD xs j z)) → emit k′ (run s′ (drop (j + 1) xs)) ≡ e
-  unfolding run
-  run-turn z s s′ k k′ xs j h p q r =
-      rw (q, r, add-one) (sym (emit-append k (gives s (getD xs j z)) (run (next s (getD xs j z)) (drop (suc j) xs))) ∙ (rw (drop-cons xs j z h) at p))
-
-  pub run-end : (s : S) (k k′ : Sink) (xs : List A) (j : ℕ) {e : Sink} → length xs ≤ j → emit k (run s (drop j xs)) ≡ e → k′ ≡ emit k (ends s) → k′ ≡ e
-  unfolding run
-  run-end s k k′ xs j h p r = r ∙ (rw (drop-of-length-le xs h) at p)
-
 -- ---- writes that fit
 
 emit-sets : (xs l : List ℕ) (at : ℕ) → at + length xs ≤ length l → emit (sink l at) xs ≡ sink (sets l at xs) (at + length xs)

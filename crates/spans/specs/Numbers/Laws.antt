@@ -9,10 +9,10 @@ use lib.ListN.{length, take, drop, getD, replicate, drop-of-length-le}
 use lib.Seq.{drop-cons, take-append-seam}
 use lib.Dec.{leb}
 use borrow.Author.Tests.{le-leb}
-use borrow.Table.Elements.{length-take-le}
 use Rattle.buffer.specs.Numbers.Laws.{smaller-left, smaller-right}
 use Rattle.buffer.specs.Sink.{Sink, sink, put, emit, writtenOrZero, written}
 use Rattle.buffer.specs.Sink.Laws.{emit-none, emit-append, emit-room}
+use Rattle.lending.specs.ElementsAsNumbers.{Numbering}
 use Rattle.text.specs.declared.Answer.{Answer}
 use Rattle.spans.specs.Spans.{Record}
 use Rattle.spans.specs.Calls.{Read, noRecord}
@@ -64,18 +64,17 @@ numbers-end before pushed rs i n h k past p f =
 pub places-few : (m : ℕ) → placesIn m ≤ 2048
 places-few m = smaller-right (m / 4) 2048 (placesIn m) refl
 
-pub places-many : (m : ℕ) (rs : List Record) → length rs ≡ 2048 → length (take (placesIn m) rs) ≡ placesIn m
-places-many m rs len = length-take-le (placesIn m) rs (omega (arith, len, places-few m))
+pub places-wide : (m : ℕ) → 4 * placesIn m ≤ m
+places-wide m = omega (arith, smaller-left (m / 4) 2048 (placesIn m) refl)
 
-pub places-wide : (m : ℕ) (rs : List Record) → length rs ≡ 2048 → 4 * length (take (placesIn m) rs) ≤ m
-places-wide m rs len = omega (arith, places-many m rs len, smaller-left (m / 4) 2048 (placesIn m) refl)
+abbrev pub spansAsNumbers : Numbering Record
+spansAsNumbers = record { size = 2048; none = noRecord; places = placesIn; each = 4; numbers = λ n rs. writtenOrZero n (numbersOfAll rs); few = places-few; wide = places-wide }
 
 -- ---- a call that was lent those places
 
-pub read-told : (call : ℕ → Read) (m : ℕ) (rs : List Record) → length rs ≡ 2048 → {a : Answer} {conv numbers : List ℕ} {ys : List Record} → readAs a conv ys ≡ call (length (take (placesIn m) rs)) → numbers ≡ writtenOrZero m (numbersOfAll ys)
-    → ReadNumbers (call (placesIn m)) m a conv numbers
-read-told call m rs len e f =
-    let p = e ∙ ap call (places-many m rs len) in
+pub read-told : (call : ℕ → Read) {k m : ℕ} → k ≡ placesIn m → {a : Answer} {conv numbers : List ℕ} {ys : List Record} → readAs a conv ys ≡ call k → numbers ≡ writtenOrZero m (numbersOfAll ys) → ReadNumbers (call (placesIn m)) m a conv numbers
+read-told call {m = m} h e f =
+    let p = e ∙ ap call h in
     record {
       number = ap (λ (x : Read). x .number) p;
       count = ap (λ (x : Read). x .count) p;
