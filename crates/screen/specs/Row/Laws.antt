@@ -1,4 +1,4 @@
--- What code asks of a row: new cells leave its length, and a text that would have passed the last column is not forgotten.
+-- A cluster cut keeps its number of cells, and a text that would have passed the last column is not forgotten.
 use mathlib.Core.Path.{_≡_, refl, ap, _∙_}
 use Prim.Native.Nat.{ℕ, suc, _+_, _-_, _≤_}
 use native.Mathlib.Omega.{arith}
@@ -21,25 +21,6 @@ pub lostEnd-length : (cs : List Cell) → length (lostEnd cs) ≡ length cs
 unfolding lostEnd
 lostEnd-length [] = refl
 lostEnd-length (c ∷ cs) = ap suc (lostEnd-length cs)
-
-lostStart-length : (cs : List Cell) → length (lostStart cs) ≡ length cs
-unfolding lostStart
-lostStart-length [] = refl
-lostStart-length (c ∷ cs) = cases (isLater c) (λ e. rw e (ap suc (lostStart-length cs))) (λ e. rw e)
-
-pub put-length : (at : ℕ) (new cells : List Cell) → at + length new ≤ length cells → length (put at new cells) ≡ length cells
-unfolding put
-put-length at new cells h =
-    let before : length (cond (isLater (getD cells at (blank plain))) (lostEnd (take at cells)) (take at cells)) ≡ at = either (isLater (getD cells at (blank plain))) in
-    let behind : length (lostStart (drop (at + length new) cells)) ≡ length cells - (at + length new) = lostStart-length (drop (at + length new) cells) ∙ length-drop (at + length new) cells in
-    simp length-append (omega arith)
-  where
-    kept : length (take at cells) ≡ at
-    kept = length-take-le at cells (omega arith)
-
-    either : (b : Bool) → length (cond b (lostEnd (take at cells)) (take at cells)) ≡ at
-    either true = lostEnd-length (take at cells) ∙ kept
-    either false = kept
 
 -- ---- what is passed stays so
 

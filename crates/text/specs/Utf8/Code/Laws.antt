@@ -144,10 +144,6 @@ module _ (s : List ℕ) (p : ℕ) (u : Sequence) (here : p < length s) (read : u
   pub none-at : u .len ≡ 0 → runOf (decode (drop p s)) ≡ []
   none-at z = none-by (decode (drop p s)) refl z .0
 
-  pub none-code : u .len ≡ 0 → u .code ≡ 0
-  none-code z = none-by (decode (drop p s)) refl z .1
-
--- the end
 pub run-nil : runOf (decode []) ≡ []
 unfolding runOf decode decodeFrom
 run-nil = refl
