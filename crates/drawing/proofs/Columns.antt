@@ -106,7 +106,7 @@ module _ (f : code.Profile) where
       let z : offset - column ≡ suc (offset - (column + 1)) = omega arith in
       rw (t, le-ltb limit (column + 1) (omega arith), z) (clipStart-columns offset limit (column + 1) s g (omega arith) k)))
 
-  clip-printable : (offset width : ℕ) (s : List ℕ) → Printable s → clip P offset width (asciis s) ≡ some (asciis (take width (drop offset s)))
+  pub clip-printable : (offset width : ℕ) (s : List ℕ) → Printable s → clip P offset width (asciis s) ≡ some (asciis (take width (drop offset s)))
   unfolding clip
   clip-printable offset width s h =
       let z : offset + width - offset ≡ width = omega arith in

@@ -1,45 +1,46 @@
--- Marks and tabs as printable bytes.
-use mathlib.Core.Path.{_≡_, refl, sym, ap, _∙_}
+-- Marks byte by byte, and tabs.
+use mathlib.Core.Path.{_≡_, refl, sym, ap, ap₂, _∙_}
 use mathlib.Core.Logic.{_≢_}
 use Prim.Native.Nat.{ℕ, zero, suc, _+_, _-_, _*_, _/_, _%_, _≤_, _<_, _^_}
 use native.Mathlib.Omega.{arith}
-use mathlib.Core.Bool.{Bool, true, false, cond, _&&_, true≢false}
-use mathlib.Core.List.{List, [], _∷_, _++_}
-use lib.ListN.{length, take, drop, replicate, set, length-append}
-use lib.Seq.{take-append-seam, length-take-le}
-use lib.Dec.{eqb, ltb}
-use borrow.Author.Tests.{eq-eqb, ne-eqb, eqb-true, eqb-false, lt-ltb, le-ltb, ltb-true, le-leb}
+use mathlib.Core.Bool.{Bool, true, false, cond, _&&_}
+use mathlib.Core.List.{List, [], _∷_, _++_, append-assoc, append-nil}
+use lib.ListN.{length, take, drop, replicate, length-drop, length-replicate, drop-of-length-le}
+use lib.Seq.{length-take-le, take-nil, take-all}
+use lib.Dec.{eqb, leb, ltb}
+use borrow.Author.Tests.{eq-eqb, ne-eqb, ltb-true, le-leb, lt-leb, leb-true, leb-false}
 use Rattle.buffer.specs.Numbers as numbers
+use Rattle.buffer.specs.Numbers.{smallerOf, le2, le4}
 use Rattle.buffer.specs.Sink.{Sink, sink, put, emit}
-use Rattle.buffer.specs.Sink.Laws.{emit-none, then-emit, fitted, emit-put, then-put}
-use Rattle.text.specs.Tests.{cases}
-use Rattle.text.specs.Utf8.{ascii, asciis, decode, bytesOf}
-use Rattle.text.specs.Utf8.AsciiTexts.{asciis-append, asciis-bytes, asciis-cons, asciis-nil, asciis-replicate}
+use Rattle.buffer.specs.Sink.Laws.{emit-none, then-emit}
+use Rattle.text.specs.Tests.{cases, both}
+use Rattle.text.specs.Utf8.{ascii, asciis, decode}
+use Rattle.text.specs.Utf8.AsciiTexts.{asciis-bytes, asciis-cons, asciis-nil, asciis-replicate}
 use Rattle.text.specs.Cluster.Printable.{printable-width, run-printable}
 use Rattle.text.specs.Class.Profile01.{ascii-classes}
 use Rattle.text.specs.Width.{widthOf}
-use Rattle.text.specs.Utf8.Code.{runOf, firstSequence}
+use Rattle.text.specs.Utf8.Code.{firstSequence}
 use Rattle.text.specs.Class.Code.{profileOf, printable}
 use Rattle.text.specs.Utf8.Code.Laws.{scalar-at, none-at, none-past}
 use Rattle.text.specs.TextParts.{textAt}
 use Rattle.text.specs.declared.utf8.Sequence.{Sequence}
-use Rattle.text.specs.declared.class.Profile as profile
 use Rattle.drawing.specs.Clip.{spaces}
 use Rattle.drawing.specs.Marks.{hexDigit, byteMark, upperDigits, scalarMark}
-use Rattle.drawing.specs.Attributes.{control}
+use Rattle.drawing.specs.Attributes.{file, control}
+use Rattle.drawing.specs.Change as change
+use Rattle.drawing.specs.Change.{text, clipped, kindOf, body, encodeOne}
 use Rattle.drawing.specs.Draw.{writeMarks}
 use Rattle.drawing.specs.Clip.Contracts.{allPrintable}
 use Rattle.drawing.specs.Attributes.Code.{styleOf}
-use Rattle.drawing.specs.State.{stateOf, Wrote}
-use Rattle.drawing.specs.Write.{ColumnsReady, writingColumns, moved}
-use Rattle.drawing.specs.Marks.Contracts.{eightSpaces, composedText, composedStyle, composedColumns, Composed, ComposedWrote, scalarMarking, MarksWrote}
-use Rattle.drawing.specs.declared.attributes.Style as code
+use Rattle.drawing.specs.State.{stateOf, styling, Wrote}
+use Rattle.drawing.specs.Write.{ColumnsReady, windowedText, writingColumns, moved}
+use Rattle.drawing.specs.Marks.Contracts.{digitOf, markByte, markPart, markText, scalarLength, marking, scalarMarking, tabbing, ComposedWrote, MarksWrote}
 use Rattle.drawing.specs.declared.attributes.Style.the-variants.{File, Control}
 use Rattle.drawing.specs.declared.state.AttributeState.{AttributeState}
 use Rattle.drawing.specs.declared.state.Stepped.{Stepped}
 use Rattle.drawing.specs.declared.write.Window.{Window}
-use Rattle.drawing.proofs.Columns.{all-printable, columns-width}
-use Rattle.drawing.proofs.WindowTexts.{wrote-then, wrote-none, written-position, drawn-out}
+use Rattle.drawing.proofs.Columns.{all-printable, clip-printable}
+use Rattle.drawing.proofs.WindowTexts.{wrote-then, wrote-none, written-position, drawn-in, drawn-out}
 
 -- ---- digits
 
@@ -47,122 +48,159 @@ digit-is : (d : ℕ) → hexDigit d ≡ ascii (numbers.hexDigit d)
 unfolding hexDigit numbers.hexDigit
 digit-is d = cases (ltb d 10) (λ e. rw e refl) (λ e. rw e refl)
 
-digit-printable : (n : ℕ) → printable (numbers.hexDigit (n % 16)) ≡ true
+digit-printable : (n : ℕ) → n < 16 → printable (numbers.hexDigit n) ≡ true
 unfolding numbers.hexDigit
-digit-printable n =
-    cases (ltb (n % 16) 10)
-    (λ e. let l = ltb-true (n % 16) 10 e in rw (e, le-leb 0x20 (0x30 + n % 16) (omega arith), le-leb (0x30 + n % 16) 0x7E (omega arith)) refl)
-    (λ e. rw (e, le-leb 0x20 (0x37 + n % 16) (omega arith), le-leb (0x37 + n % 16) 0x7E (omega arith)) refl)
+digit-printable n h =
+    cases (ltb n 10)
+    (λ e. let l = ltb-true n 10 e in rw (e, le-leb 0x20 (0x30 + n) (omega arith), le-leb (0x30 + n) 0x7E (omega arith)) refl)
+    (λ e. rw (e, le-leb 0x20 (0x37 + n) (omega arith), le-leb (0x37 + n) 0x7E (omega arith)) refl)
 
-abbrev digit : ℕ → ℕ
-digit n = numbers.hexDigit (n % 16)
+small-digit : (v k : ℕ) → digitOf v k < 16
+small-digit v k = both (λ (n : ℕ). n < 16) (eqb k 0) (omega arith) (both (λ (n : ℕ). n < 16) (eqb k 1) (omega arith) (both (λ (n : ℕ). n < 16) (eqb k 2) (omega arith) (both (λ (n : ℕ). n < 16) (eqb k 3) (omega arith) (both (λ (n : ℕ). n < 16) (eqb k 4) (omega arith) (omega arith)))))
 
-pub digit-pushed : (s s′ : Sink) (b n : ℕ) → b ≡ numbers.hexDigit (n % 16) → s′ ≡ put s b → s′ ≡ emit s (numbers.hexDigit (n % 16) ∷ [])
-digit-pushed s s′ b n e p = rw (← e) (emit-put s s′ b p)
+pub digit-small : (v k d : ℕ) → d ≡ digitOf v k → d < 16
+digit-small v k d e = rw e (small-digit v k)
 
--- ---- the mark of a scalar
+-- ---- a mark's bytes
 
-unfoldable upperBytes : ℕ → List ℕ
-upperBytes v = cond (ltb v 0x10000) [] (cond (ltb v 0x100000) (digit (v / 0x10000) ∷ []) (digit (v / 0x100000) ∷ digit (v / 0x10000) ∷ []))
+pub mark-digit : (v n i d r : ℕ) → (i ≢ 0) → i + 1 < n → (ltb 4 n && eqb i 1) ≡ false → (ltb 4 n && eqb i 2) ≡ false → d ≡ digitOf v (n - i - 2) → r ≡ numbers.hexDigit d → r ≡ markByte v n i
+mark-digit v n i d r z h a b e f = rw (ne-eqb i 0 z, lt-leb n (i + 1) h, a, b) (f ∙ ap numbers.hexDigit e)
 
-unfoldable lowerBytes : ℕ → List ℕ
-lowerBytes v = digit (v / 0x1000) ∷ digit (v / 0x100) ∷ digit (v / 0x10) ∷ digit v ∷ []
+byte-printable : (v n i : ℕ) → printable (markByte v n i) ≡ true
+byte-printable v n i =
+    by (eqb i 0) 0x3C _ refl (by (leb n (i + 1)) 0x3E _ refl (by (ltb 4 n && eqb i 1) 0x55 _ refl (by (ltb 4 n && eqb i 2) 0x2B _ refl (digit-printable (digitOf v (n - i - 2)) (small-digit v (n - i - 2))))))
+  where
+    by : (b : Bool) (x y : ℕ) → printable x ≡ true → printable y ≡ true → printable (cond b x y) ≡ true
+    by true x y e f = e
+    by false x y e f = f
 
-unfoldable markBytes : ℕ → List ℕ
-markBytes v = 0x3C ∷ 0x55 ∷ 0x2B ∷ (upperBytes v ++ (lowerBytes v ++ 0x3E ∷ []))
+part-printable : (v n i k : ℕ) → allPrintable (markPart v n i k) ≡ true
+unfolding markPart allPrintable
+part-printable v n i zero = refl
+part-printable v n i (suc k) = rw (byte-printable v n i) (part-printable v n (suc i) k)
 
-upper-is : (v : ℕ) → upperDigits v ≡ asciis (upperBytes v)
-unfolding upperDigits upperBytes
-upper-is v =
-    cases (ltb v 0x10000) (λ e. rw e (sym asciis-nil))
+part-length : (v n i k : ℕ) → length (markPart v n i k) ≡ k
+unfolding markPart
+part-length v n i zero = refl
+part-length v n i (suc k) = ap suc (part-length v n (suc i) k)
+
+part-take : (v n i k m : ℕ) → m ≤ k → take m (markPart v n i k) ≡ markPart v n i m
+unfolding markPart
+part-take v n i k zero h = refl
+part-take v n i zero (suc m) h = absurd (omega arith)
+part-take v n i (suc k) (suc m) h = ap (λ (l : List ℕ). markByte v n i ∷ l) (part-take v n (suc i) k m (omega arith))
+
+part-drop : (v n i k m : ℕ) → m ≤ k → drop m (markPart v n i k) ≡ markPart v n (i + m) (k - m)
+unfolding markPart
+part-drop v n i k zero h = let a : i ≡ i + 0 = omega arith in let b : k ≡ k - 0 = omega arith in ap₂ (markPart v n) a b
+part-drop v n i zero (suc m) h = absurd (omega arith)
+part-drop v n i (suc k) (suc m) h = let a : suc i + m ≡ i + suc m = omega arith in let b : k - m ≡ suc k - suc m = omega arith in part-drop v n (suc i) k m (omega arith) ∙ ap₂ (markPart v n) a b
+
+-- those between two columns
+part-of : (v n from to : ℕ) → from ≤ to → to ≤ n → take (to - from) (drop from (markPart v n 0 n)) ≡ markPart v n from (to - from)
+part-of v n from to h g = let a : 0 + from ≡ from = omega arith in rw (part-drop v n 0 n from (omega arith), a) (part-take v n from (n - from) (to - from) (omega arith))
+
+-- ---- the loop
+
+pub record MarkBytes (v n from to : ℕ) (l₀ : List ℕ) (start : ℕ) (l : List ℕ) (at i : ℕ) : Type 0 where
+  pub long : length l ≡ length l₀
+  pub work : emit (sink l at) (markPart v n i (to - i)) ≡ emit (sink l₀ start) (markPart v n from (to - from))
+
+pub bytes-begin : (v n from to : ℕ) (l : List ℕ) (at : ℕ) → MarkBytes v n from to l at l at from
+bytes-begin v n from to l at = record { long = refl; work = refl }
+
+module _ (v n from to : ℕ) (l₀ : List ℕ) (start : ℕ) (l : List ℕ) (at i : ℕ) (b : MarkBytes v n from to l₀ start l at i) where
+  pub bytes-turn : (l′ : List ℕ) (at′ x : ℕ) → i < to → x ≡ markByte v n i → sink l′ at′ ≡ put (sink l at) x → length l′ ≡ length l → MarkBytes v n from to l₀ start l′ at′ (i + 1)
+  unfolding markPart emit
+  bytes-turn l′ at′ x h e p q =
+      let k : to - i ≡ suc (to - (i + 1)) = omega arith in
+      let m : suc i ≡ i + 1 = omega arith in
+      record {
+        long = q ∙ b .long;
+        work = rw (p, e) (ap (λ (j : ℕ). emit (put (sink l at) (markByte v n i)) (markPart v n j (to - (i + 1)))) (sym m) ∙ ap (λ (j : ℕ). emit (sink l at) (markPart v n i j)) (sym k) ∙ b .work);
+      }
+
+  pub bytes-end : to ≤ i → sink l at ≡ emit (sink l₀ start) (markPart v n from (to - from))
+  unfolding markPart
+  bytes-end h = let k : to - i ≡ 0 = omega arith in sym (ap (λ (j : ℕ). emit (sink l at) (markPart v n i j)) k ∙ emit-none (sink l at)) ∙ b .work
+
+pub smaller-right : (l n to : ℕ) → to ≡ smallerOf l n → to ≤ n
+smaller-right l n to d = cases (leb l n) (λ f. omega (arith, rw f at d, leb-true l n f)) (λ f. omega (arith, rw f at d))
+
+-- ---- clipped to the window
+
+module _ (w : Window) (p v n : ℕ) where
+  abbrev offset : ℕ
+  offset = w .start .0 - p
+
+  abbrev last : ℕ
+  last = w .end .0 - p
+
+  windowed : windowedText w p (markText v n) ≡ text (asciis (take (last - offset) (drop offset (markPart v n 0 n))))
+  unfolding clipped
+  windowed = ap clipped (clip-printable (w .profile) offset (last - offset) (markPart v n 0 n) (all-printable (markPart v n 0 n) (part-printable v n 0 n)))
+
+  module _ (o l from to : ℕ) (a : o ≡ offset) (b : l ≡ last) (c : from ≡ smallerOf o n) (d : to ≡ smallerOf l n) where
+    sent-bytes : (s : List ℕ) → take (last - offset) (drop offset (markPart v n 0 n)) ≡ s → (x : ℕ) → x ≡ length s → encodeOne (windowedText w p (markText v n)) ≡ (le4 x ++ le2 1) ++ s
+    unfolding encodeOne body kindOf
+    sent-bytes s e x f = ap encodeOne (windowed ∙ ap (λ (m : List ℕ). text (asciis m)) e) ∙ rw (asciis-bytes s, f) (sym (append-assoc (le4 (length s)) (le2 1) s))
+
+    pub mark-empty : (k k′ : Sink) → to < from → k′ ≡ emit k (le4 0 ++ le2 1) → k′ ≡ emit k (encodeOne (windowedText w p (markText v n)))
+    mark-empty k k′ h e = e ∙ ap (emit k) (sym (sent-bytes [] nothing 0 refl ∙ append-nil (le4 0 ++ le2 1)))
+      where
+        z : last - offset ≡ 0
+        z = cases (leb o n)
+            (λ e. cases (leb l n) (λ f. omega (arith, a, b, rw e at c, rw f at d, h)) (λ f. omega (arith, rw e at c, rw f at d, leb-true o n e, h)))
+            (λ e. cases (leb l n) (λ f. omega (arith, a, b, rw e at c, rw f at d, leb-false o n e, h)) (λ f. omega (arith, rw e at c, rw f at d, h)))
+
+        nothing : take (last - offset) (drop offset (markPart v n 0 n)) ≡ []
+        nothing = ap (λ (m : ℕ). take m (drop offset (markPart v n 0 n))) z
+
+    pub mark-part : (k k₁ k₂ : Sink) → from ≤ to → k₁ ≡ emit k (le4 (to - from) ++ le2 1) → k₂ ≡ emit k₁ (markPart v n from (to - from)) → k₂ ≡ emit k (encodeOne (windowedText w p (markText v n)))
+    mark-part k k₁ k₂ h e f = then-emit k k₁ k₂ (le4 (to - from) ++ le2 1) (markPart v n from (to - from)) e f ∙ ap (emit k) (sym (sent-bytes (markPart v n from (to - from)) (between ∙ part-of v n from to h upto) (to - from) (sym (part-length v n from (to - from)))))
+      where
+        upto : to ≤ n
+        upto = smaller-right l n to d
+
+        -- more than there are is all that there are
+        beyond-end : (m : ℕ) (s : List ℕ) → length s ≤ m → take m s ≡ take (length s) s
+        beyond-end m s g = take-all m s g ∙ sym (take-all (length s) s (omega arith))
+
+        between : take (last - offset) (drop offset (markPart v n 0 n)) ≡ take (to - from) (drop from (markPart v n 0 n))
+        between = cases (leb o n)
+            (λ e. cases (leb l n)
+            (λ f. rw (rw e at c, rw f at d, a, b) refl)
+            (λ f.
+            let x : from ≡ offset = rw e at c ∙ a in
+            let y : to ≡ n = rw f at d in
+            let s : length (drop offset (markPart v n 0 n)) ≡ to - from = length-drop offset (markPart v n 0 n) ∙ omega (arith, part-length v n 0 n, x, y) in
+            beyond-end (last - offset) (drop offset (markPart v n 0 n)) (omega (arith, s, x, y, b, leb-false l n f)) ∙ ap (λ (m : ℕ). take m (drop offset (markPart v n 0 n))) s ∙ ap (λ (m : ℕ). take (to - from) (drop m (markPart v n 0 n))) (sym x)))
+            (λ e.
+            let x : from ≡ n = rw e at c in
+            let g : drop offset (markPart v n 0 n) ≡ [] = drop-of-length-le (markPart v n 0 n) (let r : length (markPart v n 0 n) ≤ offset = omega (arith, part-length v n 0 n, a, leb-false o n e) in r) in
+            let j : drop from (markPart v n 0 n) ≡ [] = drop-of-length-le (markPart v n 0 n) (let r : length (markPart v n 0 n) ≤ from = omega (arith, part-length v n 0 n, x) in r) in
+            rw (g, j, take-nil {A = ℕ} (last - offset), take-nil {A = ℕ} (to - from)) refl)
+
+-- ---- the marks of the definitions
+
+pub scalar-is : (v : ℕ) → scalarMark v ≡ markText v (scalarLength v)
+unfolding scalarMark upperDigits markPart
+scalar-is v =
+    cases (ltb v 0x10000) (λ e. rw e (simp (digit-is, asciis-cons, asciis-nil)))
     (λ e. cases (ltb v 0x100000) (λ f. rw (e, f) (simp (digit-is, asciis-cons, asciis-nil))) (λ f. rw (e, f) (simp (digit-is, asciis-cons, asciis-nil))))
 
-mark-is : (v : ℕ) → scalarMark v ≡ asciis (markBytes v)
-unfolding scalarMark markBytes lowerBytes
-mark-is v = rw (upper-is v) (simp (digit-is, asciis-cons, asciis-append, asciis-nil))
+pub byte-is : (b : ℕ) → b < 256 → byteMark b ≡ markText b 4
+unfolding byteMark markPart
+byte-is b h = let e : b / 16 % 16 ≡ b / 16 = omega arith in rw e (simp (digit-is, asciis-cons, asciis-nil) refl)
 
-mark-bytes : (v : ℕ) → bytesOf (scalarMark v) ≡ markBytes v
-mark-bytes v = ap bytesOf (mark-is v) ∙ asciis-bytes (markBytes v)
+length-small : (v : ℕ) → scalarLength v ≤ 10
+length-small v = cases (ltb v 0x10000) (λ e. rw e (omega arith)) (λ e. cases (ltb v 0x100000) (λ f. rw (e, f) (omega arith)) (λ f. rw (e, f) (omega arith)))
 
-upper-bytes : (v : ℕ) → bytesOf (upperDigits v) ≡ upperBytes v
-upper-bytes v = ap bytesOf (upper-is v) ∙ asciis-bytes (upperBytes v)
-
-pub upper-none : (s : Sink) (v : ℕ) → v < 0x10000 → s ≡ emit s (bytesOf (upperDigits v))
-unfolding upperBytes
-upper-none s v h = rw (upper-bytes v, lt-ltb v 0x10000 h) (sym (emit-none s))
-
-pub upper-one : (s s′ : Sink) (v : ℕ) → 0x10000 ≤ v → v < 0x100000 → s′ ≡ emit s (digit (v / 0x10000) ∷ []) → s′ ≡ emit s (bytesOf (upperDigits v))
-unfolding upperBytes
-upper-one s s′ v h k p = rw (upper-bytes v, le-ltb v 0x10000 h, lt-ltb v 0x100000 k) p
-
-pub upper-two : (s s₁ s₂ : Sink) (v : ℕ) → 0x10000 ≤ v → 0x100000 ≤ v → s₁ ≡ emit s (digit (v / 0x100000) ∷ []) → s₂ ≡ emit s₁ (digit (v / 0x10000) ∷ []) → s₂ ≡ emit s (bytesOf (upperDigits v))
-unfolding upperBytes
-upper-two s s₁ s₂ v h k p q = rw (upper-bytes v, le-ltb v 0x10000 h, le-ltb v 0x100000 k) (then-emit s s₁ s₂ (digit (v / 0x100000) ∷ []) (digit (v / 0x10000) ∷ []) p q)
-
-pub lower-pushed : (s s₁ s₂ s₃ s₄ : Sink) (v : ℕ) → s₁ ≡ emit s (digit (v / 0x1000) ∷ []) → s₂ ≡ emit s₁ (digit (v / 0x100) ∷ []) → s₃ ≡ emit s₂ (digit (v / 0x10) ∷ []) → s₄ ≡ emit s₃ (digit v ∷ [])
-    → s₄ ≡ emit s (digit (v / 0x1000) ∷ digit (v / 0x100) ∷ digit (v / 0x10) ∷ digit v ∷ [])
-lower-pushed s s₁ s₂ s₃ s₄ v p q r t = then-emit s s₁ s₄ _ _ p (then-emit s₁ s₂ s₄ _ _ q (then-emit s₂ s₃ s₄ _ _ r t))
-
-pub mark-pushed : (s s₁ s₂ s₃ s₄ : Sink) (v : ℕ) → s₁ ≡ emit s (0x3C ∷ 0x55 ∷ 0x2B ∷ []) → s₂ ≡ emit s₁ (bytesOf (upperDigits v))
-    → s₃ ≡ emit s₂ (digit (v / 0x1000) ∷ digit (v / 0x100) ∷ digit (v / 0x10) ∷ digit v ∷ []) → s₄ ≡ put s₃ 0x3E → s₄ ≡ emit s (bytesOf (scalarMark v))
-unfolding markBytes lowerBytes
-mark-pushed s s₁ s₂ s₃ s₄ v p q r t =
-    let u : s₂ ≡ emit s₁ (upperBytes v) = q ∙ ap (emit s₁) (upper-bytes v) in
-    let w : s₄ ≡ emit s₂ (lowerBytes v ++ 0x3E ∷ []) = then-put s₂ s₃ s₄ (lowerBytes v) 0x3E r t in
-    rw (mark-bytes v) (then-emit s s₁ s₄ (0x3C ∷ 0x55 ∷ 0x2B ∷ []) (upperBytes v ++ (lowerBytes v ++ 0x3E ∷ [])) p (then-emit s₁ s₂ s₄ (upperBytes v) (lowerBytes v ++ 0x3E ∷ []) u w))
-
--- ---- its bytes are printable, and at most ten
-
-append-printable : (a b : List ℕ) → allPrintable a ≡ true → allPrintable b ≡ true → allPrintable (a ++ b) ≡ true
-unfolding allPrintable
-append-printable [] b e f = f
-append-printable (x ∷ a) b e f = cases (printable x) (λ t. rw t (append-printable a b (rw t at e) f)) (λ t. absurd (true≢false (sym (rw t at e))))
-
-upper-printable : (v : ℕ) → (allPrintable (upperBytes v) ≡ true) × (length (upperBytes v) ≤ 2)
-unfolding upperBytes allPrintable
-upper-printable v =
-    cases (ltb v 0x10000) (λ e. rw e (refl, omega arith))
-    (λ e. cases (ltb v 0x100000) (λ f. rw (e, f, digit-printable (v / 0x10000)) (refl, omega arith)) (λ f. rw (e, f, digit-printable (v / 0x100000), digit-printable (v / 0x10000)) (refl, omega arith)))
-
-lower-printable : (v : ℕ) → allPrintable (lowerBytes v ++ 0x3E ∷ []) ≡ true
-unfolding lowerBytes allPrintable
-lower-printable v = rw (digit-printable (v / 0x1000), digit-printable (v / 0x100), digit-printable (v / 0x10), digit-printable v) refl
-
-mark-printable : (v : ℕ) → allPrintable (markBytes v) ≡ true
-unfolding markBytes allPrintable
-mark-printable v = append-printable (upperBytes v) (lowerBytes v ++ 0x3E ∷ []) (upper-printable v .0) (lower-printable v)
-
-mark-length : (v : ℕ) → length (markBytes v) ≤ 10
-unfolding markBytes lowerBytes
-mark-length v = rw (length-append (upperBytes v) (lowerBytes v ++ 0x3E ∷ [])) (omega (arith, upper-printable v .1))
-
--- ---- a mark that was composed in ten zeros
-
-module _ (mark : List ℕ) (n v : ℕ) (e : sink mark n ≡ emit (sink (replicate 10 0) 0) (bytesOf (scalarMark v))) where
-  mark-fitted : (n ≡ length (markBytes v)) × (mark ≡ markBytes v ++ drop (length (markBytes v)) (replicate 10 0))
-  mark-fitted = fitted (replicate 10 0) (markBytes v) mark n (e ∙ ap (emit (sink (replicate 10 0) 0)) (mark-bytes v)) (mark-length v)
-
-  mark-front : take n mark ≡ markBytes v
-  mark-front = rw (mark-fitted .0, mark-fitted .1) (take-append-seam (markBytes v) (drop (length (markBytes v)) (replicate 10 0)))
-
-  pub mark-inside : n ≤ length mark
-  mark-inside = rw (mark-fitted .1, length-append (markBytes v) (drop (length (markBytes v)) (replicate 10 0))) (omega (arith, mark-fitted .0))
-
-  pub mark-slice : n ≡ length (take n mark)
-  mark-slice = sym (length-take-le n mark mark-inside)
-
-  mark-text : textAt (take n mark) 0 ≡ scalarMark v
-  mark-text = ap (λ (l : List ℕ). runOf (decode l)) mark-front ∙ run-printable (all-printable (markBytes v) (mark-printable v)) ∙ sym (mark-is v)
-
-  pub mark-ready : (t : AttributeState) → t .position .0 + 20 < 2 ^ 64 → ColumnsReady (take n mark) t
-  mark-ready t h = record { printable = rw mark-front (mark-printable v); room = rw mark-front (omega (arith, mark-length v)) }
-
-  pub mark-wrote : (w : Window) (l l′ : List ℕ) (at r : ℕ) (t t′ : AttributeState) → Wrote l at t (writingColumns w (take n mark) t Control) l′ r t′ → Wrote l at t (scalarMarking w v t) l′ r t′
-  unfolding styleOf
-  mark-wrote w l l′ at r t t′ h = rw mark-text at h
+mark-columns : (w : Window) (v n : ℕ) → n ≡ widthOf (profileOf (w .profile)) (markText v n)
+mark-columns w v n = sym (printable-width (profileOf (w .profile)) (ascii-classes (w .profile)) (all-printable (markPart v n 0 n) (part-printable v n 0 n)) ∙ part-length v n 0 n)
 
 mark-width : (w : Window) (v : ℕ) → widthOf (profileOf (w .profile)) (scalarMark v) ≤ 10
-mark-width w v = rw (mark-is v, printable-width _ (ascii-classes (w .profile)) (all-printable (markBytes v) (mark-printable v))) (mark-length v)
+mark-width w v = rw (scalar-is v, ← mark-columns w v (scalarLength v)) (length-small v)
 
 -- ---- a mark for each scalar
 
@@ -200,7 +238,25 @@ module _ {w : Window} {s l₀ : List ℕ} {at₀ : ℕ} {t₀ : AttributeState} 
             work = λ l′ r t′ m. k .work l′ r t′ (rw (a .run) (rw (c .state) at (wrote-then l l₁ l′ (t .at) (t₁ .at) r (t .state) (t₁ .state) t′ _ _ c m)));
           }
 
--- ---- the mark of a byte, and a tab's spaces
+-- ---- a mark in a window
+
+module _ (l : List ℕ) (at : ℕ) (w : Window) (t : AttributeState) (v n : ℕ) (b : Bool) (e : b ≡ (ltb (w .start .0) (t .position .0 + n) && ltb (t .position .0) (w .end .0))) where
+  pub mark-in : (l₁ l₂ : List ℕ) (a r : ℕ) (t₁ u : AttributeState) → b ≡ true → Wrote l at t (styling t Control) l₁ a t₁ → sink l₂ r ≡ emit (sink l₁ a) (encodeOne (windowedText w (t .position .0) (markText v n))) → u ≡ moved t₁ n false → Wrote l at t (marking w v n t) l₂ r u
+  unfolding styleOf change.whole
+  mark-in l₁ l₂ a r t₁ u h p q m = drawn-in l at w t Control (markText v n) n b (mark-columns w v n) e l₁ l₂ a t₁ u (record { at = r; torn = false }) h p (record { bytes = q; torn = rw (windowed w (t .position .0) v n) refl }) m
+
+  pub mark-out : (u : AttributeState) → b ≡ false → u ≡ moved t n false → Wrote l at t (marking w v n t) l at u
+  unfolding styleOf
+  mark-out u h m = drawn-out l at w t Control (markText v n) n b (mark-columns w v n) e u h m
+
+module _ (w : Window) (l : List ℕ) (at : ℕ) (t : AttributeState) (v n : ℕ) (l′ : List ℕ) (r : Stepped) where
+  pub scalar-wrote : n ≡ scalarLength v → Wrote l at t (marking w v n t) l′ (r .at) (r .state) → Wrote l at t (scalarMarking w v t) l′ (r .at) (r .state)
+  scalar-wrote e h = rw (scalar-is v, ← e) h
+
+pub scalar-room : (v n p : ℕ) → n ≡ scalarLength v → p + 20 < 2 ^ 64 → p + n < 2 ^ 64
+scalar-room v n p e h = omega (arith, length-small v)
+
+-- ---- tabs, and the mark of a byte
 
 take-spaces : (n m : ℕ) → n ≤ m → take n (replicate m 0x20) ≡ replicate {A = ℕ} n 0x20
 take-spaces zero m h = refl
@@ -212,73 +268,31 @@ unfolding allPrintable
 spaces-printable zero = refl
 spaces-printable (suc n) = spaces-printable n
 
-spaces-take : (n : ℕ) → n ≤ 8 → (allPrintable (take n eightSpaces) ≡ true) × (textAt (take n eightSpaces) 0 ≡ spaces n)
-spaces-take n h = rw (take-spaces n 8 h) (spaces-printable n, run-printable (all-printable (replicate n 0x20) (spaces-printable n)) ∙ asciis-replicate n 0x20)
+pub tab-slice : (p : ℕ) → 8 - p % 8 ≡ length (take (8 - p % 8) (replicate {A = ℕ} 8 0x20))
+tab-slice p = sym (length-take-le (8 - p % 8) (replicate {A = ℕ} 8 0x20) (omega arith))
 
-pub composed-tab : (out : List ℕ) (kind byte p : ℕ) → out ≡ eightSpaces → kind ≡ 10 → Composed out kind byte p (8 - p % 8)
-composed-tab out kind byte p e k =
-    let w = spaces-take (8 - p % 8) (omega arith) in
-    rw e record { fits = omega arith; small = omega arith; printable = w .0; same = rw (eq-eqb kind 10 k) (w .1) }
+pub tab-ready : (t : AttributeState) → t .position .0 + 16 < 2 ^ 64 → ColumnsReady (take (8 - t .position .0 % 8) (replicate {A = ℕ} 8 0x20)) t
+tab-ready t h = let n : ℕ = 8 - t .position .0 % 8 in record { printable = rw (take-spaces n 8 (omega arith)) (spaces-printable n); room = rw (← tab-slice (t .position .0)) (omega arith) }
 
-pub composed-mark : (out : List ℕ) (kind byte p h l : ℕ) → out ≡ eightSpaces → (kind ≢ 10) → byte < 256 → h ≡ numbers.hexDigit (byte / 16) → l ≡ numbers.hexDigit (byte % 16)
-    → Composed (set (set (set (set out 0 0x3C) 1 h) 2 l) 3 0x3E) kind byte p 4
-unfolding byteMark allPrintable
-composed-mark out kind byte p h l e k b f g =
-    let hi : printable h ≡ true = rw f (let m : byte / 16 % 16 ≡ byte / 16 = omega arith in rw m at (digit-printable (byte / 16))) in
-    let lo : printable l ≡ true = rw g (digit-printable byte) in
-    let all : allPrintable (0x3C ∷ h ∷ l ∷ 0x3E ∷ []) ≡ true = rw (hi, lo) refl in
-    rw e record {
-      fits = omega arith;
-      small = omega arith;
-      printable = all;
-      same = rw (ne-eqb kind 10 k) (run-printable (all-printable (0x3C ∷ h ∷ l ∷ 0x3E ∷ []) all) ∙ rw (f, g) (simp (digit-is, asciis-cons, asciis-nil)));
-    }
+pub tab-wrote : (w : Window) (l : List ℕ) (at : ℕ) (t : AttributeState) (l′ : List ℕ) (r : Stepped) → Wrote l at t (writingColumns w (take (8 - t .position .0 % 8) (replicate {A = ℕ} 8 0x20)) t File) l′ (r .at) (r .state) → Wrote l at t (tabbing w t) l′ (r .at) (r .state)
+unfolding styleOf
+tab-wrote w l at t l′ r h =
+    let n : ℕ = 8 - t .position .0 % 8 in
+    let e : textAt (take n (replicate {A = ℕ} 8 0x20)) 0 ≡ spaces n = rw (take-spaces n 8 (omega arith)) (run-printable (all-printable (replicate n 0x20) (spaces-printable n)) ∙ asciis-replicate n 0x20) in
+    rw e at h
 
-pub composed-style : (kind : ℕ) → kind ≡ 10 → File ≡ composedStyle kind
-composed-style kind k = rw (eq-eqb kind 10 k) refl
+module _ (w : Window) (kind byte : ℕ) (l : List ℕ) (at : ℕ) (t : AttributeState) (l′ : List ℕ) (r : Stepped) where
+  pub composed-tab : kind ≡ 10 → Wrote l at t (tabbing w t) l′ (r .at) (r .state) → ComposedWrote w kind byte l at t l′ r
+  unfolding styleOf
+  composed-tab k h =
+      let n : ℕ = 8 - t .position .0 % 8 in
+      let m : widthOf (profileOf (w .profile)) (spaces n) ≡ n = rw (← asciis-replicate n 0x20) (printable-width (profileOf (w .profile)) (ascii-classes (w .profile)) (all-printable (replicate n 0x20) (spaces-printable n)) ∙ length-replicate n 0x20) in
+      record { wrote = rw (eq-eqb kind 10 k) h; near = omega (arith, written-position w l l′ at (r .at) t (r .state) file (spaces n) h, m) }
 
-pub mark-style : (kind : ℕ) → (kind ≢ 10) → Control ≡ composedStyle kind
-mark-style kind k = rw (ne-eqb kind 10 k) refl
-
-module _ (out : List ℕ) (kind byte : ℕ) (t : AttributeState) (n : ℕ) (c : Composed out kind byte (t .position .0) n) where
-  pub composed-slice : n ≡ length (take n out)
-  composed-slice = sym (length-take-le n out (c .fits))
-
-  pub composed-ready : t .position .0 + 16 < 2 ^ 64 → ColumnsReady (take n out) t
-  composed-ready r = record { printable = c .printable; room = rw (length-take-le n out (c .fits)) (omega (arith, c .small)) }
-
-  pub composed-wrote : (w : Window) (l l′ : List ℕ) (at : ℕ) (r : Stepped) (k : code.Style) → k ≡ composedStyle kind → Wrote l at t (writingColumns w (take n out) t k) l′ (r .at) (r .state) → ComposedWrote w kind byte l at t l′ r
-  composed-wrote w l l′ at r k e h =
+  pub composed-mark : (kind ≢ 10) → byte < 256 → Wrote l at t (marking w byte 4 t) l′ (r .at) (r .state) → ComposedWrote w kind byte l at t l′ r
+  unfolding styleOf
+  composed-mark k b h =
       record {
-        wrote = rw (c .same, e) at h;
-        near = omega (arith, written-position w l l′ at (r .at) t (r .state) (styleOf k) (textAt (take n out) 0) h, columns-width (w .profile) (take n out) (c .printable), length-take-le n out (c .fits), c .small);
+        wrote = rw (ne-eqb kind 10 k, byte-is byte b) h;
+        near = omega (arith, written-position w l l′ at (r .at) t (r .state) control (markText byte 4) h, mark-columns w byte 4);
       }
-
--- ---- beside the window
-
-pub columns-tab : (kind p : ℕ) → kind ≡ 10 → 8 - p % 8 ≡ composedColumns kind p
-columns-tab kind p k = rw (eq-eqb kind 10 k) refl
-
-pub columns-mark : (kind p : ℕ) → (kind ≢ 10) → 4 ≡ composedColumns kind p
-columns-mark kind p k = rw (ne-eqb kind 10 k) refl
-
-composed-width : (f : profile.Profile) (kind byte p : ℕ) → byte < 256 → composedColumns kind p ≡ widthOf (profileOf f) (composedText kind byte p)
-composed-width f kind byte p b =
-    cases (eqb kind 10)
-    (λ e. by (composed-tab eightSpaces kind byte p refl (eqb-true kind 10 e)) (rw e refl))
-    (λ e. by (composed-mark eightSpaces kind byte p (numbers.hexDigit (byte / 16)) (numbers.hexDigit (byte % 16)) refl (eqb-false kind 10 e) b refl refl) (rw e refl))
-  where
-    by : {out : List ℕ} {n : ℕ} → Composed out kind byte p n → composedColumns kind p ≡ n → composedColumns kind p ≡ widthOf (profileOf f) (composedText kind byte p)
-    by {out} {n} c q = q ∙ sym (length-take-le n out (c .fits)) ∙ columns-width f (take n out) (c .printable) ∙ ap (widthOf (profileOf f)) (c .same)
-
-columns-small : (kind p : ℕ) → composedColumns kind p ≤ 8
-columns-small kind p = cases (eqb kind 10) (λ e. rw e (omega arith)) (λ e. rw e (omega arith))
-
-pub columns-room : (kind p n : ℕ) → n ≡ composedColumns kind p → p + 16 < 2 ^ 64 → p + n < 2 ^ 64
-columns-room kind p n e h = omega (arith, columns-small kind p)
-
-pub composed-out : (w : Window) (kind byte : ℕ) (l : List ℕ) (at : ℕ) (t u : AttributeState) (n : ℕ) (b : Bool) → byte < 256 → n ≡ composedColumns kind (t .position .0)
-    → b ≡ (ltb (w .start .0) (t .position .0 + n) && ltb (t .position .0) (w .end .0)) → b ≡ false → u ≡ moved t n false → ComposedWrote w kind byte l at t l (record { state = u; at = at })
-composed-out w kind byte l at t u n b k e m f q =
-    let wide : n ≡ widthOf (profileOf (w .profile)) (composedText kind byte (t .position .0)) = e ∙ composed-width (w .profile) kind byte (t .position .0) k in
-    record { wrote = drawn-out l at w t (composedStyle kind) (composedText kind byte (t .position .0)) n b wide m u f q; near = rw q (omega (arith, columns-small kind (t .position .0))) }

@@ -1,37 +1,33 @@
-use Rattle.drawing.proofs.Marks.{columns-room, composed-out}
+use Rattle.drawing.proofs.Marks.{composed-tab, composed-mark}
 use borrow.Author.Needs.{needs}
 use Rattle.drawing.proofs.mark.write_composed.Statement.{statement}
 use Rattle.drawing.proofs.mark.write_composed.Tie as tie
 
-composed-columns-requires : tie.Need-composed-columns-requires
-composed-columns-requires c κs = search needs
+-- src/mark.rt:224:9
+write-tab-requires : tie.Need-write-tab-requires
+write-tab-requires c κs = search needs
 
-meets-requires : tie.Need-meets-requires
-meets-requires c κs = search columns-room
-
-draw-composed-requires : tie.Need-draw-composed-requires
-draw-composed-requires c κs = search needs
-
+-- src/mark.rt:224:9
 same-length : tie.Need-same-length
 same-length c = search needs
 
+-- src/mark.rt:224:9
 returns : tie.Need-returns
-returns c = search needs
+returns c = search composed-tab
 
-advance-requires : tie.Need-advance-requires
-advance-requires c κs = search columns-room
+-- src/mark.rt:226:5
+write-mark-requires : tie.Need-write-mark-requires
+write-mark-requires c κs = search needs
 
+-- src/mark.rt:212:1
+same-length-2 : tie.Need-same-length-2
+same-length-2 c = search needs
+
+-- src/mark.rt:212:1
 returns-2 : tie.Need-returns-2
-returns-2 c = search composed-out
+returns-2 c = search composed-mark
 
 pub write-composed-spec : {M : Type 1} → statement M
 write-composed-spec =
     tie.close
-    (tie.spec
-    composed-columns-requires
-    meets-requires
-    draw-composed-requires
-    same-length
-    returns
-    advance-requires
-    returns-2)
+    (tie.spec write-tab-requires same-length returns write-mark-requires same-length-2 returns-2)
