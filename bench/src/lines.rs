@@ -115,5 +115,8 @@ pub static KINDS: [Kind; 28] = [
     hostile("tabs", &[b"\t"]),
 ];
 
+/// For screen rows.
+pub static WIDE: Kind = hostile("wide characters", &["漢".as_bytes()]);
+
 /// For rows at width 0.
 pub static HYPHENS: Kind = hostile("hyphens", &[b"-"]);

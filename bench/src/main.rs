@@ -3,6 +3,7 @@
 mod calls;
 mod lines;
 mod memory;
+mod screen;
 mod table;
 mod times;
 mod timing;
@@ -55,7 +56,7 @@ impl Options {
                 _ => return None,
             }
         }
-        let known = |call: &String| Call::NAMES.contains(&call.as_str());
+        let known = |call: &String| Call::NAMES.contains(&call.as_str()) || call == screen::NAME;
         options.calls.iter().all(known).then_some(options)
     }
 
@@ -70,10 +71,15 @@ fn once(arguments: &[String]) -> Option<()> {
     let [_, option, name, call, line, bytes] = arguments else {
         return None;
     };
+    let [call, line, bytes] = [call, line, bytes].map(|number| number.parse::<usize>().ok());
+    let (call, line, bytes) = (call?, line?, bytes?);
+    if option == "--once" && name == screen::NAME {
+        return screen::once(call, line, bytes);
+    }
     let calls = calls::growing(Call::NAMES.into_iter().find(|known| known == name)?);
-    let call = calls.get(call.parse::<usize>().ok()?)?;
-    let kind = KINDS.get(line.parse::<usize>().ok()?)?;
-    let line = kind.line(bytes.parse().ok()?);
+    let call = calls.get(call)?;
+    let kind = KINDS.get(line)?;
+    let line = kind.line(bytes);
     if option == "--once" {
         times::once(call, &line);
         println!("{name} {}\t{}", calls::label(call), kind.name);
@@ -98,6 +104,9 @@ fn main() -> ExitCode {
         } else {
             println!("\n{name}: not in the library");
         }
+    }
+    if options.wants(screen::NAME) && exported.contains(&screen::NAME) {
+        screen::print_times(options.effort);
     }
     ExitCode::SUCCESS
 }

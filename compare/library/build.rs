@@ -5,13 +5,14 @@ use std::path::{Path, PathBuf};
 use std::process::Command;
 use std::{env, fs};
 
-const CALLS: [&str; 6] = [
+const CALLS: [&str; 7] = [
     "convert",
     "read",
     "rows",
     "height",
     "draw_window",
     "draw_row",
+    "screen_row",
 ];
 
 fn main() {

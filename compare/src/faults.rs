@@ -1,5 +1,6 @@
 //! Faults planted in what the library left, to see that the comparison finds them.
 
+use crate::comparison::Comparison;
 use crate::lent::Place;
 use crate::library::{Buffer, Library};
 use crate::sets::sample;

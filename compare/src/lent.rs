@@ -113,12 +113,21 @@ impl<T: Copy + PartialEq + Default> Lent<T> {
             Place::First => GUARD,
             Place::Last => GUARD + self.len - 1,
         };
+        self.alter(index);
+        true
+    }
+
+    /// Changes one of the items that were lent.
+    pub fn damage_item(&mut self, number: usize) {
+        self.alter(GUARD + number);
+    }
+
+    fn alter(&mut self, index: usize) {
         let item = &mut self.memory[index];
         *item = if *item == self.pattern {
             T::default()
         } else {
             self.pattern
         };
-        true
     }
 }

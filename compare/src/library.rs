@@ -1,5 +1,6 @@
 //! Makes a call of the library and compares what it leaves with the oracle's answer.
 
+use crate::comparison::Comparison;
 use crate::faults::Fault;
 use crate::lent::Lent;
 use console_lines::Span;
@@ -7,7 +8,8 @@ use oracle::format::answer_text;
 use oracle::{Answer, Case, Record};
 use std::fmt;
 
-const BYTE: u8 = 0xA7;
+/// What lent bytes hold before a call.
+pub const BYTE: u8 = 0xA7;
 const NUMBER: usize = usize::from_ne_bytes([BYTE; 8]);
 const SPAN: Span = Span {
     kind: NUMBER,
@@ -17,7 +19,7 @@ const SPAN: Span = Span {
 };
 
 /// After so many calls all of the memory is looked at, not the guard zones only.
-const CALLS_BETWEEN_WHOLE_CHECKS: usize = 1_024;
+pub const CALLS_BETWEEN_WHOLE_CHECKS: usize = 1_024;
 
 /// The memory that a call is handed.
 #[derive(Clone, Copy)]
@@ -64,8 +66,10 @@ pub struct Library {
     calls: usize,
 }
 
-impl Library {
-    pub fn new() -> Library {
+impl Comparison for Library {
+    type Case = Case;
+
+    fn new() -> Library {
         Library {
             line: Lent::new(BYTE),
             matches: Lent::new(NUMBER),
@@ -77,12 +81,14 @@ impl Library {
         }
     }
 
-    /// Makes a call, and compares what it returns and leaves.
-    pub fn compare(&mut self, case: &Case, expected: &Answer) -> Option<String> {
+    fn compare(&mut self, case: &Case) -> (usize, Option<String>) {
+        let expected = case.answer();
         let answer = self.call(case);
-        self.difference(case, expected, answer)
+        (expected.number, self.difference(case, &expected, answer))
     }
+}
 
+impl Library {
     /// The difference, as text, between what the last call returned and left and
     /// what is expected. All memory is taken back.
     pub fn difference(

@@ -12,14 +12,19 @@ pub struct Lines {
 
 /// Every line of up to `longest` symbols, shorter ones first.
 pub fn short(alphabet: Alphabet, longest: u32) -> Lines {
-    let symbols = alphabet.len();
-    let count = (0..=longest).map(|len| symbols.pow(len)).sum();
+    let symbols = alphabet.iter().map(|symbol| symbol.to_vec());
+    short_of(symbols.collect(), longest)
+}
+
+/// The same over symbols that are made.
+pub fn short_of(symbols: Vec<Vec<u8>>, longest: u32) -> Lines {
+    let count = (0..=longest).map(|len| symbols.len().pow(len)).sum();
     let line = move |mut number: usize| {
         let mut line = Vec::new();
         while number > 0 {
             number -= 1;
-            line.extend(alphabet[number % symbols]);
-            number /= symbols;
+            line.extend(&symbols[number % symbols.len()]);
+            number /= symbols.len();
         }
         line
     };

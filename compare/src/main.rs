@@ -2,6 +2,7 @@
 
 mod alphabets;
 mod calls;
+mod comparison;
 mod demand3;
 mod faults;
 mod lending;
@@ -10,14 +11,15 @@ mod library;
 mod lines;
 mod options;
 mod orders;
+mod screen;
 mod sets;
 mod tally;
 mod threads;
 
+use comparison::{compare_sets, Set};
 use library::Library;
 use options::Options;
-use oracle::{Call, Case};
-use sets::Set;
+use oracle::Case;
 use std::process::ExitCode;
 use std::time::Instant;
 use tally::{grouped, Tally};
@@ -31,12 +33,15 @@ fn main() -> ExitCode {
         }
     };
     let exported = console_lines::exported();
-    let wanted = Call::NAMES.iter().filter(|name| options.wants(name));
+    let wanted = options::names().filter(|name| options.wants(name));
     let (there, missing): (Vec<&str>, Vec<&str>) = wanted.partition(|name| exported.contains(name));
     if !missing.is_empty() {
         println!("not in the library: {}", missing.join(", "));
     }
-    let good = if options.faults {
+    let good = if options.sample {
+        screen::print_sample();
+        true
+    } else if options.faults {
         plant_faults(&there, &options)
     } else if options.demand3 {
         demand3::run(&options)
@@ -53,9 +58,10 @@ fn main() -> ExitCode {
 /// Plants faults behind the calls and, where none is singled out, in demand 3; whether
 /// all are found.
 fn plant_faults(calls: &[&'static str], options: &Options) -> bool {
-    let missed = calls
-        .iter()
-        .filter(|call| !faults::try_faults(call, options.seed));
+    let missed = calls.iter().filter(|&&call| match call {
+        screen::NAME => !screen::try_faults(),
+        _ => !faults::try_faults(call, options.seed),
+    });
     let mut good = missed.count() == 0 && !calls.is_empty();
     if options.is_whole() {
         good &= demand3::try_faults(options.seed);
@@ -92,49 +98,22 @@ fn is_equal(total: &Tally) -> bool {
 }
 
 fn compare_call(call: &'static str, options: &Options) -> Tally {
+    if call == screen::NAME {
+        let sets = match &options.cases {
+            Some(cases) => vec![Set::of("given cases", cases.screen_rows.clone())],
+            None => screen::sets(options.seed),
+        };
+        return compare_sets::<screen::Receiver>(call, &sets, options);
+    }
     let sets = match &options.cases {
-        Some(cases) => vec![given(call, cases)],
+        Some(cases) => vec![given(call, &cases.calls)],
         None => sets::sets(call, options.seed),
     };
-    let mut whole = Tally::default();
-    for set in &sets {
-        let start = Instant::now();
-        let tally = compare_set(set, options);
-        let seconds = start.elapsed().as_secs_f64();
-        println!("{call}, {}: {tally}, {seconds:.1} s", set.name);
-        tally.differences.print();
-        whole.add(tally);
-    }
-    println!("{call}: {whole}; {}", whole.numbers());
-    whole
+    compare_sets::<Library>(call, &sets, options)
 }
 
 /// The cases of a call among those given in a file.
-fn given(call: &str, cases: &[Case]) -> Set {
+fn given(call: &str, cases: &[Case]) -> Set<Case> {
     let cases = cases.iter().filter(|case| case.call.name() == call);
     Set::of("given cases", cases.cloned().collect())
-}
-
-/// Compares a set, its cases dealt out to the jobs.
-fn compare_set(set: &Set, options: &Options) -> Tally {
-    let mut whole = Tally::default();
-    for tally in threads::each_job(options.jobs, |job| compare_part(set, options, job)) {
-        whole.add(tally);
-    }
-    whole
-}
-
-fn compare_part(set: &Set, options: &Options, job: usize) -> Tally {
-    let mut library = Library::new();
-    let mut tally = Tally::default();
-    let step = options.step(set.count);
-    for number in (job * step..set.count).step_by(options.jobs * step) {
-        let case = (set.case)(number);
-        if options.trace {
-            eprintln!("{case}");
-        }
-        let expected = case.answer();
-        tally.count(expected.number, library.compare(&case, &expected));
-    }
-    tally
 }

@@ -1,12 +1,15 @@
 //! The program's options.
 
+use crate::screen;
 use oracle::{Call, Case};
 use std::fs;
+use std::str::FromStr;
 
 pub const USAGE: &str = "usage: compare [--call NAME]... [--quick] [--jobs N] [--seed N] [--trace]
        compare --demand3 [--quick] [--jobs N] [--seed N]
        compare --cases FILE [--trace]
-       compare --faults [--call NAME]...";
+       compare --faults [--call NAME]...
+       compare --sample";
 
 /// A quick run takes one case of so many.
 const QUICK_STEP: usize = 41;
@@ -24,8 +27,21 @@ pub struct Options {
     pub faults: bool,
     /// Runs demand 3 alone.
     pub demand3: bool,
+    /// Prints the recorded sample of screen_row.
+    pub sample: bool,
     /// Cases to compare in place of the sets.
-    pub cases: Option<Vec<Case>>,
+    pub cases: Option<Cases>,
+}
+
+pub struct Cases {
+    /// Of the six calls of document 01.
+    pub calls: Vec<Case>,
+    pub screen_rows: Vec<screen::Case>,
+}
+
+/// The names of the calls that are compared.
+pub fn names() -> impl Iterator<Item = &'static str> {
+    Call::NAMES.into_iter().chain([screen::NAME])
 }
 
 impl Options {
@@ -38,6 +54,7 @@ impl Options {
             trace: false,
             faults: false,
             demand3: false,
+            sample: false,
             cases: None,
         };
         while let Some(argument) = arguments.next() {
@@ -50,6 +67,7 @@ impl Options {
                 "--trace" => options.trace = true,
                 "--faults" => options.faults = true,
                 "--demand3" => options.demand3 = true,
+                "--sample" => options.sample = true,
                 "--cases" => options.cases = Some(cases(&value()?)?),
                 _ => return Err(format!("no option {argument}")),
             }
@@ -77,14 +95,11 @@ impl Options {
 }
 
 fn call(name: String) -> Result<String, String> {
-    if Call::NAMES.contains(&name.as_str()) {
-        Ok(name)
-    } else {
-        Err(format!(
-            "no call {name}; there are {}",
-            Call::NAMES.join(", ")
-        ))
+    if names().any(|known| known == name) {
+        return Ok(name);
     }
+    let names: Vec<&str> = names().collect();
+    Err(format!("no call {name}; there are {}", names.join(", ")))
 }
 
 fn number(text: &str) -> Result<u64, String> {
@@ -92,9 +107,18 @@ fn number(text: &str) -> Result<u64, String> {
 }
 
 /// Lines of the oracle's text format, with or without answers.
-fn cases(file: &str) -> Result<Vec<Case>, String> {
+fn cases(file: &str) -> Result<Cases, String> {
     let text = fs::read_to_string(file).map_err(|e| format!("{file}: {e}"))?;
     let lines = text.lines().filter(|line| !line.starts_with(['#', ' ']));
     let questions = lines.map(|line| line.split(" = ").next().unwrap_or(line));
-    questions.map(str::parse).collect()
+    let (screen_rows, calls): (Vec<&str>, Vec<&str>) =
+        questions.partition(|question| question.starts_with(screen::NAME));
+    Ok(Cases {
+        calls: parsed(&calls)?,
+        screen_rows: parsed(&screen_rows)?,
+    })
+}
+
+fn parsed<C: FromStr<Err = String>>(questions: &[&str]) -> Result<Vec<C>, String> {
+    questions.iter().map(|question| question.parse()).collect()
 }

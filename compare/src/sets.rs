@@ -2,6 +2,7 @@
 
 use crate::alphabets::{self, Alphabet, ATTRIBUTES, DRAWN as SPANS, SEARCHED, SHIFTED};
 use crate::calls::{self, MODES, WIDTHS};
+use crate::comparison::Set;
 use crate::lending;
 use crate::lines::{self, few, line_drawn, scalars, sequences, short, Context, Lines};
 use crate::orders::orders;
@@ -10,23 +11,6 @@ use oracle::{sample, Call, Case, Sizes};
 
 /// Makes a call for a line.
 type AnyCall = fn(&mut Random, &[u8]) -> Call;
-
-/// Cases that are made from their numbers.
-pub struct Set {
-    pub name: &'static str,
-    pub count: usize,
-    pub case: Box<dyn Fn(usize) -> Case + Sync>,
-}
-
-impl Set {
-    pub fn of(name: &'static str, cases: Vec<Case>) -> Set {
-        Set {
-            name,
-            count: cases.len(),
-            case: Box::new(move |number| cases[number].clone()),
-        }
-    }
-}
 
 /// The calls of one name in the oracle's sample, with the sizes that are lent there.
 pub fn sample(call: &str, seed: u64) -> Vec<Case> {
@@ -39,7 +23,7 @@ pub fn sample(call: &str, seed: u64) -> Vec<Case> {
 const RANDOM: usize = 2_000_000;
 
 /// The sets for a call, the oracle's sample first.
-pub fn sets(call: &'static str, seed: u64) -> Vec<Set> {
+pub fn sets(call: &'static str, seed: u64) -> Vec<Set<Case>> {
     let maker = Maker { call, seed };
     let mut sets = vec![
         Set::of("the oracle's sample", sample(call, seed)),
@@ -101,7 +85,7 @@ impl Maker {
         name: &'static str,
         count: usize,
         make: impl Fn(&mut Random, usize) -> (Vec<u8>, Call) + Sync + 'static,
-    ) -> Set {
+    ) -> Set<Case> {
         let case = move |number| {
             let mut random = Random::of_case(self.seed, number);
             let (line, call) = make(&mut random, number);
@@ -112,7 +96,7 @@ impl Maker {
     }
 
     /// A call on every line.
-    fn every(self, name: &'static str, lines: Lines, call: AnyCall) -> Set {
+    fn every(self, name: &'static str, lines: Lines, call: AnyCall) -> Set<Case> {
         self.set(name, lines.count, move |random, number| {
             let line = (lines.line)(number);
             let call = call(random, &line);
@@ -121,7 +105,7 @@ impl Maker {
     }
 
     /// Each of the calls on every line.
-    fn each(self, name: &'static str, lines: Lines, calls: Vec<Call>) -> Set {
+    fn each(self, name: &'static str, lines: Lines, calls: Vec<Call>) -> Set<Case> {
         self.set(name, lines.count * calls.len(), move |_, number| {
             let (line, call) = (number / calls.len(), number % calls.len());
             ((lines.line)(line), calls[call].clone())
@@ -129,7 +113,12 @@ impl Maker {
     }
 
     /// A few calls on every line, each with each of the sizes lent.
-    fn lent(self, name: &'static str, lines: Lines, sizes: fn(&Call, &[u8]) -> Vec<Sizes>) -> Set {
+    fn lent(
+        self,
+        name: &'static str,
+        lines: Lines,
+        sizes: fn(&Call, &[u8]) -> Vec<Sizes>,
+    ) -> Set<Case> {
         let mut cases = Vec::new();
         for line in (0..lines.count).map(lines.line) {
             for call in calls::few(self.call) {
@@ -140,7 +129,7 @@ impl Maker {
         Set::of(name, cases)
     }
 
-    fn random_lines(self, name: &'static str, alphabet: Alphabet, call: AnyCall) -> Set {
+    fn random_lines(self, name: &'static str, alphabet: Alphabet, call: AnyCall) -> Set<Case> {
         self.set(name, RANDOM, move |random, number| {
             let line = lines::random(random, alphabet, number);
             let call = call(random, &line);
@@ -148,7 +137,7 @@ impl Maker {
         })
     }
 
-    fn convert(self) -> Vec<Set> {
+    fn convert(self) -> Vec<Set<Case>> {
         use alphabets::{CLASSES, STRUCK as CLUSTERS, STRUCK_BYTES};
         let call = |_: &mut Random, _: &[u8]| Call::Convert;
         vec![
@@ -160,7 +149,7 @@ impl Maker {
         ]
     }
 
-    fn read(self) -> Vec<Set> {
+    fn read(self) -> Vec<Set<Case>> {
         use alphabets::{CLASSES, LEFT_OUT, LINKS, PARAMETERS, TELLING_BYTES};
         let plain = |_: &mut Random, _: &[u8]| calls::reading(Vec::new());
         let matched =
@@ -187,7 +176,7 @@ impl Maker {
     }
 
     /// Rows and height.
-    fn wrapped(self) -> Vec<Set> {
+    fn wrapped(self) -> Vec<Set<Case>> {
         use alphabets::{WIDTHS_OF_SPANS, WORDS};
         let any = match self.call {
             "rows" => calls::any_rows,
@@ -205,7 +194,7 @@ impl Maker {
         ]
     }
 
-    fn draw_window(self) -> Vec<Set> {
+    fn draw_window(self) -> Vec<Set<Case>> {
         let each = calls::each_window(26);
         let mut sets = vec![
             self.each("short lines, each window", short(SPANS, 3), each.clone()),
@@ -215,7 +204,7 @@ impl Maker {
         sets
     }
 
-    fn draw_row(self) -> Vec<Set> {
+    fn draw_row(self) -> Vec<Set<Case>> {
         let each = calls::each_row(ROWS, &[0, 1, 2, 3, 4, 8, 11], &MODES);
         let narrow = calls::each_row(NARROW_ROWS, &[0, 1, 2, 3, 5, 8, 9, 10, 16], &[1, 2]);
         let mut sets = vec![
@@ -227,7 +216,7 @@ impl Maker {
     }
 
     /// What both drawings are tried with.
-    fn drawn(self, any: AnyCall) -> Vec<Set> {
+    fn drawn(self, any: AnyCall) -> Vec<Set<Case>> {
         let few = calls::few(self.call);
         let one = calls::each_search(&few, &calls::each_matches(5, 2));
         let two = calls::each_search(&few[..1], &calls::each_matches(4, 4));

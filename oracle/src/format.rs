@@ -96,11 +96,12 @@ fn without_zeros<T: PartialEq + Default>(items: &[T]) -> &[T] {
     &items[..len]
 }
 
-fn buffer(bytes: &[u8]) -> String {
+/// The bytes of a buffer, without its trailing zeros.
+pub fn buffer(bytes: &[u8]) -> String {
     hex(without_zeros(bytes))
 }
 
-fn hex(bytes: &[u8]) -> String {
+pub fn hex(bytes: &[u8]) -> String {
     if bytes.is_empty() {
         return "-".to_string();
     }
@@ -189,23 +190,7 @@ impl<'t> Fields<'t> {
     }
 
     fn hex(&mut self) -> Result<Vec<u8>, String> {
-        let field = self.next()?;
-        if field == "-" {
-            return Ok(Vec::new());
-        }
-        let bad = || format!("not bytes: {field:?}");
-        let digit = |c: u8| match c {
-            b'0'..=b'9' => Ok(c - b'0'),
-            b'a'..=b'f' => Ok(c - b'a' + 10),
-            _ => Err(bad()),
-        };
-        let pairs = field.as_bytes().chunks(2);
-        pairs
-            .map(|pair| match *pair {
-                [high, low] => Ok(digit(high)? * 16 + digit(low)?),
-                _ => Err(bad()),
-            })
-            .collect()
+        bytes(self.next()?)
     }
 
     fn number(&mut self) -> Result<usize, String> {
@@ -227,7 +212,27 @@ impl<'t> Fields<'t> {
     }
 }
 
-fn number(field: &str) -> Result<usize, String> {
+/// The bytes of a hexadecimal field.
+pub fn bytes(field: &str) -> Result<Vec<u8>, String> {
+    if field == "-" {
+        return Ok(Vec::new());
+    }
+    let bad = || format!("not bytes: {field:?}");
+    let digit = |c: u8| match c {
+        b'0'..=b'9' => Ok(c - b'0'),
+        b'a'..=b'f' => Ok(c - b'a' + 10),
+        _ => Err(bad()),
+    };
+    let pairs = field.as_bytes().chunks(2);
+    pairs
+        .map(|pair| match *pair {
+            [high, low] => Ok(digit(high)? * 16 + digit(low)?),
+            _ => Err(bad()),
+        })
+        .collect()
+}
+
+pub fn number(field: &str) -> Result<usize, String> {
     field
         .parse()
         .map_err(|_| format!("not a number: {field:?}"))

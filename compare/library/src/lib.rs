@@ -1,4 +1,4 @@
-//! The six calls of the static library as declared in include/console_lines.h,
+//! The calls of the static library as declared in include/console_lines.h,
 //! as safe functions on slices.
 
 use oracle::Call;
@@ -28,6 +28,7 @@ pub fn exported() -> Vec<&'static str> {
         ("height", cfg!(has_height)),
         ("draw_window", cfg!(has_draw_window)),
         ("draw_row", cfg!(has_draw_row)),
+        ("screen_row", cfg!(has_screen_row)),
     ];
     let there = calls.into_iter().filter(|(_, there)| *there);
     there.map(|(name, _)| name).collect()
@@ -83,6 +84,7 @@ declare!(has_draw_window, draw_window, console_draw_window(
 declare!(has_draw_row, draw_row, console_draw_row(
     line: u8, matches: usize; current, first, count, width, mode; conv: u8, spans: Span, list: u8
 ));
+declare!(has_screen_row, screen_row, console_screen_row(list: u8; width; out: u8));
 
 /// Memory lent to a call; what it is not lent is not looked at.
 pub struct Lent<'m> {
@@ -92,7 +94,7 @@ pub struct Lent<'m> {
     pub list: &'m mut [u8],
 }
 
-/// Makes any of the six calls, with a copy of its matches.
+/// Makes any of the six calls of document 01, with a copy of its matches.
 pub fn make(call: &Call, line: &[u8], matches: &[usize], lent: Lent) -> Answer {
     let Lent {
         conv,

@@ -1,6 +1,7 @@
 //! Faults planted in the library's answers, to see that demand 3 finds them.
 
 use super::{check, is_callable, random_cases};
+use crate::comparison::Comparison;
 use crate::lent::Place;
 use crate::library::Library;
 use oracle::noise::{Exchange, Half, Separation};

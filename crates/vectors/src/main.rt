@@ -1,5 +1,6 @@
 // Answers recorded cases, one a line of standard input, and prints each with its answer: oracle/README.md has the form of a line. What
-// is printed is compared with the recorded answers of the Rust source, published vectors and the rows program's stated answers.
+// is printed is compared with the recorded answers of the Rust source and of the model of screen_row, published vectors and the rows
+// program's stated answers.
 mod fields;
 mod output;
 mod program;
@@ -54,6 +55,8 @@ fn answer(s: &[u8]) {
         program::answer(s);
     } else if same(name, b"scalars") | same(name, b"clusters") {
         published::answer(name, s);
+    } else if same(name, b"screen_row") {
+        recorded::screen_row(s);
     } else {
         recorded::answer(name, s);
     }

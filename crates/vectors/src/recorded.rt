@@ -1,4 +1,4 @@
-// Calls that the Rust source answered: each is answered, and every lent buffer printed.
+// Calls with recorded answers, those of the Rust source or of the model of screen_row: each is answered, and every lent buffer printed.
 ghost use Prim.Native.Nat.{_*_};
 ghost use Rattle.vectors.specs.Fields.{fieldOf, decimal};
 ghost use Rattle.vectors.specs.Recorded.{Lent};
@@ -155,6 +155,16 @@ fn draw_row(s: &[u8], line: &[u8], matches: &[usize]) {
     print_answer(a, &conv, c);
     print_numbers(&spans, p);
     print_bytes(&list, b);
+}
+
+pub(crate) fn screen_row(s: &[u8]) {
+    let mut list = [0u8; 5000];
+    let mut out = [170u8; 32776];
+    let n = fields::bytes(field(s, 1), &mut list);
+    let width = number(s, 2);
+    let c = lent_bytes(s, 3, &out);
+    let a = screen::screen_row(&list[..n], width, &mut out[..c]);
+    print_answer(a, &out, c);
 }
 
 // The answer to a call of this name; of another, nothing.
