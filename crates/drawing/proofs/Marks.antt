@@ -296,3 +296,7 @@ module _ (w : Window) (kind byte : ℕ) (l : List ℕ) (at : ℕ) (t : Attribute
         wrote = rw (ne-eqb kind 10 k, byte-is byte b) h;
         near = omega (arith, written-position w l l′ at (r .at) t (r .state) control (markText byte 4) h, mark-columns w byte 4);
       }
+
+pub composed-beside : (w : Window) (kind byte : ℕ) (l : List ℕ) (at : ℕ) (t u : AttributeState) (b : Bool) → (kind ≢ 10) → byte < 256 → b ≡ (ltb (w .start .0) (t .position .0 + 4) && ltb (t .position .0) (w .end .0)) → b ≡ false → u ≡ moved t 4 false
+    → ComposedWrote w kind byte l at t l (record { state = u; at = at })
+composed-beside w kind byte l at t u b k h e f m = composed-mark w kind byte l at t l (record { state = u; at = at }) k h (mark-out l at w t byte 4 b e u f m)

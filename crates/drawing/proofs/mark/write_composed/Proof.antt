@@ -1,4 +1,4 @@
-use Rattle.drawing.proofs.Marks.{composed-tab, composed-mark}
+use Rattle.drawing.proofs.Marks.{composed-tab, composed-mark, composed-beside}
 use borrow.Author.Needs.{needs}
 use Rattle.drawing.proofs.mark.write_composed.Statement.{statement}
 use Rattle.drawing.proofs.mark.write_composed.Tie as tie
@@ -15,19 +15,40 @@ same-length c = search needs
 returns : tie.Need-returns
 returns c = search composed-tab
 
--- src/mark.rt:226:5
+-- src/mark.rt:226:8
+meets-requires : tie.Need-meets-requires
+meets-requires c κs = search needs
+
+-- src/mark.rt:227:9
 write-mark-requires : tie.Need-write-mark-requires
 write-mark-requires c κs = search needs
 
--- src/mark.rt:212:1
+-- src/mark.rt:227:9
 same-length-2 : tie.Need-same-length-2
 same-length-2 c = search needs
 
--- src/mark.rt:212:1
+-- src/mark.rt:227:9
 returns-2 : tie.Need-returns-2
 returns-2 c = search composed-mark
+
+-- src/mark.rt:229:9
+advance-requires : tie.Need-advance-requires
+advance-requires c κs = search needs
+
+-- src/mark.rt:212:1
+returns-3 : tie.Need-returns-3
+returns-3 c = search composed-beside
 
 pub write-composed-spec : {M : Type 1} → statement M
 write-composed-spec =
     tie.close
-    (tie.spec write-tab-requires same-length returns write-mark-requires same-length-2 returns-2)
+    (tie.spec
+    write-tab-requires
+    same-length
+    returns
+    meets-requires
+    write-mark-requires
+    same-length-2
+    returns-2
+    advance-requires
+    returns-3)
