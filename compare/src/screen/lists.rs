@@ -201,7 +201,7 @@ pub fn any_case(random: &mut Random, list: Vec<u8>) -> Case {
     let width = match random.below(40) {
         0 => random.pick(&WIDTHS),
         1..=5 => columns.saturating_sub(1),
-        6..=20 => columns,
+        6..=20 => columns.max(1),
         21..=24 => columns + 1,
         25..=30 => random.below(columns + 2),
         _ => random.between(1, 12),
@@ -238,23 +238,38 @@ pub fn around_need(random: &mut Random, list: Vec<u8>, width: usize) -> Case {
     Case::new(&list, width, size)
 }
 
+/// Makes a call for a line.
+pub type AnyCall = fn(&mut Random, &[u8]) -> Call;
+
+/// Most lines have a drawing that is accepted among so many.
+const TRIES: usize = 30;
+
+/// What a drawing leaves, and how many columns it was drawn into.
+fn drawn_list(random: &mut Random, line: &[u8], call: AnyCall) -> Option<(Vec<u8>, usize)> {
+    let mut calls = (0..TRIES).map(|_| call(random, line));
+    calls.find_map(|call| {
+        let list = drawn::list(&call, line)?;
+        let columns = match call {
+            Call::DrawWindow { start, end, .. } => end - start,
+            Call::DrawRow { width, .. } => width,
+            _ => return None,
+        };
+        Some((list, columns))
+    })
+}
+
 /// What a drawing leaves, in as many columns as it was drawn into, as its texts take, or
-/// any; altered, if that is wanted. Where the drawing is refused, the empty list.
-pub fn drawn_case(random: &mut Random, line: &[u8], call: &Call, change: bool) -> Case {
-    let mut list = drawn::list(call, line).unwrap_or_default();
+/// any; altered, if that is wanted. Where no drawing is accepted, the empty list.
+pub fn drawn_case(random: &mut Random, line: &[u8], call: AnyCall, change: bool) -> Case {
+    let (mut list, own) = drawn_list(random, line, call).unwrap_or_default();
     let columns = drawn::columns(&list);
-    let own = match *call {
-        Call::DrawWindow { start, end, .. } => end.saturating_sub(start),
-        Call::DrawRow { width, .. } => width,
-        _ => columns,
-    };
     if change {
         list = altered(random, list);
     }
     let width = match random.below(60) {
         0..=23 => own,
         24 | 25 => own.saturating_sub(1),
-        26..=28 => own.saturating_add(1),
+        26..=28 => own + 1,
         29..=38 => columns.max(1),
         39..=43 => columns.saturating_sub(1),
         44..=48 => columns + 1,

@@ -1,7 +1,7 @@
 //! The sample that crates/vectors answers: the stated cases, limits, and random ones.
 
 use super::changes::{attributes, clear, cursor_right, text};
-use super::lists::{altered, any_case, any_list, drawn_case};
+use super::lists::{altered, any_case, any_list, drawn_case, AnyCall};
 use super::{stated, Case};
 use crate::calls;
 use oracle::generate;
@@ -76,11 +76,10 @@ fn screen() -> Case {
     Case::snug(&list, 80, 0)
 }
 
-fn drawn(random: &mut Random, call: fn(&mut Random, &[u8]) -> Call, altered: bool) -> Case {
+fn drawn(random: &mut Random, call: AnyCall, altered: bool) -> Case {
     let size = random.between(1, 16);
     let line = generate::line(random, size);
-    let call = call(random, &line);
-    drawn_case(random, &line, &call, altered)
+    drawn_case(random, &line, call, altered)
 }
 
 /// The first so many random cases with short lists and rows.

@@ -1,14 +1,13 @@
 //! The sets of cases.
 
 use super::changes::{attributes, change, clear, cursor_right, text, with_length};
-use super::lists::{altered, any_case, any_list, around_need, drawn_case, WIDTHS};
+use super::lists::{altered, any_case, any_list, around_need, drawn_case, AnyCall, WIDTHS};
 use super::{sample, stated, Case};
 use crate::alphabets::{CLASSES, DRAWN, SHIFTED};
 use crate::calls;
 use crate::comparison::Set;
 use crate::lines::{self, scalars, sequences, short, short_of, Context, Lines};
 use oracle::random::Random;
-use oracle::Call;
 
 /// How many random cases a set has.
 const RANDOM: usize = 1_000_000;
@@ -16,7 +15,6 @@ const RANDOM: usize = 1_000_000;
 pub fn sets(seed: u64) -> Vec<Set<Case>> {
     let maker = Maker { seed };
     let narrow: &[usize] = &[1, 2, 3, 5];
-    let texts = |lines: Lines| as_texts(lines);
     let mut sets = vec![
         Set::of("stated cases", stated::cases()),
         Set::of("the recorded sample", sample::cases()),
@@ -28,9 +26,9 @@ pub fn sets(seed: u64) -> Vec<Set<Case>> {
         Set::of("cut lists", cut()),
         Set::of("lengths of bodies", lengths()),
         Set::of("long rows", long_rows()),
-        maker.each("sequences of bytes", texts(sequences()), &[8]),
-        maker.each("every scalar", texts(scalars(SCALARS)), &[4]),
-        maker.each("short texts", texts(short(CLASSES, 5)), &[1, 2, 4]),
+        maker.each("sequences of bytes", as_texts(sequences()), &[8]),
+        maker.each("every scalar", as_texts(scalars(SCALARS)), &[4]),
+        maker.each("short texts", as_texts(short(CLASSES, 5)), &[1, 2, 4]),
         maker.each("short lists", short_of(symbols(), 6), narrow),
         maker.each("short lists of writes", short_of(writes(), 7), &[4, 6]),
     ];
@@ -77,19 +75,16 @@ impl Maker {
 
     /// Lists that drawings leave, and the same altered.
     fn drawn(self) -> Vec<Set<Case>> {
-        type AnyCall = fn(&mut Random, &[u8]) -> Call;
         let every = |name, lines: Lines, call: AnyCall| {
             self.random(name, lines.count, move |random, number| {
                 let line = (lines.line)(number);
-                let call = call(random, &line);
-                drawn_case(random, &line, &call, false)
+                drawn_case(random, &line, call, false)
             })
         };
         let random = |name, call: AnyCall, altered| {
             self.random(name, RANDOM, move |random, number| {
                 let line = lines::random(random, DRAWN, number);
-                let call = call(random, &line);
-                drawn_case(random, &line, &call, altered)
+                drawn_case(random, &line, call, altered)
             })
         };
         vec![
