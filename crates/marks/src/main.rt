@@ -6,7 +6,6 @@ use composed::push_byte_mark;
 use composed::push_clipped;
 use composed::push_scalar_mark;
 use drawing::mark::push_mark;
-use drawing::mark::scalar_mark_len;
 use drawing::write::Window;
 use libc::STDOUT_FILENO;
 use text::Column;
