@@ -13,6 +13,10 @@ use lib.Dec.{leb}
 use borrow.Author.Tests.{eq-eqb, ne-eqb, leb-true, leb-false}
 use Rattle.text.specs.Tests.{cases, in-range}
 use Rattle.text.specs.Class.{Profile}
+use Rattle.text.specs.Calls.{Converted}
+use Rattle.text.specs.Calls.Code as text
+use Rattle.text.specs.Calls.Code.{converted}
+use Rattle.text.specs.declared.Answer.{Answer}
 use Rattle.buffer.specs.Sink.{sink, emit}
 use Rattle.buffer.specs.Sink.Laws.{fitted, overfull}
 use Rattle.screen.specs.Row.{Screen, rowBytes}
@@ -22,19 +26,20 @@ use Rattle.screen.specs.Calls.Code.Laws.{width-refused, screen-shown}
 use Rattle.screen.specs.Screen.{rowOf, screenOf, DrawReady, Drawn}
 use Rattle.screen.specs.declared.screen.Screen as code
 
-pub refused : (l l′ : List ℕ) (r : ℕ) → l′ ≡ take 0 l ++ replicate (length l - 0) 0 → shown (record { number = r; count = 0 }) l′ ≡ refusal r (length l)
-refused l l′ r e = rw (e, sub-zero) refl
+-- a refusal is one of `screen_row`
+refused : (r : Answer) (l : List ℕ) (n room : ℕ) → converted r l ≡ text.refusal n room → shown r l ≡ refusal n room
+refused r l n room e = ap (λ (c : Converted). record { number = c .number; count = c .count; out = c .conv }) e
 
 -- ---- finish
 
 module _ (list : List ℕ) (width : ℕ) (row : List ℕ) (t : code.Screen) (room : ℕ) where
-  pub finish-malformed : (s : Shown) → t .refusal ≡ 10 → s ≡ refusal 10 room → s ≡ shownOf (screenOf list width row t) room
+  pub finish-malformed : (r : Answer) (l : List ℕ) → t .refusal ≡ 10 → converted r l ≡ text.refusal 10 room → shown r l ≡ shownOf (screenOf list width row t) room
   unfolding shownOf screenOf
-  finish-malformed s z e = e ∙ sym (rw (eq-eqb (t .refusal) 10 z) refl)
+  finish-malformed r l z e = refused r l 10 room e ∙ sym (rw (eq-eqb (t .refusal) 10 z) refl)
 
-  pub finish-passed : (s : Shown) → t .refusal ≡ 11 → s ≡ refusal 11 room → s ≡ shownOf (screenOf list width row t) room
+  pub finish-passed : (r : Answer) (l : List ℕ) → t .refusal ≡ 11 → converted r l ≡ text.refusal 11 room → shown r l ≡ shownOf (screenOf list width row t) room
   unfolding shownOf screenOf
-  finish-passed s z e = e ∙ sym (rw z refl)
+  finish-passed r l z e = refused r l 11 room e ∙ sym (rw z refl)
 
   module _ (a : t .refusal ≢ 10) (b : t .refusal ≢ 11) where
     finish-row : shownOf (screenOf list width row t) room ≡ rowShown (rowBytes (rowOf list width row t)) room
@@ -45,10 +50,10 @@ module _ (list : List ℕ) (width : ℕ) (row : List ℕ) (t : code.Screen) (l l
   abbrev bytes : List ℕ
   bytes = rowBytes (rowOf list width row t)
 
-  pub finish-short : (s : Shown) → length l′ < n → s ≡ refusal 9 (length l′) → s ≡ shownOf (screenOf list width row t) (length l)
-  finish-short s h e = cases (leb (length bytes) (length l))
+  pub finish-short : (r : Answer) (l″ : List ℕ) → length l′ < n → converted r l″ ≡ text.refusal 9 (length l′) → shown r l″ ≡ shownOf (screenOf list width row t) (length l)
+  finish-short r l″ h e = cases (leb (length bytes) (length l))
       (λ f. let k = leb-true (length bytes) (length l) f in absurd (omega (arith, fitted l bytes l′ n wrote k .0, k, h, long)))
-      (λ f. e ∙ ap (refusal 9) long ∙ sym (finish-row list width row t (length l) a b ∙ rw f refl))
+      (λ f. refused r l″ 9 (length l′) e ∙ ap (refusal 9) long ∙ sym (finish-row list width row t (length l) a b ∙ rw f refl))
 
   pub finish-whole : (l″ : List ℕ) → n ≤ length l′ → l″ ≡ take n l′ ++ replicate (length l′ - n) 0 → shown (record { number = 0; count = n }) l″ ≡ shownOf (screenOf list width row t) (length l)
   finish-whole l″ h e = cases (leb (length bytes) (length l))
@@ -67,5 +72,5 @@ module _ (P : Profile) (list : List ℕ) (width room : ℕ) where
   pub row-shown : (row : List ℕ) (t : code.Screen) (s : Shown) → (leb 1 width && leb width 4096) ≡ true → Drawn P list width row t → s ≡ shownOf (screenOf list width row t) room → s ≡ screenCall P width room list
   row-shown row t s w d e = e ∙ ap (λ (o : Option Screen). shownOf o room) (d .same) ∙ screen-shown P width room list w
 
-  pub row-refused : (s : Shown) → (leb 1 width && leb width 4096) ≡ false → s ≡ refusal 5 room → s ≡ screenCall P width room list
-  row-refused s w e = e ∙ width-refused P width room list w
+  pub row-refused : (r : Answer) (l : List ℕ) → (leb 1 width && leb width 4096) ≡ false → converted r l ≡ text.refusal 5 room → shown r l ≡ screenCall P width room list
+  row-refused r l w e = refused r l 5 room e ∙ width-refused P width room list w

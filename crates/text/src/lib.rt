@@ -35,7 +35,7 @@ pub struct Answer {
 }
 
 // A refusal: zeros throughout.
-fn refuse(conv: &mut [u8], number: usize) -> Answer
+pub fn refuse(conv: &mut [u8], number: usize) -> Answer
     ensures { λ r. ⌜ converted r (now (conv .exit)) ≡ refusal number (length (now (conv .entry))) ⌝ }
 {
     buffer::clear_bytes(conv, 0);
