@@ -1,6 +1,6 @@
 // Lent memory. A buffer is written from its front with a count that saturates one past the buffer's length.
 ghost use mathlib.Core.Path.{_≡_};
-ghost use Prim.Native.Nat.{_+_, _-_, _≤_, _<_};
+ghost use Prim.Native.Nat.{_+_, _-_, _%_, _≤_};
 ghost use mathlib.Core.List.{_++_};
 ghost use lib.ListN.{length, take, replicate, getD};
 ghost use Rattle.buffer.specs.Sink.{sink, put, emit, Copied};
@@ -108,12 +108,16 @@ pub fn push_le4(out: &mut [u8], at: usize, n: usize) -> usize
     push_bytes(out, at, &bytes)
 }
 
-// The hexadecimal digit of n, in capitals.
+// The lowest hexadecimal digit of n, in capitals.
 pub fn hex_digit(n: u8) -> u8
-    requires { ⌜ n < 16 ⌝ }
-    ensures { λ r. ⌜ r ≡ hexDigit n ⌝ }
+    ensures { λ r. ⌜ r ≡ hexDigit (n % 16) ⌝ }
 {
-    if n < 10 { 0x30 + n } else { 0x37 + n }
+    let digit = n % 16;
+    if digit < 10 {
+        0x30 + digit
+    } else {
+        0x37 + digit
+    }
 }
 
 // Zeros from the place `from` on.

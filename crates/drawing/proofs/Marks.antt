@@ -11,6 +11,7 @@ use lib.Dec.{eqb, leb, ltb}
 use borrow.Author.Tests.{eq-eqb, ne-eqb, ltb-true, le-leb, lt-leb, leb-true, leb-false}
 use Rattle.buffer.specs.Numbers as numbers
 use Rattle.buffer.specs.Numbers.{smallerOf, le2, le4}
+use Rattle.buffer.specs.Numbers.Laws.{smaller-right}
 use Rattle.buffer.specs.Sink.{Sink, sink, put, emit}
 use Rattle.buffer.specs.Sink.Laws.{emit-none, then-emit}
 use Rattle.text.specs.Tests.{cases, both}
@@ -25,7 +26,8 @@ use Rattle.text.specs.Utf8.Code.Laws.{scalar-at, none-at, none-past}
 use Rattle.text.specs.TextParts.{textAt}
 use Rattle.text.specs.declared.utf8.Sequence.{Sequence}
 use Rattle.drawing.specs.Clip.{spaces}
-use Rattle.drawing.specs.Marks.{hexDigit, byteMark, upperDigits, scalarMark}
+use Rattle.drawing.specs.Marks.{byteMark, upperDigits, scalarMark}
+use Rattle.drawing.specs.Marks.Laws.{digit-is}
 use Rattle.drawing.specs.Attributes.{file, control}
 use Rattle.drawing.specs.Change as change
 use Rattle.drawing.specs.Change.{text, clipped, kindOf, body, encodeOne}
@@ -44,10 +46,6 @@ use Rattle.drawing.proofs.WindowTexts.{wrote-then, wrote-none, written-
 
 -- ---- digits
 
-digit-is : (d : ℕ) → hexDigit d ≡ ascii (numbers.hexDigit d)
-unfolding hexDigit numbers.hexDigit
-digit-is d = cases (ltb d 10) (λ e. rw e refl) (λ e. rw e refl)
-
 digit-printable : (n : ℕ) → n < 16 → printable (numbers.hexDigit n) ≡ true
 unfolding numbers.hexDigit
 digit-printable n h =
@@ -58,13 +56,10 @@ digit-printable n h =
 small-digit : (v k : ℕ) → digitOf v k < 16
 small-digit v k = both (λ (n : ℕ). n < 16) (eqb k 0) (omega arith) (both (λ (n : ℕ). n < 16) (eqb k 1) (omega arith) (both (λ (n : ℕ). n < 16) (eqb k 2) (omega arith) (both (λ (n : ℕ). n < 16) (eqb k 3) (omega arith) (both (λ (n : ℕ). n < 16) (eqb k 4) (omega arith) (omega arith)))))
 
-pub digit-small : (v k d : ℕ) → d ≡ digitOf v k → d < 16
-digit-small v k d e = rw e (small-digit v k)
-
 -- ---- a mark's bytes
 
-pub mark-digit : (v n i d r : ℕ) → (i ≢ 0) → i + 1 < n → (ltb 4 n && eqb i 1) ≡ false → (ltb 4 n && eqb i 2) ≡ false → d ≡ digitOf v (n - i - 2) → r ≡ numbers.hexDigit d → r ≡ markByte v n i
-mark-digit v n i d r z h a b e f = rw (ne-eqb i 0 z, lt-leb n (i + 1) h, a, b) (f ∙ ap numbers.hexDigit e)
+pub mark-digit : (v n i d r : ℕ) → (i ≢ 0) → i + 1 < n → (ltb 4 n && eqb i 1) ≡ false → (ltb 4 n && eqb i 2) ≡ false → d ≡ digitOf v (n - i - 2) → r ≡ numbers.hexDigit (d % 16) → r ≡ markByte v n i
+mark-digit v n i d r z h a b e f = let m : d % 16 ≡ d = omega (arith, e, small-digit v (n - i - 2)) in rw (ne-eqb i 0 z, lt-leb n (i + 1) h, a, b) (f ∙ ap numbers.hexDigit (m ∙ e))
 
 byte-printable : (v n i : ℕ) → printable (markByte v n i) ≡ true
 byte-printable v n i =
@@ -123,9 +118,6 @@ module _ (v n from to : ℕ) (l₀ : List ℕ) (start : ℕ) (l : List ℕ) (at 
   pub bytes-end : to ≤ i → sink l at ≡ emit (sink l₀ start) (markPart v n from (to - from))
   unfolding markPart
   bytes-end h = let k : to - i ≡ 0 = omega arith in sym (ap (λ (j : ℕ). emit (sink l at) (markPart v n i j)) k ∙ emit-none (sink l at)) ∙ b .work
-
-pub smaller-right : (l n to : ℕ) → to ≡ smallerOf l n → to ≤ n
-smaller-right l n to d = cases (leb l n) (λ f. omega (arith, rw f at d, leb-true l n f)) (λ f. omega (arith, rw f at d))
 
 -- ---- clipped to the window
 

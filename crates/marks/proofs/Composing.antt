@@ -15,20 +15,17 @@ use Rattle.buffer.specs.Sink.Laws.{emit-none, then-emit, fitted, emit-put, then
 use Rattle.text.specs.Tests.{cases}
 use Rattle.text.specs.Utf8.{ascii, asciis, bytesOf}
 use Rattle.text.specs.Utf8.AsciiTexts.{asciis-append, asciis-bytes, asciis-cons, asciis-nil}
-use Rattle.drawing.specs.Marks.{hexDigit, byteMark, upperDigits, scalarMark}
+use Rattle.drawing.specs.Marks.{byteMark, upperDigits, scalarMark}
+use Rattle.drawing.specs.Marks.Laws.{digit-is}
 use Rattle.marks.specs.Composed.{clippedChange}
 
 -- ---- digits
 
-digit-is : (d : ℕ) → hexDigit d ≡ ascii (numbers.hexDigit d)
-unfolding hexDigit numbers.hexDigit
-digit-is d = cases (ltb d 10) (λ e. rw e refl) (λ e. rw e refl)
-
 abbrev digit : ℕ → ℕ
 digit n = numbers.hexDigit (n % 16)
 
-pub digit-pushed : (s s′ : Sink) (b n : ℕ) → b ≡ numbers.hexDigit (n % 16) → s′ ≡ put s b → s′ ≡ emit s (numbers.hexDigit (n % 16) ∷ [])
-digit-pushed s s′ b n e p = rw (← e) (emit-put s s′ b p)
+pub digit-pushed : (s s′ : Sink) (b n : ℕ) → b ≡ numbers.hexDigit (n % 16 % 16) → s′ ≡ put s b → s′ ≡ emit s (numbers.hexDigit (n % 16) ∷ [])
+digit-pushed s s′ b n e p = let m : n % 16 % 16 ≡ n % 16 = omega arith in rw (← m, ← e) (emit-put s s′ b p)
 
 -- ---- the mark of a scalar
 
@@ -94,9 +91,11 @@ byte-bytes b =
     let e : byteMark b ≡ asciis (0x3C ∷ numbers.hexDigit (b / 16) ∷ numbers.hexDigit (b % 16) ∷ 0x3E ∷ []) = simp (digit-is, asciis-cons, asciis-nil) refl in
     ap bytesOf e ∙ asciis-bytes (0x3C ∷ numbers.hexDigit (b / 16) ∷ numbers.hexDigit (b % 16) ∷ 0x3E ∷ [])
 
-pub byte-pushed : (s s₁ s₂ s₃ s₄ : Sink) (b h l : ℕ) → h ≡ numbers.hexDigit (b / 16) → l ≡ numbers.hexDigit (b % 16) → s₁ ≡ put s 0x3C → s₂ ≡ put s₁ h → s₃ ≡ put s₂ l → s₄ ≡ put s₃ 0x3E → s₄ ≡ emit s (bytesOf (byteMark b))
-byte-pushed s s₁ s₂ s₃ s₄ b h l e f p q r t =
-    rw (byte-bytes b, ← e, ← f) (then-put s s₃ s₄ (0x3C ∷ h ∷ l ∷ []) 0x3E (then-put s s₂ s₃ (0x3C ∷ h ∷ []) l (then-put s s₁ s₂ (0x3C ∷ []) h (emit-put s s₁ 0x3C p) q) r) t)
+pub byte-pushed : (s s₁ s₂ s₃ s₄ : Sink) (b h l : ℕ) → b < 256 → h ≡ numbers.hexDigit (b / 16 % 16) → l ≡ numbers.hexDigit (b % 16 % 16) → s₁ ≡ put s 0x3C → s₂ ≡ put s₁ h → s₃ ≡ put s₂ l → s₄ ≡ put s₃ 0x3E → s₄ ≡ emit s (bytesOf (byteMark b))
+byte-pushed s s₁ s₂ s₃ s₄ b h l g e f p q r t =
+    let m : numbers.hexDigit (b / 16) ≡ h = ap numbers.hexDigit (let x : b / 16 ≡ b / 16 % 16 = omega arith in x) ∙ sym e in
+    let n : numbers.hexDigit (b % 16) ≡ l = ap numbers.hexDigit (let x : b % 16 ≡ b % 16 % 16 = omega arith in x) ∙ sym f in
+    rw (byte-bytes b, m, n) (then-put s s₃ s₄ (0x3C ∷ h ∷ l ∷ []) 0x3E (then-put s s₂ s₃ (0x3C ∷ h ∷ []) l (then-put s s₁ s₂ (0x3C ∷ []) h (emit-put s s₁ 0x3C p) q) r) t)
 
 -- ---- what was composed in ten bytes
 
@@ -125,9 +124,6 @@ module _ (n offset width from to : ℕ) (a : from ≡ smallerOf offset n) (b : t
   part-order = cases (leb offset n)
       (λ e. cases (leb (offset + width) n) (λ f. omega (arith, rw e at a, rw f at b)) (λ f. omega (arith, rw e at a, rw f at b, leb-true offset n e)))
       (λ e. cases (leb (offset + width) n) (λ f. omega (arith, leb-true (offset + width) n f, leb-false offset n e)) (λ f. omega (arith, rw e at a, rw f at b)))
-
-  pub part-end : to ≤ n
-  part-end = cases (leb (offset + width) n) (λ f. omega (arith, rw f at b, leb-true (offset + width) n f)) (λ f. omega (arith, rw f at b))
 
 pub part-pushed : (mark : List ℕ) (offset width from to : ℕ) (s s₁ s₂ s₃ : Sink) → from ≡ smallerOf offset (length mark) → to ≡ smallerOf (offset + width) (length mark)
     → s₁ ≡ emit s (le4 (to - from)) → s₂ ≡ emit s₁ (le2 1) → s₃ ≡ emit s₂ (take (to - from) (drop from mark)) → s₃ ≡ emit s (clippedChange mark offset width)

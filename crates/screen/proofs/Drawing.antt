@@ -13,7 +13,7 @@ use borrow.Author.Tests.{le-leb, lt-leb, leb-true, leb-false, ne-eqb}
 use Rattle.text.specs.Tests.{cases}
 use Rattle.text.specs.Class.{Profile}
 use Rattle.screen.specs.Records.{littleEndian, Record, recordAt, records, recordsFrom}
-use Rattle.screen.specs.Records.Laws.{records-first}
+use Rattle.screen.specs.Records.Laws.{records-first, same-record}
 use Rattle.screen.specs.Records.Contracts.{HeadReady, headAt}
 use Rattle.screen.specs.Row.{Screen, blankScreen}
 use Rattle.screen.specs.Screen.{withRefusal, rowOf, screenOf, recordOf, recordOn, recordsOn, RowReady, BodyReady, DrawReady, Drawn, Stepped}
@@ -22,9 +22,6 @@ use Rattle.screen.specs.declared.records.Head.{Head}
 use Rattle.screen.specs.declared.screen.Screen as code
 
 -- ---- the record at a place
-
-same-record : {w v : Bool} {k j : ℕ} {b c : List ℕ} → w ≡ v → k ≡ j → b ≡ c → _≡_ {A = Record} (record { whole = w; kind = k; body = b }) (record { whole = v; kind = j; body = c })
-same-record e f g = rw (e, f, g) refl
 
 behind-le : (at n m : ℕ) → at ≤ m → leb n (m - at) ≡ leb (at + n) m
 behind-le at n m h = cases (leb (at + n) m) (λ e. rw e (le-leb n (m - at) (let k = leb-true (at + n) m e in omega arith))) (λ e. rw e (lt-leb n (m - at) (let k = leb-false (at + n) m e in omega arith)))

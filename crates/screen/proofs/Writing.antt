@@ -180,9 +180,6 @@ module _ (list : List ℕ) (width : ℕ) where
 
 -- ---- the step
 
-same-screen : {a b : List Cell} {c d : ℕ} {p q : Bool} (at : List ℕ) (x : Bool) → a ≡ b → c ≡ d → p ≡ q → screen a c p at x ≡ screen b d q at x
-same-screen at x e f g = rw (e, f, g) refl
-
 module _ (list row : List ℕ) (width : ℕ) (s : code.Screen) (p e w : ℕ) (ready : WriteReady width row s p e w) where
   abbrev to : ℕ
   to = s .at + w

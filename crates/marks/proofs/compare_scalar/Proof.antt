@@ -3,27 +3,21 @@ use borrow.Author.Needs.{needs}
 use Rattle.marks.proofs.compare_scalar.Statement.{statement}
 use Rattle.marks.proofs.compare_scalar.Tie as tie
 
--- src/main.rt:68:30
 slice-aggregate-push-scalar-mark : tie.Need-slice-aggregate-push-scalar-mark
 slice-aggregate-push-scalar-mark c = search needs
 
--- src/main.rt:68:9
 push-scalar-mark-requires : tie.Need-push-scalar-mark-requires
 push-scalar-mark-requires c κs = search needs
 
--- src/main.rt:69:24
 array-share-prefix-mark : tie.Need-array-share-prefix-mark
 array-share-prefix-mark c = search scalar-inside
 
--- src/main.rt:69:24
 slice-aggregate-compare-mark : tie.Need-slice-aggregate-compare-mark
 slice-aggregate-compare-mark c = search scalar-fits
 
--- src/main.rt:69:5
 compare-mark-requires : tie.Need-compare-mark-requires
 compare-mark-requires c κs = search needs
 
--- src/main.rt:66:1
 returns : tie.Need-returns
 returns c = search needs
 

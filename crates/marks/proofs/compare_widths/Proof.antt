@@ -9,27 +9,21 @@ Inv-loop code mark offset width₀ width = width ≤ 11
 abbrev μ-loop : tie.MeasureT-loop
 μ-loop code mark offset width₀ width = 11 - width
 
--- src/main.rt:45:5
 loop-holds : tie.Need-loop-holds Inv-loop μ-loop
 loop-holds c = search needs
 
--- src/main.rt:46:9
 compare-requires : tie.Need-compare-requires Inv-loop μ-loop
 compare-requires c κs = search needs
 
--- src/main.rt:47:9
 add-width : tie.Need-add-width Inv-loop μ-loop
 add-width c = search needs
 
--- src/main.rt:45:5
 loop-less : tie.Need-loop-less Inv-loop μ-loop
 loop-less c = search needs
 
--- src/main.rt:45:5
 loop-again : tie.Need-loop-again Inv-loop μ-loop
 loop-again c = search needs
 
--- src/main.rt:41:1
 returns : tie.Need-returns Inv-loop μ-loop
 returns c = search needs
 

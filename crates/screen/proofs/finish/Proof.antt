@@ -3,55 +3,42 @@ use borrow.Author.Needs.{needs}
 use Rattle.screen.proofs.finish.Statement.{statement}
 use Rattle.screen.proofs.finish.Tie as tie
 
--- src/lib.rt:40:9
 refuse-requires : tie.Need-refuse-requires
 refuse-requires c κs = search needs
 
--- src/lib.rt:40:9
 same-length : tie.Need-same-length
 same-length c = search needs
 
--- src/lib.rt:40:9
 returns : tie.Need-returns
 returns c = search finish-malformed
 
--- src/lib.rt:43:9
 refuse-requires-2 : tie.Need-refuse-requires-2
 refuse-requires-2 c κs = search needs
 
--- src/lib.rt:43:9
 same-length-2 : tie.Need-same-length-2
 same-length-2 c = search needs
 
--- src/lib.rt:43:9
 returns-2 : tie.Need-returns-2
 returns-2 c = search finish-passed
 
--- src/lib.rt:45:9
 write-row-requires : tie.Need-write-row-requires
 write-row-requires c κs = search needs
 
--- src/lib.rt:47:9
 refuse-requires-3 : tie.Need-refuse-requires-3
 refuse-requires-3 c κs = search needs
 
--- src/lib.rt:47:9
 same-length-3 : tie.Need-same-length-3
 same-length-3 c = search needs
 
--- src/lib.rt:47:9
 returns-3 : tie.Need-returns-3
 returns-3 c = search finish-short
 
--- src/lib.rt:49:5
 clear-bytes-requires : tie.Need-clear-bytes-requires
 clear-bytes-requires c κs = search needs
 
--- src/lib.rt:35:1
 same-length-4 : tie.Need-same-length-4
 same-length-4 c = search needs
 
--- src/lib.rt:35:1
 returns-4 : tie.Need-returns-4
 returns-4 c = search finish-whole
 

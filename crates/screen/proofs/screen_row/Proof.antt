@@ -4,40 +4,31 @@ use borrow.Author.Needs.{needs}
 use Rattle.screen.proofs.screen_row.Statement.{statement}
 use Rattle.screen.proofs.screen_row.Tie as tie
 
--- src/lib.rt:62:52
 slice-aggregate-draw : tie.Need-slice-aggregate-draw
 slice-aggregate-draw c = search needs
 
--- src/lib.rt:62:13
 draw-requires : tie.Need-draw-requires
 draw-requires c κs = search draw-ready
 
--- src/lib.rt:63:29
 slice-aggregate-finish : tie.Need-slice-aggregate-finish
 slice-aggregate-finish c = search needs
 
--- src/lib.rt:63:9
 finish-requires : tie.Need-finish-requires
 finish-requires c κs = search needs
 
--- src/lib.rt:63:9
 same-length : tie.Need-same-length
 same-length c = search needs
 
--- src/lib.rt:63:9
 returns : tie.Need-returns
 unfolding profileOf
 returns c = search row-shown
 
--- src/lib.rt:65:5
 refuse-requires : tie.Need-refuse-requires
 refuse-requires c κs = search needs
 
--- src/lib.rt:57:1
 same-length-2 : tie.Need-same-length-2
 same-length-2 c = search needs
 
--- src/lib.rt:57:1
 returns-2 : tie.Need-returns-2
 returns-2 c = search row-refused
 

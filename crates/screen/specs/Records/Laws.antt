@@ -64,7 +64,7 @@ kind-small (allAttributes a) = omega arith
 kind-small (clearToEnd c) = omega arith
 kind-small cursorRight = omega arith
 
-same-record : {w : Bool} {k j : ℕ} {b c : List ℕ} → w ≡ true → k ≡ j → b ≡ c → _≡_ {A = Record} (record { whole = w; kind = k; body = b }) (record { whole = true; kind = j; body = c })
+pub same-record : {w v : Bool} {k j : ℕ} {b c : List ℕ} → w ≡ v → k ≡ j → b ≡ c → _≡_ {A = Record} (record { whole = w; kind = k; body = b }) (record { whole = v; kind = j; body = c })
 same-record e f g = rw (e, f, g)
 
 record-at : (n k : ℕ) (b t : List ℕ) → n ≡ length b → n < 4294967296 → k < 65536 → recordAt 4 ((le4 n ++ (le2 k ++ b)) ++ t) ≡ record { whole = true; kind = k; body = b }

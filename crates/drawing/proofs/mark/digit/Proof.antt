@@ -3,51 +3,39 @@ use borrow.Author.Needs.{needs}
 use Rattle.drawing.proofs.mark.digit.Statement.{statement}
 use Rattle.drawing.proofs.mark.digit.Tie as tie
 
--- src/mark.rt:32:16
 cast-result : tie.Need-cast-result
 cast-result c = search needs
 
--- src/mark.rt:32:9
 returns : tie.Need-returns
 returns c = search branch depth 10 fits 20000
 
--- src/mark.rt:35:16
 cast-result-2 : tie.Need-cast-result-2
 cast-result-2 c = search needs
 
--- src/mark.rt:35:9
 returns-2 : tie.Need-returns-2
 returns-2 c = search branch depth 10 fits 20000
 
--- src/mark.rt:38:16
 cast-result-3 : tie.Need-cast-result-3
 cast-result-3 c = search needs
 
--- src/mark.rt:38:9
 returns-3 : tie.Need-returns-3
 returns-3 c = search branch depth 10 fits 20000
 
--- src/mark.rt:41:16
 cast-result-4 : tie.Need-cast-result-4
 cast-result-4 c = search needs
 
--- src/mark.rt:41:9
 returns-4 : tie.Need-returns-4
 returns-4 c = search branch depth 10 fits 20000
 
--- src/mark.rt:44:16
 cast-result-5 : tie.Need-cast-result-5
 cast-result-5 c = search needs
 
--- src/mark.rt:44:9
 returns-5 : tie.Need-returns-5
 returns-5 c = search branch depth 10 fits 20000
 
--- src/mark.rt:46:5
 cast-result-6 : tie.Need-cast-result-6
 cast-result-6 c = search needs
 
--- src/mark.rt:28:1
 returns-6 : tie.Need-returns-6
 returns-6 c = search branch depth 10 fits 20000
 

@@ -1,46 +1,36 @@
-use Rattle.drawing.proofs.Marks.{digit-small, mark-digit}
+use Rattle.drawing.proofs.Marks.{mark-digit}
 use Rattle.lending.specs.Conditions.{branch}
 use borrow.Author.Needs.{needs}
 use Rattle.drawing.proofs.mark.mark_byte.Statement.{statement}
 use Rattle.drawing.proofs.mark.mark_byte.Tie as tie
 
--- src/mark.rt:55:9
 returns : tie.Need-returns
 returns c = search branch depth 10 fits 20000
 
--- src/mark.rt:57:15
 add-if2 : tie.Need-add-if2
 add-if2 c = search needs
 
--- src/mark.rt:58:9
 returns-2 : tie.Need-returns-2
 returns-2 c = search branch depth 10 fits 20000
 
--- src/mark.rt:61:9
 returns-3 : tie.Need-returns-3
 returns-3 c = search branch depth 10 fits 20000
 
--- src/mark.rt:64:9
 returns-4 : tie.Need-returns-4
 returns-4 c = search branch depth 10 fits 20000
 
--- src/mark.rt:66:27
 sub-digit : tie.Need-sub-digit
 sub-digit c = search needs
 
--- src/mark.rt:66:27
 sub-digit-2 : tie.Need-sub-digit-2
 sub-digit-2 c = search needs
 
--- src/mark.rt:66:15
 digit-requires : tie.Need-digit-requires
 digit-requires c κs = search needs
 
--- src/mark.rt:66:5
 hex-digit-requires : tie.Need-hex-digit-requires
-hex-digit-requires c κs = search digit-small
+hex-digit-requires c κs = search needs
 
--- src/mark.rt:50:1
 returns-5 : tie.Need-returns-5
 returns-5 c = search mark-digit
 

@@ -10,35 +10,27 @@ Inv-loop list₀ start code len from to at₀ i₀ list at i = MarkBytes code le
 abbrev μ-loop : tie.MeasureT-loop
 μ-loop list₀ start code len from to at₀ i₀ list at i = to - i
 
--- src/mark.rt:83:5
 loop-holds : tie.Need-loop-holds Inv-loop μ-loop
 loop-holds c = search bytes-begin
 
--- src/mark.rt:84:34
 mark-byte-requires : tie.Need-mark-byte-requires Inv-loop μ-loop
 mark-byte-requires c κs = search needs
 
--- src/mark.rt:84:9
 push-byte-requires : tie.Need-push-byte-requires Inv-loop μ-loop
 push-byte-requires c κs = search needs
 
--- src/mark.rt:85:9
 add-i : tie.Need-add-i Inv-loop μ-loop
 add-i c = search needs
 
--- src/mark.rt:83:5
 loop-less : tie.Need-loop-less Inv-loop μ-loop
 loop-less c = search needs
 
--- src/mark.rt:83:5
 loop-again : tie.Need-loop-again Inv-loop μ-loop
 loop-again c = search bytes-turn
 
--- src/mark.rt:70:1
 same-length : tie.Need-same-length Inv-loop μ-loop
 same-length c = search needs
 
--- src/mark.rt:70:1
 returns : tie.Need-returns Inv-loop μ-loop
 returns c = search bytes-end
 

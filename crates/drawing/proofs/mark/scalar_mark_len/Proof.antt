@@ -2,15 +2,12 @@ use Rattle.lending.specs.Conditions.{branch}
 use Rattle.drawing.proofs.mark.scalar_mark_len.Statement.{statement}
 use Rattle.drawing.proofs.mark.scalar_mark_len.Tie as tie
 
--- src/mark.rt:150:9
 returns : tie.Need-returns
 returns c = search branch
 
--- src/mark.rt:153:9
 returns-2 : tie.Need-returns-2
 returns-2 c = search branch
 
--- src/mark.rt:146:1
 returns-3 : tie.Need-returns-3
 returns-3 c = search branch
 

@@ -3,39 +3,30 @@ use borrow.Author.Needs.{needs}
 use Rattle.drawing.proofs.mark.write_composed.Statement.{statement}
 use Rattle.drawing.proofs.mark.write_composed.Tie as tie
 
--- src/mark.rt:224:9
 write-tab-requires : tie.Need-write-tab-requires
 write-tab-requires c κs = search needs
 
--- src/mark.rt:224:9
 same-length : tie.Need-same-length
 same-length c = search needs
 
--- src/mark.rt:224:9
 returns : tie.Need-returns
 returns c = search composed-tab
 
--- src/mark.rt:226:8
 meets-requires : tie.Need-meets-requires
 meets-requires c κs = search needs
 
--- src/mark.rt:227:9
 write-mark-requires : tie.Need-write-mark-requires
 write-mark-requires c κs = search needs
 
--- src/mark.rt:227:9
 same-length-2 : tie.Need-same-length-2
 same-length-2 c = search needs
 
--- src/mark.rt:227:9
 returns-2 : tie.Need-returns-2
 returns-2 c = search composed-mark
 
--- src/mark.rt:229:9
 advance-requires : tie.Need-advance-requires
 advance-requires c κs = search needs
 
--- src/mark.rt:212:1
 returns-3 : tie.Need-returns-3
 returns-3 c = search composed-beside
 

@@ -4,35 +4,27 @@ use borrow.Author.Needs.{needs}
 use Rattle.drawing.proofs.mark.write_mark.Statement.{statement}
 use Rattle.drawing.proofs.mark.write_mark.Tie as tie
 
--- src/mark.rt:128:8
 meets-requires : tie.Need-meets-requires
 meets-requires c κs = search needs
 
--- src/mark.rt:129:13
 with-style-requires : tie.Need-with-style-requires
 with-style-requires c κs = search needs
 
--- src/mark.rt:131:13
 push-mark-requires : tie.Need-push-mark-requires
 push-mark-requires c κs = search needs
 
--- src/mark.rt:132:13
 advance-requires : tie.Need-advance-requires
 advance-requires c κs = search (needs, styled-room)
 
--- src/mark.rt:133:9
 same-length : tie.Need-same-length
 same-length c = search needs
 
--- src/mark.rt:133:9
 returns : tie.Need-returns
 returns c = search mark-in
 
--- src/mark.rt:138:9
 advance-requires-2 : tie.Need-advance-requires-2
 advance-requires-2 c κs = search needs
 
--- src/mark.rt:115:1
 returns-2 : tie.Need-returns-2
 returns-2 c = search mark-out
 

@@ -3,19 +3,15 @@ use borrow.Author.Needs.{needs}
 use Rattle.drawing.proofs.mark.write_scalar_mark.Statement.{statement}
 use Rattle.drawing.proofs.mark.write_scalar_mark.Tie as tie
 
--- src/mark.rt:169:32
 scalar-mark-len-requires : tie.Need-scalar-mark-len-requires
 scalar-mark-len-requires c κs = search needs
 
--- src/mark.rt:169:5
 write-mark-requires : tie.Need-write-mark-requires
 write-mark-requires c κs = search scalar-room
 
--- src/mark.rt:159:1
 same-length : tie.Need-same-length
 same-length c = search needs
 
--- src/mark.rt:159:1
 returns : tie.Need-returns
 returns c = search scalar-wrote
 

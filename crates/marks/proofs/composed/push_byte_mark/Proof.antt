@@ -3,35 +3,27 @@ use borrow.Author.Needs.{needs}
 use Rattle.marks.proofs.composed.push_byte_mark.Statement.{statement}
 use Rattle.marks.proofs.composed.push_byte_mark.Tie as tie
 
--- src/composed.rt:63:9
 push-byte-requires : tie.Need-push-byte-requires
 push-byte-requires c κs = search needs
 
--- src/composed.rt:64:31
 hex-digit-requires : tie.Need-hex-digit-requires
 hex-digit-requires c κs = search needs
 
--- src/composed.rt:64:9
 push-byte-requires-2 : tie.Need-push-byte-requires-2
 push-byte-requires-2 c κs = search needs
 
--- src/composed.rt:65:31
 hex-digit-requires-2 : tie.Need-hex-digit-requires-2
 hex-digit-requires-2 c κs = search needs
 
--- src/composed.rt:65:9
 push-byte-requires-3 : tie.Need-push-byte-requires-3
 push-byte-requires-3 c κs = search needs
 
--- src/composed.rt:66:5
 push-byte-requires-4 : tie.Need-push-byte-requires-4
 push-byte-requires-4 c κs = search needs
 
--- src/composed.rt:60:1
 same-length : tie.Need-same-length
 same-length c = search needs
 
--- src/composed.rt:60:1
 returns : tie.Need-returns
 returns c = search byte-pushed
 

@@ -3,23 +3,18 @@ use borrow.Author.Needs.{needs}
 use Rattle.marks.proofs.composed.push_digit.Statement.{statement}
 use Rattle.marks.proofs.composed.push_digit.Tie as tie
 
--- src/composed.rt:22:34
 cast-hex-digit : tie.Need-cast-hex-digit
 cast-hex-digit c = search needs
 
--- src/composed.rt:22:24
 hex-digit-requires : tie.Need-hex-digit-requires
 hex-digit-requires c κs = search needs
 
--- src/composed.rt:22:5
 push-byte-requires : tie.Need-push-byte-requires
 push-byte-requires c κs = search needs
 
--- src/composed.rt:19:1
 same-length : tie.Need-same-length
 same-length c = search needs
 
--- src/composed.rt:19:1
 returns : tie.Need-returns
 returns c = search digit-pushed
 

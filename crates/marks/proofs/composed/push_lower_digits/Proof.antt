@@ -3,27 +3,21 @@ use borrow.Author.Needs.{needs}
 use Rattle.marks.proofs.composed.push_lower_digits.Statement.{statement}
 use Rattle.marks.proofs.composed.push_lower_digits.Tie as tie
 
--- src/composed.rt:43:9
 push-digit-requires : tie.Need-push-digit-requires
 push-digit-requires c κs = search needs
 
--- src/composed.rt:44:9
 push-digit-requires-2 : tie.Need-push-digit-requires-2
 push-digit-requires-2 c κs = search needs
 
--- src/composed.rt:45:9
 push-digit-requires-3 : tie.Need-push-digit-requires-3
 push-digit-requires-3 c κs = search needs
 
--- src/composed.rt:46:5
 push-digit-requires-4 : tie.Need-push-digit-requires-4
 push-digit-requires-4 c κs = search needs
 
--- src/composed.rt:40:1
 same-length : tie.Need-same-length
 same-length c = search needs
 
--- src/composed.rt:40:1
 returns : tie.Need-returns
 returns c = search lower-pushed
 

@@ -3,31 +3,24 @@ use borrow.Author.Needs.{needs}
 use Rattle.marks.proofs.composed.push_scalar_mark.Statement.{statement}
 use Rattle.marks.proofs.composed.push_scalar_mark.Tie as tie
 
--- src/composed.rt:53:32
 slice-aggregate-push-bytes : tie.Need-slice-aggregate-push-bytes
 slice-aggregate-push-bytes c = search needs
 
--- src/composed.rt:53:9
 push-bytes-requires : tie.Need-push-bytes-requires
 push-bytes-requires c κs = search needs
 
--- src/composed.rt:54:9
 push-upper-digits-requires : tie.Need-push-upper-digits-requires
 push-upper-digits-requires c κs = search needs
 
--- src/composed.rt:55:9
 push-lower-digits-requires : tie.Need-push-lower-digits-requires
 push-lower-digits-requires c κs = search needs
 
--- src/composed.rt:56:5
 push-byte-requires : tie.Need-push-byte-requires
 push-byte-requires c κs = search needs
 
--- src/composed.rt:50:1
 same-length : tie.Need-same-length
 same-length c = search needs
 
--- src/composed.rt:50:1
 returns : tie.Need-returns
 returns c = search mark-pushed
 

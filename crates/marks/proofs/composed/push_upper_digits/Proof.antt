@@ -3,35 +3,27 @@ use borrow.Author.Needs.{needs}
 use Rattle.marks.proofs.composed.push_upper_digits.Statement.{statement}
 use Rattle.marks.proofs.composed.push_upper_digits.Tie as tie
 
--- src/composed.rt:30:9
 returns : tie.Need-returns
 returns c = search upper-none
 
--- src/composed.rt:33:9
 push-digit-requires : tie.Need-push-digit-requires
 push-digit-requires c κs = search needs
 
--- src/composed.rt:33:9
 same-length : tie.Need-same-length
 same-length c = search needs
 
--- src/composed.rt:33:9
 returns-2 : tie.Need-returns-2
 returns-2 c = search upper-one
 
--- src/composed.rt:35:9
 push-digit-requires-2 : tie.Need-push-digit-requires-2
 push-digit-requires-2 c κs = search needs
 
--- src/composed.rt:36:5
 push-digit-requires-3 : tie.Need-push-digit-requires-3
 push-digit-requires-3 c κs = search needs
 
--- src/composed.rt:26:1
 same-length-2 : tie.Need-same-length-2
 same-length-2 c = search needs
 
--- src/composed.rt:26:1
 returns-3 : tie.Need-returns-3
 returns-3 c = search upper-two
 

@@ -3,35 +3,27 @@ use borrow.Author.Needs.{needs}
 use Rattle.screen.proofs.body.are_fields.Statement.{statement}
 use Rattle.screen.proofs.body.are_fields.Tie as tie
 
--- src/body.rt:21:17
 byte-at-requires : tie.Need-byte-at-requires
 byte-at-requires c κs = search needs
 
--- src/body.rt:22:17
 byte-at-requires-2 : tie.Need-byte-at-requires-2
 byte-at-requires-2 c κs = search needs
 
--- src/body.rt:22:44
 byte-at-requires-3 : tie.Need-byte-at-requires-3
 byte-at-requires-3 c κs = search needs
 
--- src/body.rt:22:71
 byte-at-requires-4 : tie.Need-byte-at-requires-4
 byte-at-requires-4 c κs = search needs
 
--- src/body.rt:23:13
 is-color-requires : tie.Need-is-color-requires
 is-color-requires c κs = search needs
 
--- src/body.rt:23:34
 is-color-requires-2 : tie.Need-is-color-requires-2
 is-color-requires-2 c κs = search needs
 
--- src/body.rt:23:54
 is-color-requires-3 : tie.Need-is-color-requires-3
 is-color-requires-3 c κs = search needs
 
--- src/body.rt:18:1
 returns : tie.Need-returns
 returns c = search fields-is
 

@@ -3,35 +3,27 @@ use borrow.Author.Needs.{needs}
 use Rattle.screen.proofs.body.is_color.Statement.{statement}
 use Rattle.screen.proofs.body.is_color.Tie as tie
 
--- src/body.rt:12:9
 byte-at-requires : tie.Need-byte-at-requires
 byte-at-requires c κs = search needs
 
--- src/body.rt:13:31
 add-byte-at : tie.Need-add-byte-at
 add-byte-at c = search needs
 
--- src/body.rt:13:17
 byte-at-requires-2 : tie.Need-byte-at-requires-2
 byte-at-requires-2 c κs = search needs
 
--- src/body.rt:13:62
 add-byte-at-2 : tie.Need-add-byte-at-2
 add-byte-at-2 c = search needs
 
--- src/body.rt:13:48
 byte-at-requires-3 : tie.Need-byte-at-requires-3
 byte-at-requires-3 c κs = search needs
 
--- src/body.rt:14:33
 add-byte-at-3 : tie.Need-add-byte-at-3
 add-byte-at-3 c = search needs
 
--- src/body.rt:14:19
 byte-at-requires-4 : tie.Need-byte-at-requires-4
 byte-at-requires-4 c κs = search needs
 
--- src/body.rt:8:1
 returns : tie.Need-returns
 returns c = search color-is
 

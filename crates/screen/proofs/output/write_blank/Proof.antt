@@ -3,35 +3,27 @@ use borrow.Author.Needs.{needs}
 use Rattle.screen.proofs.output.write_blank.Statement.{statement}
 use Rattle.screen.proofs.output.write_blank.Tie as tie
 
--- src/output.rt:53:33
 slice-aggregate-push-bytes : tie.Need-slice-aggregate-push-bytes
 slice-aggregate-push-bytes c = search needs
 
--- src/output.rt:53:9
 push-bytes-requires : tie.Need-push-bytes-requires
 push-bytes-requires c κs = search needs
 
--- src/output.rt:55:9
 write-body-requires : tie.Need-write-body-requires
 write-body-requires c κs = search needs
 
--- src/output.rt:55:9
 same-length : tie.Need-same-length
 same-length c = search needs
 
--- src/output.rt:55:9
 returns : tie.Need-returns
 returns c = search blank-plain
 
--- src/output.rt:57:5
 write-background-requires : tie.Need-write-background-requires
 write-background-requires c κs = search needs
 
--- src/output.rt:49:1
 same-length-2 : tie.Need-same-length-2
 same-length-2 c = search needs
 
--- src/output.rt:49:1
 returns-2 : tie.Need-returns-2
 returns-2 c = search blank-colored
 

@@ -9,31 +9,24 @@ Inv-loop list place count out₀ start at₀ n₀ out at n = WriteBlanks list pl
 abbrev μ-loop : tie.MeasureT-loop
 μ-loop list place count out₀ start at₀ n₀ out at n = n
 
--- src/output.rt:96:5
 loop-holds : tie.Need-loop-holds Inv-loop μ-loop
 loop-holds c = search blanks-begin
 
--- src/output.rt:97:9
 write-blank-requires : tie.Need-write-blank-requires Inv-loop μ-loop
 write-blank-requires c κs = search needs
 
--- src/output.rt:98:9
 sub-n : tie.Need-sub-n Inv-loop μ-loop
 sub-n c = search needs
 
--- src/output.rt:96:5
 loop-less : tie.Need-loop-less Inv-loop μ-loop
 loop-less c = search needs
 
--- src/output.rt:96:5
 loop-again : tie.Need-loop-again Inv-loop μ-loop
 loop-again c = search blanks-turn
 
--- src/output.rt:91:1
 same-length : tie.Need-same-length Inv-loop μ-loop
 same-length c = search needs
 
--- src/output.rt:91:1
 returns : tie.Need-returns Inv-loop μ-loop
 returns c = search blanks-end
 

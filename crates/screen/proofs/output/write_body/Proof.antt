@@ -3,31 +3,24 @@ use borrow.Author.Needs.{needs}
 use Rattle.screen.proofs.output.write_body.Statement.{statement}
 use Rattle.screen.proofs.output.write_body.Tie as tie
 
--- src/output.rt:33:36
 slice-aggregate-push-bytes : tie.Need-slice-aggregate-push-bytes
 slice-aggregate-push-bytes c = search needs
 
--- src/output.rt:33:9
 push-bytes-requires : tie.Need-push-bytes-requires
 push-bytes-requires c κs = search needs
 
--- src/output.rt:33:9
 same-length : tie.Need-same-length
 same-length c = search needs
 
--- src/output.rt:33:9
 returns : tie.Need-returns
 returns c = search plain-written
 
--- src/output.rt:35:5
 write-part-requires : tie.Need-write-part-requires
 write-part-requires c κs = search needs
 
--- src/output.rt:28:1
 same-length-2 : tie.Need-same-length-2
 same-length-2 c = search needs
 
--- src/output.rt:28:1
 returns-2 : tie.Need-returns-2
 returns-2 c = search body-written
 

@@ -3,39 +3,30 @@ use borrow.Author.Needs.{needs}
 use Rattle.screen.proofs.output.write_part.Statement.{statement}
 use Rattle.screen.proofs.output.write_part.Tie as tie
 
--- src/output.rt:22:9
 smaller-requires : tie.Need-smaller-requires
 smaller-requires c κs = search needs
 
--- src/output.rt:23:9
 part-len-requires : tie.Need-part-len-requires
 part-len-requires c κs = search needs
 
--- src/output.rt:24:37
 add-push-bytes : tie.Need-add-push-bytes
 add-push-bytes c = let s = c .before .before .before .before .before in let h = part-inside (s .args .list .now) (s .args .start) (s .args .len) (c .before .before .smaller .result) (c .before .part-len .result) (c .before .before .smaller .ensures) (c .before .part-len .ensures) in search (needs, h)
 
--- src/output.rt:24:25
 sub-push-bytes : tie.Need-sub-push-bytes
 sub-push-bytes c = search needs
 
--- src/output.rt:24:25
 part-push-bytes-start : tie.Need-part-push-bytes-start
 part-push-bytes-start c = search needs
 
--- src/output.rt:24:25
 part-push-bytes-end : tie.Need-part-push-bytes-end
 part-push-bytes-end c = search (needs, part-inside)
 
--- src/output.rt:24:5
 push-bytes-requires : tie.Need-push-bytes-requires
 push-bytes-requires c κs = search needs
 
--- src/output.rt:19:1
 same-length : tie.Need-same-length
 same-length c = search needs
 
--- src/output.rt:19:1
 returns : tie.Need-returns
 returns c = search part-written
 

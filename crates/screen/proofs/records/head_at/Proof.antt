@@ -3,31 +3,24 @@ use borrow.Author.Needs.{needs}
 use Rattle.screen.proofs.records.head_at.Statement.{statement}
 use Rattle.screen.proofs.records.head_at.Tie as tie
 
--- src/records.rt:44:9
 read-length-requires : tie.Need-read-length-requires
 read-length-requires c κs = search needs
 
--- src/records.rt:45:31
 add-read-le2 : tie.Need-add-read-le2
 add-read-le2 c = search needs
 
--- src/records.rt:45:9
 read-le2-requires : tie.Need-read-le2-requires
 read-le2-requires c κs = search needs
 
--- src/records.rt:46:17
 add-start : tie.Need-add-start
 add-start c = search needs
 
--- src/records.rt:46:17
 add-start-2 : tie.Need-add-start-2
 add-start-2 c = search needs
 
--- src/records.rt:51:16
 add-t7 : tie.Need-add-t7
 add-t7 c = search needs
 
--- src/records.rt:40:1
 returns : tie.Need-returns
 returns c = search head-is
 

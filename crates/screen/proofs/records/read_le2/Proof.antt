@@ -4,35 +4,27 @@ use borrow.Author.Needs.{needs}
 use Rattle.screen.proofs.records.read_le2.Statement.{statement}
 use Rattle.screen.proofs.records.read_le2.Tie as tie
 
--- src/records.rt:23:5
 byte-at-requires : tie.Need-byte-at-requires
 byte-at-requires c κs = search needs
 
--- src/records.rt:23:5
 cast-result : tie.Need-cast-result
 cast-result c = search needs
 
--- src/records.rt:23:54
 add-byte-at : tie.Need-add-byte-at
 add-byte-at c = search needs
 
--- src/records.rt:23:40
 byte-at-requires-2 : tie.Need-byte-at-requires-2
 byte-at-requires-2 c κs = search needs
 
--- src/records.rt:23:40
 cast-result-2 : tie.Need-cast-result-2
 cast-result-2 c = search needs
 
--- src/records.rt:23:34
 mul-result : tie.Need-mul-result
 mul-result c = search needs
 
--- src/records.rt:23:5
 add-result : tie.Need-add-result
 add-result c = search needs
 
--- src/records.rt:18:1
 returns : tie.Need-returns
 returns c = (search le2-is, omega (arith, c .before .byte-at .ok, c .byte-at2 .ok))
 

@@ -4,31 +4,24 @@ use borrow.Author.Needs.{needs}
 use Rattle.screen.proofs.records.read_length.Statement.{statement}
 use Rattle.screen.proofs.records.read_length.Tie as tie
 
--- src/records.rt:32:9
 read-le2-requires : tie.Need-read-le2-requires
 read-le2-requires c κs = search needs
 
--- src/records.rt:34:9
 returns : tie.Need-returns
 returns c = (search length-two, omega (arith, c .before .read-le2 .ensures .1))
 
--- src/records.rt:36:34
 add-read-le2 : tie.Need-add-read-le2
 add-read-le2 c = search needs
 
--- src/records.rt:36:19
 read-le2-requires-2 : tie.Need-read-le2-requires-2
 read-le2-requires-2 c κs = search needs
 
--- src/records.rt:36:11
 mul-result : tie.Need-mul-result
 mul-result c = search needs
 
--- src/records.rt:36:5
 add-result : tie.Need-add-result
 add-result c = search needs
 
--- src/records.rt:27:1
 returns-2 : tie.Need-returns-2
 returns-2 c = (search length-four, omega (arith, c .before .before .read-le2 .ensures .1, c .read-le22 .ensures .1))
 

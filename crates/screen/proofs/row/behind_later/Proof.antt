@@ -10,31 +10,24 @@ Inv-loop list row from end i₀ i = BehindLater list row from end i
 abbrev μ-loop : tie.MeasureT-loop
 μ-loop list row from end i₀ i = end - i
 
--- src/row.rt:64:5
 loop-holds : tie.Need-loop-holds Inv-loop μ-loop
 loop-holds c = search later-begin
 
--- src/row.rt:65:12
 is-later-requires : tie.Need-is-later-requires Inv-loop μ-loop
 is-later-requires c κs = search needs
 
--- src/row.rt:66:13
 add-i : tie.Need-add-i Inv-loop μ-loop
 add-i c = search needs
 
--- src/row.rt:64:5
 loop-less : tie.Need-loop-less Inv-loop μ-loop
 loop-less c = search needs
 
--- src/row.rt:64:5
 loop-again : tie.Need-loop-again Inv-loop μ-loop
 loop-again c = search later-turn
 
--- src/row.rt:68:13
 returns : tie.Need-returns Inv-loop μ-loop
 returns c = search later-stop
 
--- src/row.rt:59:1
 returns-2 : tie.Need-returns-2 Inv-loop μ-loop
 returns-2 c = search later-end
 

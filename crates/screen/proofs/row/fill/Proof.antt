@@ -10,31 +10,24 @@ Inv-loop row₀ from to cluster len body i₀ row i = Fill row₀ from to cluste
 abbrev μ-loop : tie.MeasureT-loop
 μ-loop row₀ from to cluster len body i₀ row i = to - i
 
--- src/row.rt:87:5
 loop-holds : tie.Need-loop-holds Inv-loop μ-loop
 loop-holds c = search fill-begin
 
--- src/row.rt:88:9
 set-cell-requires : tie.Need-set-cell-requires Inv-loop μ-loop
 set-cell-requires c κs = search needs
 
--- src/row.rt:89:9
 add-i : tie.Need-add-i Inv-loop μ-loop
 add-i c = search needs
 
--- src/row.rt:87:5
 loop-less : tie.Need-loop-less Inv-loop μ-loop
 loop-less c = search needs
 
--- src/row.rt:87:5
 loop-again : tie.Need-loop-again Inv-loop μ-loop
 loop-again c = search fill-turn
 
--- src/row.rt:75:1
 same-length : tie.Need-same-length Inv-loop μ-loop
 same-length c = search needs
 
--- src/row.rt:75:1
 returns : tie.Need-returns Inv-loop μ-loop
 returns c = search fill-end
 

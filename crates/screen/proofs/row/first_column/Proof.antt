@@ -9,31 +9,24 @@ Inv-loop list row at i₀ i = FirstColumn list row at i
 abbrev μ-loop : tie.MeasureT-loop
 μ-loop list row at i₀ i = i
 
--- src/row.rt:49:5
 loop-holds : tie.Need-loop-holds Inv-loop μ-loop
 loop-holds c = search first-begin
 
--- src/row.rt:50:9
 sub-i : tie.Need-sub-i Inv-loop μ-loop
 sub-i c = search needs
 
--- src/row.rt:51:12
 is-later-requires : tie.Need-is-later-requires Inv-loop μ-loop
 is-later-requires c κs = search needs
 
--- src/row.rt:49:5
 loop-less : tie.Need-loop-less Inv-loop μ-loop
 loop-less c = search needs
 
--- src/row.rt:49:5
 loop-again : tie.Need-loop-again Inv-loop μ-loop
 loop-again c = search first-turn
 
--- src/row.rt:52:13
 returns : tie.Need-returns Inv-loop μ-loop
 returns c = search first-here
 
--- src/row.rt:44:1
 returns-2 : tie.Need-returns-2 Inv-loop μ-loop
 returns-2 c = search first-zero
 

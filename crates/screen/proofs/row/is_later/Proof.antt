@@ -3,43 +3,33 @@ use borrow.Author.Needs.{needs}
 use Rattle.screen.proofs.row.is_later.Statement.{statement}
 use Rattle.screen.proofs.row.is_later.Tie as tie
 
--- src/row.rt:35:23
 mul-cluster : tie.Need-mul-cluster
 mul-cluster c = search needs
 
--- src/row.rt:35:19
 mul-cluster-2 : tie.Need-mul-cluster-2
 mul-cluster-2 c = search needs
 
--- src/row.rt:35:19
 shared-slice-read-cluster : tie.Need-shared-slice-read-cluster
 shared-slice-read-cluster c = search needs
 
--- src/row.rt:36:19
 mul-len : tie.Need-mul-len
 mul-len c = search needs
 
--- src/row.rt:36:19
 add-len : tie.Need-add-len
 add-len c = search needs
 
--- src/row.rt:36:15
 mul-len-2 : tie.Need-mul-len-2
 mul-len-2 c = search needs
 
--- src/row.rt:36:15
 shared-slice-read-len : tie.Need-shared-slice-read-len
 shared-slice-read-len c = search needs
 
--- src/row.rt:38:9
 returns : tie.Need-returns
 returns c = search blank-cell
 
--- src/row.rt:40:5
 part-len-requires : tie.Need-part-len-requires
 part-len-requires c κs = search needs
 
--- src/row.rt:31:1
 returns-2 : tie.Need-returns-2
 returns-2 c = search cluster-cell
 

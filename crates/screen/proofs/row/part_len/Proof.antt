@@ -3,19 +3,15 @@ use borrow.Author.Needs.{needs}
 use Rattle.screen.proofs.row.part_len.Statement.{statement}
 use Rattle.screen.proofs.row.part_len.Tie as tie
 
--- src/row.rt:16:9
 returns : tie.Need-returns
 returns c = search no-part
 
--- src/row.rt:18:18
 sub-smaller : tie.Need-sub-smaller
 sub-smaller c = search needs
 
--- src/row.rt:18:5
 smaller-requires : tie.Need-smaller-requires
 smaller-requires c κs = search needs
 
--- src/row.rt:12:1
 returns-2 : tie.Need-returns-2
 returns-2 c = search part-size
 

@@ -4,55 +4,42 @@ use borrow.Author.Needs.{needs}
 use Rattle.screen.proofs.row.set_cell.Statement.{statement}
 use Rattle.screen.proofs.row.set_cell.Tie as tie
 
--- src/row.rt:25:9
 mul-row : tie.Need-mul-row
 mul-row c = search needs
 
--- src/row.rt:25:5
 mul-row-2 : tie.Need-mul-row-2
 mul-row-2 c = search needs
 
--- src/row.rt:25:5
 slice-write-row : tie.Need-slice-write-row
 slice-write-row c = search needs
 
--- src/row.rt:26:9
 mul-row-3 : tie.Need-mul-row-3
 mul-row-3 c = search needs
 
--- src/row.rt:26:9
 add-row : tie.Need-add-row
 add-row c = search needs
 
--- src/row.rt:26:5
 mul-row-4 : tie.Need-mul-row-4
 mul-row-4 c = search needs
 
--- src/row.rt:26:5
 slice-write-row-2 : tie.Need-slice-write-row-2
 slice-write-row-2 c = lt-length-set (c .args .row .now) _ _ (omega (arith, c .pre))
 
--- src/row.rt:27:9
 mul-row-5 : tie.Need-mul-row-5
 mul-row-5 c = search needs
 
--- src/row.rt:27:9
 add-row-2 : tie.Need-add-row-2
 add-row-2 c = search needs
 
--- src/row.rt:27:5
 mul-row-6 : tie.Need-mul-row-6
 mul-row-6 c = search needs
 
--- src/row.rt:27:5
 slice-write-row-3 : tie.Need-slice-write-row-3
 slice-write-row-3 c = search needs
 
--- src/row.rt:21:1
 same-length : tie.Need-same-length
 same-length c = search needs
 
--- src/row.rt:21:1
 returns : tie.Need-returns
 returns c = search needs
 

@@ -3,23 +3,18 @@ use borrow.Author.Needs.{needs}
 use Rattle.screen.proofs.row.set_cluster.Statement.{statement}
 use Rattle.screen.proofs.row.set_cluster.Tie as tie
 
--- src/row.rt:105:5
 set-cell-requires : tie.Need-set-cell-requires
 set-cell-requires c κs = search needs
 
--- src/row.rt:106:15
 add-fill : tie.Need-add-fill
 add-fill c = search needs
 
--- src/row.rt:106:5
 fill-requires : tie.Need-fill-requires
 fill-requires c κs = search needs
 
--- src/row.rt:94:1
 same-length : tie.Need-same-length
 same-length c = search needs
 
--- src/row.rt:94:1
 returns : tie.Need-returns
 returns c = search cluster-set
 

@@ -3,15 +3,12 @@ use borrow.Author.Needs.{needs}
 use Rattle.screen.proofs.screen.behind.Statement.{statement}
 use Rattle.screen.proofs.screen.behind.Tie as tie
 
--- src/screen.rt:161:9
 returns : tie.Need-returns
 returns c = search behind-more
 
--- src/screen.rt:169:5
 with-at-requires : tie.Need-with-at-requires
 with-at-requires c κs = search needs
 
--- src/screen.rt:157:1
 returns-2 : tie.Need-returns-2
 returns-2 c = search behind-within
 

@@ -3,23 +3,18 @@ use borrow.Author.Needs.{needs}
 use Rattle.screen.proofs.screen.clear_to_end.Statement.{statement}
 use Rattle.screen.proofs.screen.clear_to_end.Tie as tie
 
--- src/screen.rt:223:9
 cursor-requires : tie.Need-cursor-requires
 cursor-requires c κs = search needs
 
--- src/screen.rt:224:9
 reach-requires : tie.Need-reach-requires
 reach-requires c κs = search clear-reaches
 
--- src/screen.rt:225:5
 cut-left-requires : tie.Need-cut-left-requires
 cut-left-requires c κs = search clear-cuts
 
--- src/screen.rt:219:1
 same-length : tie.Need-same-length
 same-length c = search needs
 
--- src/screen.rt:219:1
 returns : tie.Need-returns
 returns c = let s = c .before .before .before .before .before .before .before .before in let a = c .before .before .before .before .before .before .reach in clear-step _ _ _ _ _ (s .before .before .before .pre) _ (s .cursor .ensures) _ _ (a .ensures) (a .kept .0) _ (c .before .before .cut-left .ensures) (search needs)
 

@@ -3,15 +3,12 @@ use borrow.Author.Needs.{needs}
 use Rattle.screen.proofs.screen.cursor.Statement.{statement}
 use Rattle.screen.proofs.screen.cursor.Tie as tie
 
--- src/screen.rt:41:16
 sub-result : tie.Need-sub-result
 sub-result c = search needs
 
--- src/screen.rt:41:9
 returns : tie.Need-returns
 returns c = search branch
 
--- src/screen.rt:36:1
 returns-2 : tie.Need-returns-2
 returns-2 c = search branch
 

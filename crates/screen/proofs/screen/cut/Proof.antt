@@ -2,19 +2,15 @@ use borrow.Author.Needs.{needs}
 use Rattle.screen.proofs.screen.cut.Statement.{statement}
 use Rattle.screen.proofs.screen.cut.Tie as tie
 
--- src/screen.rt:152:5
 cut-left-requires : tie.Need-cut-left-requires
 cut-left-requires c κs = search needs
 
--- src/screen.rt:153:5
 cut-right-requires : tie.Need-cut-right-requires
 cut-right-requires c κs = search needs
 
--- src/screen.rt:148:1
 same-length : tie.Need-same-length
 same-length c = search needs
 
--- src/screen.rt:148:1
 returns : tie.Need-returns
 returns c = cc
 

@@ -3,35 +3,27 @@ use borrow.Author.Needs.{needs}
 use Rattle.screen.proofs.screen.cut_left.Statement.{statement}
 use Rattle.screen.proofs.screen.cut_left.Tie as tie
 
--- src/screen.rt:129:12
 is-later-requires : tie.Need-is-later-requires
 is-later-requires c κs = search needs
 
--- src/screen.rt:130:17
 first-column-requires : tie.Need-first-column-requires
 first-column-requires c κs = search needs
 
--- src/screen.rt:131:13
 fill-requires : tie.Need-fill-requires
 fill-requires c κs = let s = c .before .before .before .before .before .before .before .before .before in left-fills _ _ _ _ (s .pre) (c .before .before .before .before .before .before .if1 .taken) _ (c .before .first-column .ensures)
 
--- src/screen.rt:124:1
 same-length : tie.Need-same-length
 same-length c = search needs
 
--- src/screen.rt:124:1
 returns : tie.Need-returns
 returns c = search left-cut
 
--- src/screen.rt:124:1
 same-length-2 : tie.Need-same-length-2
 same-length-2 c = search needs
 
--- src/screen.rt:124:1
 returns-2 : tie.Need-returns-2
 returns-2 c = search left-whole
 
--- src/screen.rt:124:1
 returns-3 : tie.Need-returns-3
 returns-3 c = search left-past
 

@@ -3,23 +3,18 @@ use borrow.Author.Needs.{needs}
 use Rattle.screen.proofs.screen.cut_right.Statement.{statement}
 use Rattle.screen.proofs.screen.cut_right.Tie as tie
 
--- src/screen.rt:142:13
 behind-later-requires : tie.Need-behind-later-requires
 behind-later-requires c κs = search needs
 
--- src/screen.rt:143:9
 fill-requires : tie.Need-fill-requires
 fill-requires c κs = search right-fills
 
--- src/screen.rt:137:1
 same-length : tie.Need-same-length
 same-length c = search needs
 
--- src/screen.rt:137:1
 returns : tie.Need-returns
 returns c = search right-cut
 
--- src/screen.rt:137:1
 returns-2 : tie.Need-returns-2
 returns-2 c = search right-past
 

@@ -12,47 +12,36 @@ Inv-loop profile list row₀ width t₀ at₀ row t at = Drawing (profileOf prof
 abbrev μ-loop : tie.MeasureT-loop
 μ-loop profile list row₀ width t₀ at₀ row t at = length list - at
 
--- src/screen.rt:365:5
 loop-holds : tie.Need-loop-holds Inv-loop μ-loop
 loop-holds c = search draw-begin
 
--- src/screen.rt:366:13
 head-at-requires : tie.Need-head-at-requires Inv-loop μ-loop
 head-at-requires c κs = search head-ready
 
--- src/screen.rt:368:13
 on-record-requires : tie.Need-on-record-requires Inv-loop μ-loop
 on-record-requires c κs = (search body-ready, search needs)
 
--- src/screen.rt:369:18
 add-at : tie.Need-add-at Inv-loop μ-loop
 add-at c = let s = c .before .before .before .before .before .before in let h = next-inside _ _ _ _ _ _ _ (s .before .before .loop .inv) (s .before .loop-test .taken) _ (s .head-at .ensures) (c .before .before .before .before .before .if1 .taken) in search (needs, h)
 
--- src/screen.rt:365:5
 loop-less : tie.Need-loop-less Inv-loop μ-loop
 loop-less c = search draw-less
 
--- src/screen.rt:365:5
 loop-again : tie.Need-loop-again Inv-loop μ-loop
 loop-again c = search draw-turn
 
--- src/screen.rt:371:13
 with-refusal-requires : tie.Need-with-refusal-requires Inv-loop μ-loop
 with-refusal-requires c κs = search needs
 
--- src/screen.rt:371:13
 same-length : tie.Need-same-length Inv-loop μ-loop
 same-length c = search needs
 
--- src/screen.rt:371:13
 returns : tie.Need-returns Inv-loop μ-loop
 returns c = search draw-cut
 
--- src/screen.rt:353:1
 same-length-2 : tie.Need-same-length-2 Inv-loop μ-loop
 same-length-2 c = search needs
 
--- src/screen.rt:353:1
 returns-2 : tie.Need-returns-2 Inv-loop μ-loop
 returns-2 c = search draw-done
 

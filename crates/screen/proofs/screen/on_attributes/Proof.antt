@@ -3,35 +3,27 @@ use borrow.Author.Needs.{needs}
 use Rattle.screen.proofs.screen.on_attributes.Statement.{statement}
 use Rattle.screen.proofs.screen.on_attributes.Tie as tie
 
--- src/screen.rt:282:29
 add-body : tie.Need-add-body
 add-body c = search needs
 
--- src/screen.rt:282:16
 sub-body : tie.Need-sub-body
 sub-body c = search needs
 
--- src/screen.rt:282:16
 part-body-start : tie.Need-part-body-start
 part-body-start c = search needs
 
--- src/screen.rt:282:16
 part-body-end : tie.Need-part-body-end
 part-body-end c = search needs
 
--- src/screen.rt:283:22
 are-fields-requires : tie.Need-are-fields-requires
 are-fields-requires c κs = search needs
 
--- src/screen.rt:284:9
 returns : tie.Need-returns
 returns c = search attributes-set
 
--- src/screen.rt:292:5
 with-refusal-requires : tie.Need-with-refusal-requires
 with-refusal-requires c κs = search needs
 
--- src/screen.rt:278:1
 returns-2 : tie.Need-returns-2
 returns-2 c = search attributes-malformed
 

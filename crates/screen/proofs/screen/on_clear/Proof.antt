@@ -3,43 +3,33 @@ use borrow.Author.Needs.{needs}
 use Rattle.screen.proofs.screen.on_clear.Statement.{statement}
 use Rattle.screen.proofs.screen.on_clear.Tie as tie
 
--- src/screen.rt:306:29
 add-body : tie.Need-add-body
 add-body c = search needs
 
--- src/screen.rt:306:16
 sub-body : tie.Need-sub-body
 sub-body c = search needs
 
--- src/screen.rt:306:16
 part-body-start : tie.Need-part-body-start
 part-body-start c = search needs
 
--- src/screen.rt:306:16
 part-body-end : tie.Need-part-body-end
 part-body-end c = search needs
 
--- src/screen.rt:307:21
 is-color-requires : tie.Need-is-color-requires
 is-color-requires c κs = search needs
 
--- src/screen.rt:308:9
 clear-to-end-requires : tie.Need-clear-to-end-requires
 clear-to-end-requires c κs = search needs
 
--- src/screen.rt:308:9
 same-length : tie.Need-same-length
 same-length c = search needs
 
--- src/screen.rt:308:9
 returns : tie.Need-returns
 returns c = search clear-formed
 
--- src/screen.rt:310:5
 with-refusal-requires : tie.Need-with-refusal-requires
 with-refusal-requires c κs = search needs
 
--- src/screen.rt:295:1
 returns-2 : tie.Need-returns-2
 returns-2 c = search clear-malformed
 

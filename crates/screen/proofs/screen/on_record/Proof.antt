@@ -3,47 +3,36 @@ use borrow.Author.Needs.{needs}
 use Rattle.screen.proofs.screen.on_record.Statement.{statement}
 use Rattle.screen.proofs.screen.on_record.Tie as tie
 
--- src/screen.rt:341:61
 add-on-text : tie.Need-add-on-text
 add-on-text c = search needs
 
--- src/screen.rt:341:9
 on-text-requires : tie.Need-on-text-requires
 on-text-requires c κs = search needs
 
--- src/screen.rt:341:9
 same-length : tie.Need-same-length
 same-length c = search needs
 
--- src/screen.rt:341:9
 returns : tie.Need-returns
 returns c = search record-text
 
--- src/screen.rt:344:9
 on-attributes-requires : tie.Need-on-attributes-requires
 on-attributes-requires c κs = search needs
 
--- src/screen.rt:344:9
 returns-2 : tie.Need-returns-2
 returns-2 c = search record-attributes
 
--- src/screen.rt:347:9
 on-clear-requires : tie.Need-on-clear-requires
 on-clear-requires c κs = search needs
 
--- src/screen.rt:347:9
 same-length-2 : tie.Need-same-length-2
 same-length-2 c = search needs
 
--- src/screen.rt:347:9
 returns-3 : tie.Need-returns-3
 returns-3 c = search record-clear
 
--- src/screen.rt:349:5
 on-right-requires : tie.Need-on-right-requires
 on-right-requires c κs = search needs
 
--- src/screen.rt:325:1
 returns-4 : tie.Need-returns-4
 returns-4 c = search record-right
 

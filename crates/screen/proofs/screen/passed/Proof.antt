@@ -3,15 +3,12 @@ use borrow.Author.Needs.{needs}
 use Rattle.screen.proofs.screen.passed.Statement.{statement}
 use Rattle.screen.proofs.screen.passed.Tie as tie
 
--- src/screen.rt:100:9
 returns : tie.Need-returns
 returns c = search pass-malformed
 
--- src/screen.rt:102:5
 with-refusal-requires : tie.Need-with-refusal-requires
 with-refusal-requires c κs = search needs
 
--- src/screen.rt:96:1
 returns-2 : tie.Need-returns-2
 returns-2 c = search pass-first
 

@@ -3,19 +3,15 @@ use borrow.Author.Needs.{needs}
 use Rattle.screen.proofs.screen.reach.Statement.{statement}
 use Rattle.screen.proofs.screen.reach.Tie as tie
 
--- src/screen.rt:111:9
 fill-requires : tie.Need-fill-requires
 fill-requires c κs = search reach-fills
 
--- src/screen.rt:112:9
 same-length : tie.Need-same-length
 same-length c = search needs
 
--- src/screen.rt:112:9
 returns : tie.Need-returns
 returns c = search reach-more
 
--- src/screen.rt:106:1
 returns-2 : tie.Need-returns-2
 returns-2 c = search reach-none
 

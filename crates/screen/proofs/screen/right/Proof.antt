@@ -3,27 +3,21 @@ use borrow.Author.Needs.{needs}
 use Rattle.screen.proofs.screen.right.Statement.{statement}
 use Rattle.screen.proofs.screen.right.Tie as tie
 
--- src/screen.rt:88:12
 add-if2 : tie.Need-add-if2
 add-if2 c = search needs
 
--- src/screen.rt:89:31
 add-with-at : tie.Need-add-with-at
 add-with-at c = search needs
 
--- src/screen.rt:89:13
 with-at-requires : tie.Need-with-at-requires
 with-at-requires c κs = search needs
 
--- src/screen.rt:89:13
 returns : tie.Need-returns
 returns c = search right-one
 
--- src/screen.rt:83:1
 returns-2 : tie.Need-returns-2
 returns-2 c = search right-none
 
--- src/screen.rt:83:1
 returns-3 : tie.Need-returns-3
 returns-3 c = search right-past
 

@@ -3,35 +3,27 @@ use borrow.Author.Needs.{needs}
 use Rattle.screen.proofs.screen.write_cluster.Statement.{statement}
 use Rattle.screen.proofs.screen.write_cluster.Tie as tie
 
--- src/screen.rt:186:14
 add-to : tie.Need-add-to
 add-to c = search needs
 
--- src/screen.rt:187:9
 reach-requires : tie.Need-reach-requires
 reach-requires c κs = search reach-ready
 
--- src/screen.rt:188:5
 cut-requires : tie.Need-cut-requires
 cut-requires c κs = search cut-ready
 
--- src/screen.rt:189:33
 sub-set-cluster : tie.Need-sub-set-cluster
 sub-set-cluster c = search needs
 
--- src/screen.rt:189:5
 set-cluster-requires : tie.Need-set-cluster-requires
 set-cluster-requires c κs = search needs
 
--- src/screen.rt:190:5
 behind-requires : tie.Need-behind-requires
 behind-requires c κs = search needs
 
--- src/screen.rt:173:1
 same-length : tie.Need-same-length
 same-length c = search needs
 
--- src/screen.rt:173:1
 returns : tie.Need-returns
 returns c = let s = c .before .before .before .before .before .before .before .before .before .before .before .before .before .before .before in let a = c .before .before .before .before .before .before .before .before .before .before .before .reach in let b = c .before .before .before .before .before .before .before .cut in let d = c .before .before .before .set-cluster in write-step _ _ _ _ _ _ _ (s .pre) _ _ (a .ensures) (a .kept .0) _ _ _ (b .ensures) (d .ensures) (search needs) (c .behind .ensures)
 
