@@ -21,6 +21,7 @@ ghost use Rattle.rows.specs.Calls.{modeAndWidth, rowsCall, heightCall};
 ghost use Rattle.buffer.specs.Sink.{cleared};
 ghost use Rattle.rows.specs.Calls.Contracts.{wrappingOf, decided, outcomeOf, answerOf, wrappedAs, Called};
 
+pub mod marks;
 pub mod numbers;
 pub mod words;
 pub mod wrap;
@@ -63,7 +64,7 @@ fn wrapping(request: Request, conv: usize) -> Wrapping
 fn mode_and_width(request: Request) -> bool
     ensures { λ r. ⌜ r ≡ modeAndWidth (request .mode) (request .width) ⌝ }
 {
-    (request.mode <= 2) & (request.width <= 65535)
+    (request.mode <= 4) & (request.width <= 65535)
 }
 
 // The number: what `read` answered, then questions 5 and 6.
