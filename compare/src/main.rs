@@ -58,8 +58,8 @@ fn main() -> ExitCode {
     }
 }
 
-/// Plants faults behind the calls and, where none is singled out, in demand 3; whether
-/// all are found.
+/// Plants faults behind the calls and, where none is singled out, in demand 3 and in the
+/// row picture; whether all are found.
 fn plant_faults(calls: &[&'static str], options: &Options) -> bool {
     let missed = calls.iter().filter(|&&call| match call {
         screen::NAME => !screen::try_faults(),
@@ -68,6 +68,7 @@ fn plant_faults(calls: &[&'static str], options: &Options) -> bool {
     let mut good = missed.count() == 0 && !calls.is_empty();
     if options.is_whole() {
         good &= demand3::try_faults(options.seed);
+        good &= picture::try_faults(options.seed);
     }
     println!("{}", if good { "all found" } else { "NOT ALL FOUND" });
     good

@@ -2,8 +2,11 @@
 
 mod case;
 mod check;
+mod faults;
 mod sets;
 mod shown;
+
+pub use faults::try_faults;
 
 use crate::comparison::{Comparison, Set};
 use crate::library::Library;
