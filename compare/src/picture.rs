@@ -99,7 +99,8 @@ impl fmt::Display for Found {
     fn fmt(&self, f: &mut fmt::Formatter<'_>) -> fmt::Result {
         write!(
             f,
-            "{} lines, {} cases, {} broken; {} accepted, {} outside, {} that only modes 3, 4 admit, {} rows, {} drawings",
+            "{} lines, {} cases, {} broken; {} accepted, {} outside, \
+             {} that only modes 3, 4 admit, {} rows, {} drawings",
             grouped(self.lines),
             grouped(self.cases),
             grouped(self.broken.count),
