@@ -59,6 +59,13 @@ pub const DRAWN: Alphabet = &[
     b"\x1B(0", b"\x1B(B", b"\x1B]8;;u\x07", b"\n",
 ];
 
+/// What a row may end with, and what goes on behind its end.
+#[rustfmt::skip]
+pub const PAGED: Alphabet = &[
+    b"q", b" ", b"-", b"\t", b"\xE6\xBC\xA2", b"\xCC\x81", b"\xF3\xA0\x84\x80", b"\xFF", b"\x1B[1m",
+    b"\x1B]8;;u\x07", b"\x1B(0",
+];
+
 /// What the attributes of a drawing come from, and what they are seen on.
 #[rustfmt::skip]
 pub const ATTRIBUTES: Alphabet = &[

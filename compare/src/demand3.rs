@@ -143,17 +143,12 @@ fn check<H: Half>(
     plant: &mut dyn FnMut(usize, &mut Answer),
 ) -> Result<Said, String> {
     let mut calls = 0;
-    let mut written = None;
-    let said = case.check(&mut |case| {
-        let answer = library.call(case);
-        let mut answer = library.whole_answer(answer);
-        let faults = library.take_back(case);
-        if !faults.is_empty() {
-            written = Some(format!("# {}\n{case}", faults.join("; ")));
-        }
-        plant(calls, &mut answer);
-        calls += 1;
-        answer
-    });
-    written.map_or(said, Err)
+    library.hold(|program| {
+        case.check(&mut |case| {
+            let mut answer = program(case);
+            plant(calls, &mut answer);
+            calls += 1;
+            answer
+        })
+    })
 }

@@ -5,6 +5,7 @@ use crate::faults::Fault;
 use crate::lent::Lent;
 use console_lines::Span;
 use oracle::format::answer_text;
+use oracle::noise::Program;
 use oracle::{Answer, Case, Record};
 use std::fmt;
 
@@ -127,6 +128,25 @@ impl Library {
             list: self.list.lend(list),
         };
         console_lines::make(&case.call, line, matches, lent)
+    }
+
+    /// What a check says of the library's answers; it fails, too, where a call writes to
+    /// memory that is not lent for writing.
+    pub fn hold<T>(
+        &mut self,
+        check: impl FnOnce(&mut Program) -> Result<T, String>,
+    ) -> Result<T, String> {
+        let mut written = None;
+        let said = check(&mut |case| {
+            let answer = self.call(case);
+            let answer = self.whole_answer(answer);
+            let faults = self.take_back(case);
+            if !faults.is_empty() {
+                written = Some(format!("# {}\n{case}", faults.join("; ")));
+            }
+            answer
+        });
+        written.map_or(said, Err)
     }
 
     fn buffers_hold(&self, expected: &Answer) -> bool {

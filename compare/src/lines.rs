@@ -86,6 +86,19 @@ pub fn line_drawn() -> Lines {
     }
 }
 
+/// Lines of the most bytes admitted, each of one symbol again and again.
+pub fn longest(alphabet: Alphabet) -> Lines {
+    let line = |number: usize| {
+        let mut line = alphabet[number].repeat(LONGEST_ADMITTED);
+        line.truncate(LONGEST_ADMITTED);
+        line
+    };
+    Lines {
+        count: alphabet.len(),
+        line: Box::new(line),
+    }
+}
+
 /// A few short lines.
 pub fn few() -> Lines {
     const FEW: [&[u8]; 7] = [
@@ -106,7 +119,7 @@ pub fn few() -> Lines {
 /// One of so many random lines has the next of all lengths.
 const LONG_ONE_IN: usize = 50;
 
-const LONGEST_ADMITTED: usize = 4_096;
+pub const LONGEST_ADMITTED: usize = 4_096;
 const LONGER: [usize; 5] = [4_097, 4_098, 4_160, 5_000, 8_192];
 
 /// Every length up to the longest line admitted, and a few above it, in turn.

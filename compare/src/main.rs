@@ -11,6 +11,7 @@ mod library;
 mod lines;
 mod options;
 mod orders;
+mod picture;
 mod screen;
 mod sets;
 mod tally;
@@ -45,6 +46,8 @@ fn main() -> ExitCode {
         plant_faults(&there, &options)
     } else if options.demand3 {
         demand3::run(&options)
+    } else if options.picture {
+        picture::run(&options)
     } else {
         compare_calls(&there, &options)
     };
@@ -55,8 +58,8 @@ fn main() -> ExitCode {
     }
 }
 
-/// Plants faults behind the calls and, where none is singled out, in demand 3; whether
-/// all are found.
+/// Plants faults behind the calls and, where none is singled out, in demand 3 and in the
+/// row picture; whether all are found.
 fn plant_faults(calls: &[&'static str], options: &Options) -> bool {
     let missed = calls.iter().filter(|&&call| match call {
         screen::NAME => !screen::try_faults(),
@@ -65,13 +68,14 @@ fn plant_faults(calls: &[&'static str], options: &Options) -> bool {
     let mut good = missed.count() == 0 && !calls.is_empty();
     if options.is_whole() {
         good &= demand3::try_faults(options.seed);
+        good &= picture::try_faults(options.seed);
     }
     println!("{}", if good { "all found" } else { "NOT ALL FOUND" });
     good
 }
 
-/// Compares the calls and, where none is singled out, runs demand 3; whether all is
-/// equal and the demand holds.
+/// Compares the calls and, where none is singled out, runs demand 3 and the row picture;
+/// whether all is equal and both hold.
 fn compare_calls(calls: &[&'static str], options: &Options) -> bool {
     let start = Instant::now();
     let mut total = Tally::default();
@@ -81,7 +85,7 @@ fn compare_calls(calls: &[&'static str], options: &Options) -> bool {
     let seconds = start.elapsed().as_secs_f64();
     println!("total: {total}, {seconds:.1} s");
     let equal = is_equal(&total);
-    let holds = !options.is_whole() || demand3::run(options);
+    let holds = !options.is_whole() || demand3::run(options) & picture::run(options);
     equal && holds
 }
 

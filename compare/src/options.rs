@@ -7,7 +7,8 @@ use std::str::FromStr;
 
 pub const USAGE: &str = "usage: compare [--call NAME]... [--quick] [--jobs N] [--seed N] [--trace]
        compare --demand3 [--quick] [--jobs N] [--seed N]
-       compare --cases FILE [--trace]
+       compare --picture [--quick] [--jobs N] [--seed N] [--trace]
+       compare [--picture] --cases FILE [--trace]
        compare --faults [--call NAME]...
        compare --sample";
 
@@ -27,6 +28,8 @@ pub struct Options {
     pub faults: bool,
     /// Runs demand 3 alone.
     pub demand3: bool,
+    /// Runs the row picture alone.
+    pub picture: bool,
     /// Prints the recorded sample of screen_row.
     pub sample: bool,
     /// Cases to compare in place of the sets.
@@ -54,6 +57,7 @@ impl Options {
             trace: false,
             faults: false,
             demand3: false,
+            picture: false,
             sample: false,
             cases: None,
         };
@@ -67,6 +71,7 @@ impl Options {
                 "--trace" => options.trace = true,
                 "--faults" => options.faults = true,
                 "--demand3" => options.demand3 = true,
+                "--picture" => options.picture = true,
                 "--sample" => options.sample = true,
                 "--cases" => options.cases = Some(cases(&value()?)?),
                 _ => return Err(format!("no option {argument}")),

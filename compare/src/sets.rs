@@ -206,7 +206,7 @@ impl Maker {
 
     fn draw_row(self) -> Vec<Set<Case>> {
         let each = calls::each_row(ROWS, &[0, 1, 2, 3, 4, 8, 11], &MODES);
-        let narrow = calls::each_row(NARROW_ROWS, &[0, 1, 2, 3, 5, 8, 9, 10, 16], &[1, 2]);
+        let narrow = calls::each_row(NARROW_ROWS, &[0, 1, 2, 3, 5, 8, 9, 10, 16], &MODES[1..]);
         let mut sets = vec![
             self.each("short lines, each row", short(SPANS, 3), each),
             self.each("shifted columns, each row", short(SHIFTED, 4), narrow),
