@@ -1,0 +1,3 @@
+pub mod Counting
+pub mod Conditions
+pub mod Picture
