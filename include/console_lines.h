@@ -43,8 +43,9 @@ console_answer console_read(const uint8_t *line, size_t line_len, const size_t *
 
 /* The converted line, its spans, and its rows at a width in columns: start and end
  * of each in rows; the count is the rows. Modes: 0 unwrapped, 1 by clusters, 2 by
- * words. Refused by 1, 2 and 4, by 5 where the mode is above 2 or the width above
- * 65,535, by 6 where rows has fewer than two numbers a row. */
+ * words; 3 and 4 are 1 and 2 with an Unprintable span as wide as it is drawn, where 1
+ * and 2 count 8. Refused by 1, 2 and 4, by 5 where the mode is above 4 or the width
+ * above 65,535, by 6 where rows has fewer than two numbers a row. */
 console_answer console_rows(const uint8_t *line, size_t line_len, size_t width, size_t mode, uint8_t *conv, size_t conv_len, console_span *spans, size_t spans_len, size_t *rows, size_t rows_len);
 
 /* As console_rows, with no row list and no question 6: the count is the rows. */
@@ -73,7 +74,7 @@ console_answer console_height(const uint8_t *line, size_t line_len, size_t width
 console_answer console_draw_window(const uint8_t *line, size_t line_len, const size_t *matches, size_t matches_len, size_t current, size_t start, size_t end, uint8_t *conv, size_t conv_len, console_span *spans, size_t spans_len, uint8_t *list, size_t list_len);
 
 /* count rows of the line from row first on, wrapped as by console_rows but with the
- * matches. Refused by 5 where the mode is above 2, first, count or width above 65,535,
+ * matches. Refused by 5 where the mode is above 4, first, count or width above 65,535,
  * or count 0. */
 console_answer console_draw_row(const uint8_t *line, size_t line_len, const size_t *matches, size_t matches_len, size_t current, size_t first, size_t count, size_t width, size_t mode, uint8_t *conv, size_t conv_len, console_span *spans, size_t spans_len, uint8_t *list, size_t list_len);
 

@@ -5,7 +5,7 @@ use oracle::random::Random;
 use oracle::{Call, NONE};
 
 pub const WIDTHS: [usize; 11] = [0, 1, 2, 3, 4, 7, 8, 9, 80, 65_535, 65_536];
-pub const MODES: [usize; 3] = [0, 1, 2];
+pub const MODES: [usize; 5] = [0, 1, 2, 3, 4];
 
 /// Numbers at and around each limit, and those that a narrower type would cut.
 const LIMITS: [usize; 13] = [
@@ -23,7 +23,7 @@ const LIMITS: [usize; 13] = [
     usize::MAX - 1,
     usize::MAX,
 ];
-const MODE_LIMITS: [usize; 6] = [0, 1, 2, 3, (1 << 32) + 1, usize::MAX];
+const MODE_LIMITS: [usize; 8] = [0, 1, 2, 3, 4, 5, (1 << 32) + 1, usize::MAX];
 
 /// Every choice of one item of each list.
 fn pairs<A: Copy, B: Copy>(first: &[A], second: &[B]) -> Vec<(A, B)> {
@@ -88,11 +88,11 @@ pub fn each_wrapping(call: &str, widths: &[usize], modes: &[usize]) -> Vec<Call>
 }
 
 pub fn any_rows(random: &mut Random, _: &[u8]) -> Call {
-    wrapping("rows", any_width(random), generate::mode(random))
+    wrapping("rows", any_width(random), any_mode(random))
 }
 
 pub fn any_height(random: &mut Random, _: &[u8]) -> Call {
-    wrapping("height", any_width(random), generate::mode(random))
+    wrapping("height", any_width(random), any_mode(random))
 }
 
 fn any_width(random: &mut Random) -> usize {
@@ -100,6 +100,15 @@ fn any_width(random: &mut Random) -> usize {
         random.pick(&WIDTHS)
     } else {
         generate::width(random)
+    }
+}
+
+/// The source's modes, and in a third of the cases those that count the columns drawn.
+fn any_mode(random: &mut Random) -> usize {
+    if random.percent(33) {
+        random.pick(&[3, 4])
+    } else {
+        generate::mode(random)
     }
 }
 
@@ -189,7 +198,7 @@ pub fn any_row(random: &mut Random, line: &[u8]) -> Call {
         first: generate::row_number(random),
         count: generate::row_number(random).saturating_add(usize::from(random.percent(90))),
         width: any_width(random),
-        mode: generate::mode(random),
+        mode: any_mode(random),
     }
 }
 
@@ -201,7 +210,12 @@ pub fn few(call: &str) -> Vec<Call> {
         "convert" => vec![Call::Convert],
         "read" => vec![reading(Vec::new()), reading(vec![0, 1])],
         "draw_window" => [(0, 80), (1, 3), (2, 9)].map(window).to_vec(),
-        "draw_row" => vec![row(0, 2, 80, 1), row(0, 1, 3, 1), row(1, 2, 3, 2)],
+        "draw_row" => vec![
+            row(0, 2, 80, 1),
+            row(0, 1, 3, 1),
+            row(1, 2, 3, 2),
+            row(1, 1, 8, 3),
+        ],
         _ => each_wrapping(call, &[3, 80], &MODES),
     }
 }

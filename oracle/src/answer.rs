@@ -74,7 +74,7 @@ pub fn rows(
 ) -> Answer {
     Answer::of((|| {
         let (conv, reading) = reading(line, &[], conv, spans)?;
-        ask(5, mode <= 2 && width <= LARGEST_WIDTH)?;
+        ask(5, mode <= 4 && width <= LARGEST_WIDTH)?;
         let pairs = reading.rows(width, mode);
         ask(6, pairs.len() <= rows / 2)?;
         Ok(Answer {
@@ -93,7 +93,7 @@ pub fn rows(
 pub fn height(line: &[u8], width: usize, mode: usize, conv: usize, spans: usize) -> Answer {
     Answer::of((|| {
         let (conv, reading) = reading(line, &[], conv, spans)?;
-        ask(5, mode <= 2 && width <= LARGEST_WIDTH)?;
+        ask(5, mode <= 4 && width <= LARGEST_WIDTH)?;
         Ok(Answer {
             count: reading.height(width, mode),
             conv,
@@ -141,7 +141,7 @@ pub fn draw_row(
     Answer::of((|| {
         let (conv, reading) = reading(line, matches, conv, spans)?;
         let largest = width.max(count).max(first);
-        ask(5, mode <= 2 && largest <= LARGEST_WIDTH && count >= 1)?;
+        ask(5, mode <= 4 && largest <= LARGEST_WIDTH && count >= 1)?;
         let window = Window::of_rows(&reading.rows(width, mode), first, count);
         let changes = reading.draw_row(first, count, width, mode, current_match(current));
         drawing(conv, &reading, window, changes, list)

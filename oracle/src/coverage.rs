@@ -106,7 +106,7 @@ impl Coverage {
             }
         }
         for name in ["rows", "height", "draw_row"] {
-            for mode in 0..3 {
+            for mode in 0..5 {
                 let there = self.modes.contains_key(&(name, mode));
                 wanted.push((there, format!("{name} in mode {mode}")));
             }

@@ -35,6 +35,7 @@ pub fn cases(seed: u64) -> Vec<Case> {
     cases.extend(long_lines());
     cases.extend(lent_sizes());
     cases.extend(random_cases(seed));
+    cases.extend(drawn_modes(seed));
     let mut seen = HashSet::new();
     cases.retain(|case| seen.insert(case.to_string()));
     cases
@@ -261,6 +262,33 @@ fn needs(case: &Case) -> Sizes {
         answer.pairs.len(),
         answer.list.len(),
     ]
+}
+
+/// Modes 3 and 4: lines of marks, and any lines.
+fn drawn_modes(seed: u64) -> Vec<Case> {
+    let mut random = Random::new(seed + 1);
+    let marks = [
+        "\u{301}\u{301}",
+        "\u{E0100}\u{6F22}",
+        "\u{301}\u{E0100}\t\u{6F22}",
+        "a \u{300}\u{1100}-b",
+        "\u{301}\u{300}\u{1100}\u{1100}-a",
+    ];
+    let mut cases = Vec::new();
+    for index in 0..60 {
+        let line = match marks.get(index % 10) {
+            Some(line) => line.as_bytes().to_vec(),
+            None => generate::line(&mut random, 12),
+        };
+        let width = random.below(20);
+        for mode in [3, 4] {
+            let first = random.below(4);
+            cases.push(rows(&line, width, mode));
+            cases.push(snug(draw_row(&line, first, 1, width, mode)));
+        }
+        cases.push(height(&line, width, 3 + index % 2));
+    }
+    cases
 }
 
 /// Mostly short lines; a few dozen are longer.

@@ -106,10 +106,20 @@ window-limits start end current h = record { start = h; first = omega arith; cou
 rows-limits : (q : Request) → rowsAsked q ≡ true → InLimits (rowRequest (q .first) (q .count) (q .width) (q .mode) (q .current))
 rows-limits q e =
     let a = and-T (modeAndWidth (q .mode) (q .width)) (leb (q .first) 65535 && (leb (q .count) 65535 && leb 1 (q .count))) (true-T e) in
-    let m = and-T (leb (q .mode) 2) (leb (q .width) 65535) (a .0) in
+    let m = and-T (leb (q .mode) 4) (leb (q .width) 65535) (a .0) in
     let b = and-T (leb (q .first) 65535) (leb (q .count) 65535 && leb 1 (q .count)) (a .1) in
     let c = and-T (leb (q .count) 65535) (leb 1 (q .count)) (b .1) in
-    record { start = omega arith; first = leb→le (q .first) 65535 (b .0); count = leb→le (q .count) 65535 (c .0); some = leb→le 1 (q .count) (c .1); width = leb→le (q .width) 65535 (m .1); mode = leb→le (q .mode) 2 (m .0) }
+    record { start = omega arith; first = leb→le (q .first) 65535 (b .0); count = leb→le (q .count) 65535 (c .0); some = leb→le 1 (q .count) (c .1); width = leb→le (q .width) 65535 (m .1); mode = leb→le (q .mode) 4 (m .0) }
+
+-- question 5, mode and width asked by a function of rows
+module _ (q : Request) (w : q .wrapped ≡ true) (b : Bool) (e : b ≡ modeAndWidth (q .mode) (q .width)) where
+  pub rows-yes : (b && (leb (q .first) 65535 && (leb (q .count) 65535 && leb 1 (q .count)))) ≡ true → 0 ≡ askedOf q
+  unfolding askedOf
+  rows-yes h = rw (w, rw e at h) refl
+
+  pub rows-no : (b && (leb (q .first) 65535 && (leb (q .count) 65535 && leb 1 (q .count)))) ≡ false → 5 ≡ askedOf q
+  unfolding askedOf
+  rows-no h = rw (w, rw e at h) refl
 
 -- what is drawn of a request is in limits
 drawable-limits : (q : Request) → InLimits (drawableOf q)

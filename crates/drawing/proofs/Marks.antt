@@ -36,7 +36,9 @@ use Rattle.drawing.specs.Clip.Contracts.{allPrintable}
 use Rattle.drawing.specs.Attributes.Code.{styleOf}
 use Rattle.drawing.specs.State.{stateOf, styling, Wrote}
 use Rattle.drawing.specs.Write.{ColumnsReady, windowedText, writingColumns, moved}
-use Rattle.drawing.specs.Marks.Contracts.{digitOf, markByte, markPart, markText, scalarLength, marking, scalarMarking, tabbing, ComposedWrote, MarksWrote}
+use Rattle.rows.specs.Marks.{markColumns}
+use Rattle.rows.specs.Marks.Laws.{mark-small}
+use Rattle.drawing.specs.Marks.Contracts.{digitOf, markByte, markPart, markText, marking, scalarMarking, tabbing, ComposedWrote, MarksWrote}
 use Rattle.drawing.specs.declared.attributes.Style.the-variants.{File, Control}
 use Rattle.drawing.specs.declared.state.AttributeState.{AttributeState}
 use Rattle.drawing.specs.declared.state.Stepped.{Stepped}
@@ -175,8 +177,8 @@ module _ (w : Window) (p v n : ℕ) where
 
 -- ---- the marks of the definitions
 
-pub scalar-is : (v : ℕ) → scalarMark v ≡ markText v (scalarLength v)
-unfolding scalarMark upperDigits markPart
+pub scalar-is : (v : ℕ) → scalarMark v ≡ markText v (markColumns v)
+unfolding scalarMark upperDigits markPart markColumns
 scalar-is v =
     cases (ltb v 0x10000) (λ e. rw e (simp (digit-is, asciis-cons, asciis-nil)))
     (λ e. cases (ltb v 0x100000) (λ f. rw (e, f) (simp (digit-is, asciis-cons, asciis-nil))) (λ f. rw (e, f) (simp (digit-is, asciis-cons, asciis-nil))))
@@ -185,14 +187,11 @@ pub byte-is : (b : ℕ) → b < 256 → byteMark b ≡ markText b 4
 unfolding byteMark markPart
 byte-is b h = let e : b / 16 % 16 ≡ b / 16 = omega arith in rw e (simp (digit-is, asciis-cons, asciis-nil) refl)
 
-length-small : (v : ℕ) → scalarLength v ≤ 10
-length-small v = cases (ltb v 0x10000) (λ e. rw e (omega arith)) (λ e. cases (ltb v 0x100000) (λ f. rw (e, f) (omega arith)) (λ f. rw (e, f) (omega arith)))
-
 mark-columns : (w : Window) (v n : ℕ) → n ≡ widthOf (profileOf (w .profile)) (markText v n)
 mark-columns w v n = sym (printable-width (profileOf (w .profile)) (ascii-classes (w .profile)) (all-printable (markPart v n 0 n) (part-printable v n 0 n)) ∙ part-length v n 0 n)
 
 mark-width : (w : Window) (v : ℕ) → widthOf (profileOf (w .profile)) (scalarMark v) ≤ 10
-mark-width w v = rw (scalar-is v, ← mark-columns w v (scalarLength v)) (length-small v)
+mark-width w v = rw (scalar-is v, ← mark-columns w v (markColumns v)) (mark-small v)
 
 -- ---- a mark for each scalar
 
@@ -242,11 +241,11 @@ module _ (l : List ℕ) (at : ℕ) (w : Window) (t : AttributeState) (v n : ℕ)
   mark-out u h m = drawn-out l at w t Control (markText v n) n b (mark-columns w v n) e u h m
 
 module _ (w : Window) (l : List ℕ) (at : ℕ) (t : AttributeState) (v n : ℕ) (l′ : List ℕ) (r : Stepped) where
-  pub scalar-wrote : n ≡ scalarLength v → Wrote l at t (marking w v n t) l′ (r .at) (r .state) → Wrote l at t (scalarMarking w v t) l′ (r .at) (r .state)
+  pub scalar-wrote : n ≡ markColumns v → Wrote l at t (marking w v n t) l′ (r .at) (r .state) → Wrote l at t (scalarMarking w v t) l′ (r .at) (r .state)
   scalar-wrote e h = rw (scalar-is v, ← e) h
 
-pub scalar-room : (v n p : ℕ) → n ≡ scalarLength v → p + 20 < 2 ^ 64 → p + n < 2 ^ 64
-scalar-room v n p e h = omega (arith, length-small v)
+pub scalar-room : (v n p : ℕ) → n ≡ markColumns v → p + 20 < 2 ^ 64 → p + n < 2 ^ 64
+scalar-room v n p e h = omega (arith, mark-small v)
 
 -- ---- tabs, and the mark of a byte
 

@@ -46,7 +46,7 @@ pub record InLimits (q : Request) : Type 0 where
   pub count : q .count ≤ 65535
   pub some : 1 ≤ q .count
   pub width : q .width ≤ 65535
-  pub mode : q .mode ≤ 2
+  pub mode : q .mode ≤ 4
 
 -- the request where it passes these questions, else an empty window
 unfoldable pub drawableOf : Request → Request

@@ -88,8 +88,8 @@ module _ (size places : ℕ) (line found : List ℕ) (a : Answer) (cs : List ℕ
       none-yet = rowList l (beginning 0 0 .tally)
 
       module _ (fine : a .number ≡ 0) (asked : modeAndWidth (q .mode) (q .width) ≡ true) where
-        mode-low : q .mode ≤ 2
-        mode-low = leb-true (q .mode) 2 (is-true (leb (q .mode) 2) (and-T (leb (q .mode) 2) (leb (q .width) 65535) (true-T asked) .0))
+        mode-low : q .mode ≤ 4
+        mode-low = leb-true (q .mode) 4 (is-true (leb (q .mode) 4) (and-T (leb (q .mode) 4) (leb (q .width) 65535) (true-T asked) .0))
 
         abbrev after : List ℕ
         after = reading.after size places [] line a cs rs read-is fine

@@ -18,7 +18,7 @@ use Rattle.spans.specs.Calls.{noRecord}
 use Rattle.rows.specs.Rows.{Wrap, tabbed}
 use Rattle.rows.specs.Rows.Laws.{Natural, unbroken-over, tabbed-over, splitText-over}
 use Rattle.text.specs.TextParts.{textAt}
-use Rattle.rows.specs.Wrap.{wrapRows, on, Stepped, unbrokenOf, textOf, recordIn, spanOf, spansOf, lastRowList, LastRow, SpanRoom, SpansRoom, MadeWrap}
+use Rattle.rows.specs.Wrap.{wrapRows, on, Stepped, unbrokenOf, textOf, wordMode, countOf, recordIn, spanOf, spansOf, lastRowList, LastRow, SpanRoom, SpansRoom, MadeWrap}
 use Rattle.rows.specs.declared.wrap.RowCounts.{RowCounts}
 use Rattle.rows.specs.declared.wrap.WrapState.{WrapState}
 use Rattle.rows.proofs.WrappedTexts.{renamed, on-id, turn, done}
@@ -47,37 +47,40 @@ module _ (P : Profile) (width mode : ℕ) (buffer : List ℕ) (len : ℕ) (r : R
   abbrev line : List ℕ
   line = take len buffer
 
-  pub span-unwrapped : mode ≡ 0 → Stepped l t (spanOf P width mode line r) (2 * len + 8) (2 * len + 1) l t
+  pub span-unwrapped : mode ≡ 0 → Stepped l t (spanOf P width mode line r) (10 * len + 8) (2 * len + 1) l t
   unfolding spanOf
   span-unwrapped e =
       record { same = sym (on-id (spanOf P width mode line r) (wrapRows l t) (λ w. rw (eq-eqb mode 0 e))); low = there .room .low; near = omega arith; more = omega arith }
 
   module _ (e : mode ≢ 0) where
-    by-kind : (f : Wrap → Wrap) (n m : ℕ) (l′ : List ℕ) (t′ : WrapState) → ((w : Wrap) → f w ≡ recordIn P width (eqb mode 2) line r w) → n ≤ 2 * len + 8 → m ≤ 2 * len + 1
-        → Stepped l t f n m l′ t′ → Stepped l t (spanOf P width mode line r) (2 * len + 8) (2 * len + 1) l′ t′
+    by-kind : (f : Wrap → Wrap) (n m : ℕ) (l′ : List ℕ) (t′ : WrapState) → ((w : Wrap) → f w ≡ recordIn P (countOf mode) width (wordMode mode) line r w) → n ≤ 10 * len + 8 → m ≤ 2 * len + 1
+        → Stepped l t f n m l′ t′ → Stepped l t (spanOf P width mode line r) (10 * len + 8) (2 * len + 1) l′ t′
     unfolding spanOf
     by-kind f n m l′ t′ q a b s = renamed l l′ t t′ f (spanOf P width mode line r) n m _ _ (λ w. q w ∙ rw (ne-eqb mode 0 e)) a b s
 
     pub span-text : (text l′ : List ℕ) (t′ : WrapState) → text ≡ take (r .len) (drop (r .place .0) line) → 1 ≤ r .kind → r .kind ≤ 2
-        → Stepped l t (textOf P width (eqb mode 2) (textAt text 0)) (2 * length text) (2 * length text) l′ t′ → Stepped l t (spanOf P width mode line r) (2 * len + 8) (2 * len + 1) l′ t′
+        → Stepped l t (textOf P width (wordMode mode) (textAt text 0)) (2 * length text) (2 * length text) l′ t′ → Stepped l t (spanOf P width mode line r) (10 * len + 8) (2 * len + 1) l′ t′
     unfolding recordIn textOf textIn
     span-text text l′ t′ q h k s =
         let n : length text ≤ len = rw (q, length-take, length-drop, length-take) (omega arith) in
-        by-kind (textOf P width (eqb mode 2) (textAt text 0)) (2 * length text) (2 * length text) l′ t′ (λ w. rw (either (r .kind) 1 h k, q)) (omega arith) (omega arith) s
+        by-kind (textOf P width (wordMode mode) (textAt text 0)) (2 * length text) (2 * length text) l′ t′ (λ w. rw (either (r .kind) 1 h k, q)) (omega arith) (omega arith) s
 
-    pub span-mark : (l′ : List ℕ) (t′ : WrapState) → 3 ≤ r .kind → r .kind ≤ 4 → Stepped l t (unbrokenOf width 4) 4 1 l′ t′ → Stepped l t (spanOf P width mode line r) (2 * len + 8) (2 * len + 1) l′ t′
+    pub span-mark : (l′ : List ℕ) (t′ : WrapState) → 3 ≤ r .kind → r .kind ≤ 4 → Stepped l t (unbrokenOf width 4) 4 1 l′ t′ → Stepped l t (spanOf P width mode line r) (10 * len + 8) (2 * len + 1) l′ t′
     unfolding recordIn unbrokenOf
     span-mark l′ t′ h k s = by-kind (unbrokenOf width 4) 4 1 l′ t′ (λ w. rw (neither (r .kind) 1 (λ x. omega arith) (λ x. omega arith), either (r .kind) 3 h k)) (omega arith) (omega arith) s
 
-    pub span-long-mark : (l′ : List ℕ) (t′ : WrapState) → r .kind ≡ 5 → Stepped l t (unbrokenOf width 8) 8 1 l′ t′ → Stepped l t (spanOf P width mode line r) (2 * len + 8) (2 * len + 1) l′ t′
-    unfolding recordIn unbrokenOf
-    span-long-mark l′ t′ k s = by-kind (unbrokenOf width 8) 8 1 l′ t′ (λ w. rw k) (omega arith) (omega arith) s
+    pub span-unprintable : (text l′ : List ℕ) (t′ : WrapState) → text ≡ take (r .len) (drop (r .place .0) line) → r .kind ≡ 5
+        → Stepped l t (unbrokenOf width (countOf mode (textAt text 0))) (10 * length text + 8) 1 l′ t′ → Stepped l t (spanOf P width mode line r) (10 * len + 8) (2 * len + 1) l′ t′
+    unfolding recordIn unbrokenOf textIn
+    span-unprintable text l′ t′ q k s =
+        let n : length text ≤ len = rw (q, length-take, length-drop, length-take) (omega arith) in
+        by-kind (unbrokenOf width (countOf mode (textAt text 0))) (10 * length text + 8) 1 l′ t′ (λ w. rw (k, q)) (omega arith) (omega arith) s
 
-    pub span-tab : (l′ : List ℕ) (t′ : WrapState) → r .kind ≡ 10 → Stepped l t (tabbed width) 8 1 l′ t′ → Stepped l t (spanOf P width mode line r) (2 * len + 8) (2 * len + 1) l′ t′
+    pub span-tab : (l′ : List ℕ) (t′ : WrapState) → r .kind ≡ 10 → Stepped l t (tabbed width) 8 1 l′ t′ → Stepped l t (spanOf P width mode line r) (10 * len + 8) (2 * len + 1) l′ t′
     unfolding recordIn
     span-tab l′ t′ k s = by-kind (tabbed width) 8 1 l′ t′ (λ w. rw k) (omega arith) (omega arith) s
 
-    pub span-none : (r .kind ≢ 1) → (r .kind ≢ 2) → (r .kind ≢ 3) → (r .kind ≢ 4) → (r .kind ≢ 5) → (r .kind ≢ 10) → Stepped l t (spanOf P width mode line r) (2 * len + 8) (2 * len + 1) l t
+    pub span-none : (r .kind ≢ 1) → (r .kind ≢ 2) → (r .kind ≢ 3) → (r .kind ≢ 4) → (r .kind ≢ 5) → (r .kind ≢ 10) → Stepped l t (spanOf P width mode line r) (10 * len + 8) (2 * len + 1) l t
     unfolding recordIn
     span-none a b c d x y =
         by-kind (λ w. w) 0 0 l t (λ w. rw (ne-eqb (r .kind) 1 a, ne-eqb (r .kind) 2 b, ne-eqb (r .kind) 3 c, ne-eqb (r .kind) 4 d, ne-eqb (r .kind) 5 x, ne-eqb (r .kind) 10 y)) (omega arith) (omega arith)
@@ -90,9 +93,9 @@ module _ (P : Profile) (width mode : ℕ) (line : List ℕ) where
   unfolding spanOf recordIn
   spanOf-over r rs t =
       cases (eqb mode 0) (λ e. rw e)
-      (λ e. cases (eqb (r .kind) 1 || eqb (r .kind) 2) (λ a. rw (e, a) (splitText-over P width (eqb mode 2) _ rs t))
+      (λ e. cases (eqb (r .kind) 1 || eqb (r .kind) 2) (λ a. rw (e, a) (splitText-over P width (wordMode mode) _ rs t))
       (λ a. cases (eqb (r .kind) 3 || eqb (r .kind) 4) (λ b. rw (e, a, b) (unbroken-over width 4 rs t))
-      (λ b. cases (eqb (r .kind) 5) (λ c. rw (e, a, b, c) (unbroken-over width 8 rs t))
+      (λ b. cases (eqb (r .kind) 5) (λ c. rw (e, a, b, c) (unbroken-over width _ rs t))
       (λ c. cases (eqb (r .kind) 10) (λ d. rw (e, a, b, c, d) (tabbed-over width rs t)) (λ d. rw (e, a, b, c, d))))))
 
   spansOf-over : (xs : List Record) → Natural (spansOf P width mode line xs)
@@ -113,7 +116,7 @@ pub record Spanning (P : Profile) (width mode : ℕ) (line : List ℕ) (spans : 
   pub inside : i ≤ n
   pub work : on (spansOf P width mode line (drop i (take n spans))) (wrapRows l t) ≡ on (spansOf P width mode line (take n spans)) (wrapRows l₀ t₀)
   pub low : t .start .0 ≤ t .position .0
-  pub near : t .position .0 ≤ t₀ .position .0 + 65544 * i
+  pub near : t .position .0 ≤ t₀ .position .0 + 327688 * i
   pub more : t .tally .count ≤ t₀ .tally .count + 65537 * i
 
 module _ (P : Profile) (width mode : ℕ) (buffer : List ℕ) (len : ℕ) (spans : List Record) (n : ℕ) (l₀ : List ℕ) (t₀ : WrapState) (room : SpansRoom spans buffer len t₀ n) where
@@ -133,7 +136,7 @@ module _ (P : Profile) (width mode : ℕ) (buffer : List ℕ) (len : ℕ) (spans
         drop-cons (take n spans) i noRecord (omega arith) ∙ ap₂ (λ (x : Record) (m : ℕ). x ∷ drop m (take n spans)) (getD-take n spans i noRecord h) (sym (add-one i))
 
     pub spans-turn : (l′ : List ℕ) (t′ : WrapState) → i < n
-        → Stepped l t (spanOf P width mode the-line (getD spans i noRecord)) (2 * len + 8) (2 * len + 1) l′ t′
+        → Stepped l t (spanOf P width mode the-line (getD spans i noRecord)) (10 * len + 8) (2 * len + 1) l′ t′
         → Spanning P width mode the-line spans n l₀ t₀ (i + 1) l′ t′
     spans-turn l′ t′ h k =
         record {

@@ -2,12 +2,12 @@
 use mathlib.Core.Path.{_≡_, refl, sym, ap, _∙_}
 use Prim.Native.Nat.{ℕ, _+_, _-_, _*_, _≤_, _<_}
 use native.Mathlib.Omega.{arith}
-use mathlib.Core.Bool.{Bool, true, false}
+use mathlib.Core.Bool.{Bool, true, false, _||_}
 use mathlib.Core.List.{List, [], _∷_, _++_}
 use mathlib.Core.Logic.{_≢_}
 use lib.ListN.{length, drop, take, length-take}
 use lib.Dec.{eqb, leb}
-use borrow.Author.Tests.{eq-eqb, ne-eqb}
+use borrow.Author.Tests.{lt-ltb, le-ltb}
 use Rattle.text.specs.Each.{All, all-cons}
 use Rattle.text.specs.Utf8.{Scalar}
 use Rattle.text.specs.Utf8.Valid.{Valid}
@@ -28,12 +28,13 @@ use Rattle.text.specs.TextParts.{place, column, textAt}
 use Rattle.text.specs.TextParts.Laws.{first-there, behind-part}
 use Rattle.text.specs.Scalar.{packedAt}
 use Rattle.text.specs.Scalar.Laws.{packed-inside, packed-none, first-some}
+use Rattle.rows.specs.Marks.{drawnColumns}
 use Rattle.rows.specs.Words.{Word, words}
 use Rattle.rows.specs.Words.Laws.{firstWord, restWords, first-word-all, first-word-some, words-first}
 use Rattle.rows.specs.Rows.{Row, Wrap, wrap, pushed, unbroken, byClusters, byWords, longWord, oneWord, splitText}
 use Rattle.rows.specs.Rows.Laws.{over, Natural, byClusters-over, longWord-over, byWords-over}
 use Rattle.rows.specs.Words.Contracts.{WordAt, bothOf}
-use Rattle.rows.specs.Wrap.{WordRoom, RowList, rowList, withRow, withRows, WrapRows, wrapRows, on, Room, Stepped, advanced, unbrokenOf, clustersOf, longWordOf, oneWordOf, wordsOf, textOf}
+use Rattle.rows.specs.Wrap.{WordRoom, RowList, rowList, withRow, withRows, WrapRows, wrapRows, on, Room, Stepped, advanced, unbrokenOf, clustersOf, longWordOf, oneWordOf, wordsOf, wordMode, countOf, textOf}
 use Rattle.text.specs.declared.class.Profile as profile
 use Rattle.rows.specs.declared.wrap.WrapState.{WrapState}
 use Rattle.rows.proofs.WordClusters.{word-clusters}
@@ -311,10 +312,20 @@ module _ (P : Profile) (width : ℕ) (text l₀ : List ℕ) (t₀ : WrapState) (
 -- ---- by the mode
 
 module _ (P : Profile) (width mode : ℕ) (s : List Scalar) (l l′ : List ℕ) (t t′ : WrapState) (n m : ℕ) where
-  pub text-words : mode ≡ 2 → Stepped l t (wordsOf P width s) n (2 * m) l′ t′ → Stepped l t (textOf P width (eqb mode 2) s) n (2 * m) l′ t′
-  unfolding textOf splitText wordsOf
-  text-words e k = renamed l l′ t t′ (wordsOf P width s) (textOf P width (eqb mode 2) s) n (2 * m) n (2 * m) (λ w. rw (eq-eqb mode 2 e)) (omega arith) (omega arith) k
+  pub text-words : (eqb mode 2 || eqb mode 4) ≡ true → Stepped l t (wordsOf P width s) n (2 * m) l′ t′ → Stepped l t (textOf P width (wordMode mode) s) n (2 * m) l′ t′
+  unfolding textOf splitText wordsOf wordMode
+  text-words e k = renamed l l′ t t′ (wordsOf P width s) (textOf P width (wordMode mode) s) n (2 * m) n (2 * m) (λ w. rw e) (omega arith) (omega arith) k
 
-  pub text-clusters : (mode ≢ 2) → Stepped l t (clustersOf P width s) n m l′ t′ → Stepped l t (textOf P width (eqb mode 2) s) n (2 * m) l′ t′
-  unfolding textOf splitText clustersOf
-  text-clusters e k = renamed l l′ t t′ (clustersOf P width s) (textOf P width (eqb mode 2) s) n m n (2 * m) (λ w. rw (ne-eqb mode 2 e)) (omega arith) (omega arith) k
+  pub text-clusters : (eqb mode 2 || eqb mode 4) ≡ false → Stepped l t (clustersOf P width s) n m l′ t′ → Stepped l t (textOf P width (wordMode mode) s) n (2 * m) l′ t′
+  unfolding textOf splitText clustersOf wordMode
+  text-clusters e k = renamed l l′ t t′ (clustersOf P width s) (textOf P width (wordMode mode) s) n m n (2 * m) (λ w. rw e) (omega arith) (omega arith) k
+
+-- an Unprintable span
+module _ (width mode : ℕ) (s : List Scalar) (l l′ : List ℕ) (t t′ : WrapState) (n : ℕ) where
+  pub unprintable-eight : mode < 3 → Stepped l t (unbrokenOf width 8) 8 1 l′ t′ → Stepped l t (unbrokenOf width (countOf mode s)) (n + 8) 1 l′ t′
+  unfolding countOf
+  unprintable-eight h k = renamed l l′ t t′ (unbrokenOf width 8) (unbrokenOf width (countOf mode s)) 8 1 (n + 8) 1 (λ w. rw (lt-ltb mode 3 h)) (omega arith) (omega arith) k
+
+  pub unprintable-drawn : (c : ℕ) → 3 ≤ mode → c ≡ drawnColumns s → c ≤ n → Stepped l t (unbrokenOf width c) c 1 l′ t′ → Stepped l t (unbrokenOf width (countOf mode s)) (n + 8) 1 l′ t′
+  unfolding countOf
+  unprintable-drawn c h e b k = renamed l l′ t t′ (unbrokenOf width c) (unbrokenOf width (countOf mode s)) c 1 (n + 8) 1 (λ w. rw (le-ltb mode 3 h, e)) (omega arith) (omega arith) k

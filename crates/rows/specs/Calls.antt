@@ -9,7 +9,7 @@ use Rattle.text.specs.Overstrike.{convert}
 use Rattle.text.specs.Calls.{Question, ask, decide, lent, counted, question1, question2}
 use Rattle.spans.specs.Spans.{Span, spans, Record, records}
 use Rattle.spans.specs.Calls.{Read, question4, noRecord}
-use Rattle.rows.specs.Rows.{Row, Mode, unwrapped, graphemeBoundary, wordBoundary, rows}
+use Rattle.rows.specs.Rows.{Row, Mode, unwrapped, graphemeBoundary, wordBoundary, drawnGraphemeBoundary, drawnWordBoundary, rows}
 pub mod Laws
 pub mod Contracts
 pub mod Reading
@@ -18,10 +18,12 @@ pub mod Reading
 unfoldable pub modeOf : ℕ → Mode
 modeOf zero = unwrapped
 modeOf (suc zero) = graphemeBoundary
-modeOf (suc (suc n)) = wordBoundary
+modeOf (suc (suc zero)) = wordBoundary
+modeOf (suc (suc (suc zero))) = drawnGraphemeBoundary
+modeOf (suc (suc (suc (suc n)))) = drawnWordBoundary
 
 abbrev pub modeAndWidth : ℕ → ℕ → Bool
-modeAndWidth mode width = leb mode 2 && leb width 65535
+modeAndWidth mode width = leb mode 4 && leb width 65535
 
 -- the row list is numbers, start and end for each row
 unfoldable pub numbersOf : List Row → List ℕ

@@ -1,4 +1,5 @@
 pub mod Words
+pub mod Marks
 pub mod Rows
 pub mod Calls
 pub mod Wrap

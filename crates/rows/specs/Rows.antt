@@ -8,6 +8,7 @@ use Rattle.text.specs.Class.{Profile}
 use Rattle.text.specs.Width.{widthOf}
 use Rattle.text.specs.Cluster.{clusters}
 use Rattle.spans.specs.Spans.{Content, text, control, invalid, unprintable, escape, tab, crlf, lf, Span}
+use Rattle.rows.specs.Marks.{drawnColumns}
 use Rattle.rows.specs.Words.{Word, words}
 pub mod Laws
 pub mod Noise
@@ -83,12 +84,14 @@ module _ (P : Profile) (width : ℕ) where
   splitText true t s = byWords t (words s)
   splitText false t s = byClusters t (clusters P s)
 
+-- an Unprintable span counts `count`
+module _ (P : Profile) (count : List Scalar → ℕ) (width : ℕ) where
   unfoldable pub split : Bool → Wrap → Content → Wrap
   unfolding splitText tabbed unbroken
-  split w t (text m s) = splitText w t s
+  split w t (text m s) = splitText P width w t s
   split w t (control b) = unbroken width t 4
   split w t (invalid b) = unbroken width t 4
-  split w t (unprintable s) = unbroken width t 8
+  split w t (unprintable s) = unbroken width t (count s)
   split w t (escape e) = t
   split w t tab = tabbed width t
   split w t crlf = t
@@ -106,17 +109,22 @@ unfoldable pub lastRow : ℕ → ℕ → List Row → List Row
 lastRow s p [] = row s p ∷ []
 lastRow s p (r ∷ rs) = cond (ltb s p) (row s p ∷ r ∷ rs) (r ∷ rs)
 
--- WrappingMode
+-- WrappingMode, and the two modes that count the columns drawn
 pub data Mode : Type 0 where
-  unwrapped graphemeBoundary wordBoundary : Mode
+  unwrapped graphemeBoundary wordBoundary drawnGraphemeBoundary drawnWordBoundary : Mode
 
-module _ (P : Profile) (width : ℕ) where
-  unfoldable pub wrapped : Bool → List Span → List Row
-  unfolding splits lastRow
-  wrapped w ss = let t : Wrap = splits P width w (wrap [] 0 0) ss in reverse (lastRow (t .start) (t .position) (t .rows))
+-- the source's count of an Unprintable span
+abbrev pub eight : List Scalar → ℕ
+eight s = 8
 
-  unfoldable pub rows : Mode → List Span → List Row
-  unfolding wrapped
-  rows unwrapped ss = row 0 0xFFFF_FFFF_FFFF_FFFF ∷ []
-  rows graphemeBoundary ss = wrapped false ss
-  rows wordBoundary ss = wrapped true ss
+unfoldable pub wrapped : Profile → (List Scalar → ℕ) → ℕ → Bool → List Span → List Row
+unfolding splits lastRow
+wrapped P count width w ss = let t : Wrap = splits P count width w (wrap [] 0 0) ss in reverse (lastRow (t .start) (t .position) (t .rows))
+
+unfoldable pub rows : Profile → ℕ → Mode → List Span → List Row
+unfolding wrapped drawnColumns
+rows P width unwrapped ss = row 0 0xFFFF_FFFF_FFFF_FFFF ∷ []
+rows P width graphemeBoundary ss = wrapped P eight width false ss
+rows P width wordBoundary ss = wrapped P eight width true ss
+rows P width drawnGraphemeBoundary ss = wrapped P drawnColumns width false ss
+rows P width drawnWordBoundary ss = wrapped P drawnColumns width true ss

@@ -12,6 +12,7 @@ use Rattle.text.specs.TextParts.{column}
 use Rattle.text.specs.Cluster.{clusters}
 use Rattle.spans.specs.Spans.{Record}
 use Rattle.spans.specs.Spans.ContentLaw.{textIn}
+use Rattle.rows.specs.Marks.{drawnColumns}
 use Rattle.rows.specs.Words.{Word, words}
 use Rattle.rows.specs.Rows.{Row, row, Wrap, wrap, unbroken, byClusters, longWord, oneWord, byWords, splitText, tabbed}
 use Rattle.rows.specs.declared.wrap.RowCounts.{RowCounts}
@@ -130,22 +131,30 @@ pub record Stepped (l : List ℕ) (t : WrapState) (f : Wrap → Wrap) (n m : ℕ
 -- room for a span of a line of len bytes, which a buffer holds
 pub record SpanRoom (buffer : List ℕ) (len : ℕ) (t : WrapState) : Type 0 where
   pub fits : len ≤ length buffer
-  pub room : Room t (2 * len + 8)
+  pub room : Room t (10 * len + 8)
+
+-- what a record of the line does, an Unprintable span counting `count`
+unfoldable pub recordIn : Profile → (List Scalar → ℕ) → ℕ → Bool → List ℕ → Record → Wrap → Wrap
+unfolding splitText unbroken tabbed textIn
+recordIn P count width w line r t =
+    let s : List Scalar = textIn (r .len) (drop (r .place .0) line) in
+    cond (eqb (r .kind) 1 || eqb (r .kind) 2) (splitText P width w t s)
+    (cond (eqb (r .kind) 3 || eqb (r .kind) 4) (unbroken width t 4)
+    (cond (eqb (r .kind) 5) (unbroken width t (count s))
+    (cond (eqb (r .kind) 10) (tabbed width t) t)))
+
+-- the modes by number: which break texts between words, and what an Unprintable span counts
+unfoldable pub wordMode : ℕ → Bool
+wordMode mode = eqb mode 2 || eqb mode 4
+
+unfoldable pub countOf : ℕ → List Scalar → ℕ
+unfolding drawnColumns
+countOf mode s = cond (ltb mode 3) 8 (drawnColumns s)
 
 module _ (P : Profile) (width : ℕ) where
-  -- what a record of the line does
-  unfoldable pub recordIn : Bool → List ℕ → Record → Wrap → Wrap
-  unfolding splitText unbroken tabbed textIn
-  recordIn w line r t =
-      cond (eqb (r .kind) 1 || eqb (r .kind) 2) (splitText P width w t (textIn (r .len) (drop (r .place .0) line)))
-      (cond (eqb (r .kind) 3 || eqb (r .kind) 4) (unbroken width t 4)
-      (cond (eqb (r .kind) 5) (unbroken width t 8)
-      (cond (eqb (r .kind) 10) (tabbed width t) t)))
-
-  -- the same by the mode's number
   unfoldable pub spanOf : ℕ → List ℕ → Record → Wrap → Wrap
-  unfolding recordIn
-  spanOf mode line r t = cond (eqb mode 0) t (recordIn (eqb mode 2) line r t)
+  unfolding recordIn wordMode countOf
+  spanOf mode line r t = cond (eqb mode 0) t (recordIn P (countOf mode) width (wordMode mode) line r t)
 
   unfoldable pub spansOf : ℕ → List ℕ → List Record → Wrap → Wrap
   unfolding spanOf

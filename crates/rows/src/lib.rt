@@ -21,6 +21,7 @@ ghost use Rattle.rows.specs.Calls.{modeAndWidth, rowsCall, heightCall};
 ghost use Rattle.buffer.specs.Sink.{cleared};
 ghost use Rattle.rows.specs.Calls.Contracts.{wrappingOf, decided, outcomeOf, answerOf, wrappedAs, Called};
 
+pub mod marks;
 pub mod numbers;
 pub mod words;
 pub mod wrap;
@@ -60,10 +61,10 @@ fn wrapping(request: Request, conv: usize) -> Wrapping
 }
 
 // Question 5.
-fn mode_and_width(request: Request) -> bool
-    ensures { λ r. ⌜ r ≡ modeAndWidth (request .mode) (request .width) ⌝ }
+pub fn mode_and_width(mode: usize, width: usize) -> bool
+    ensures { λ r. ⌜ r ≡ modeAndWidth mode width ⌝ }
 {
-    (request.mode <= 2) & (request.width <= 65535)
+    (mode <= 4) & (width <= 65535)
 }
 
 // The number: what `read` answered, then questions 5 and 6.
@@ -73,7 +74,7 @@ fn decide(request: Request, read: usize, rows: usize, numbers: usize) -> usize
     if 0 < read {
         return read;
     }
-    if mode_and_width(request) {
+    if mode_and_width(request.mode, request.width) {
         if request.listed & (numbers / 2 < rows) {
             return 6;
         }

@@ -1,4 +1,5 @@
 // Wrapping: src/line.rs, Span::split and make_wrap.
+use super::marks::drawn_columns;
 use super::words::next_word;
 use spans::Span;
 use text::BytePlace;
@@ -9,14 +10,14 @@ use text::scalar::scalar_at;
 use text::segmentation::next_cluster;
 ghost use mathlib.Core.Path.{_≡_};
 ghost use Prim.Native.Nat.{_+_, _-_, _*_, _<_};
-ghost use lib.Dec.{eqb, leb};
+ghost use lib.Dec.{leb};
 ghost use lib.ListN.{length, take, drop};
 ghost use Rattle.text.specs.Class.Code.{profileOf};
 ghost use Rattle.text.specs.TextParts.{textAt};
 ghost use Rattle.rows.specs.Words.Laws.{firstWord};
 ghost use mathlib.Core.Bool.{cond};
 ghost use Rattle.rows.specs.Rows.{row, tabbed, pushed};
-ghost use Rattle.rows.specs.Wrap.{rowList, withRow, nextCount, countedRow, Room, Stepped, advanced, unbrokenOf, WordRoom, clustersOf, longWordOf, oneWordOf, wordsOf, textOf, spanOf, LastRow, beginning, SpanRoom, SpansRoom, MadeWrap};
+ghost use Rattle.rows.specs.Wrap.{rowList, withRow, nextCount, countedRow, Room, Stepped, advanced, unbrokenOf, WordRoom, clustersOf, longWordOf, oneWordOf, wordsOf, wordMode, countOf, textOf, spanOf, LastRow, beginning, SpanRoom, SpansRoom, MadeWrap};
 
 // What is kept of the rows pushed: their number, the start of the row `first`, the end of the row `last`, the end of the row pushed last.
 pub struct RowCounts {
@@ -35,8 +36,8 @@ pub struct WrapState {
     pub tally: RowCounts,
 }
 
-// How to wrap: the text profile, the width, the mode (0 Unwrapped, 1 GraphemeBoundary, 2 WordBoundary), and the length of the line in the
-// buffer that holds it.
+// How to wrap: the text profile, the width, the mode (0 Unwrapped, 1 and 3 GraphemeBoundary, 2 and 4 WordBoundary; 3 and 4 count the columns
+// drawn), and the length of the line in the buffer that holds it.
 pub struct Wrapping {
     pub profile: Profile,
     pub width: Column,
@@ -259,12 +260,25 @@ fn by_words(text: &[u8], rows: &mut [usize], wrapping: Wrapping, state: WrapStat
 // The text of a span, by the mode.
 fn split_text(text: &[u8], rows: &mut [usize], wrapping: Wrapping, state: WrapState) -> WrapState
     requires { ⌜ Room state (2 * length (now text)) ⌝ }
-    ensures { λ r. ⌜ Stepped (now (rows .entry)) state (textOf (profileOf (wrapping .profile)) (wrapping .width .0) (eqb (wrapping .mode) 2) (textAt (now (text .entry)) 0)) (2 * length (now (text .entry))) (2 * length (now (text .entry))) (now (rows .exit)) r ⌝ }
+    ensures { λ r. ⌜ Stepped (now (rows .entry)) state (textOf (profileOf (wrapping .profile)) (wrapping .width .0) (wordMode (wrapping .mode)) (textAt (now (text .entry)) 0)) (2 * length (now (text .entry))) (2 * length (now (text .entry))) (now (rows .exit)) r ⌝ }
 {
-    if wrapping.mode == 2 {
+    if (wrapping.mode == 2) | (wrapping.mode == 4) {
         return by_words(text, rows, wrapping, state);
     }
     by_clusters(text, rows, wrapping, state)
+}
+
+// An Unprintable span, not broken between its marks: 8 columns, or those that it draws.
+fn unprintable(text: &[u8], rows: &mut [usize], wrapping: Wrapping, state: WrapState) -> WrapState
+    requires { ⌜ Room state (10 * length (now text) + 8) ⌝ }
+    ensures { λ r. ⌜ Stepped (now (rows .entry)) state (unbrokenOf (wrapping .width .0) (countOf (wrapping .mode) (textAt (now (text .entry)) 0))) (10 * length (now (text .entry)) + 8) 1 (now (rows .exit)) r ⌝ }
+{
+    let width = wrapping.width;
+    if wrapping.mode < 3 {
+        return unbroken(rows, width, state, Column(8));
+    }
+    let columns = drawn_columns(text);
+    unbroken(rows, width, state, Column(columns))
 }
 
 // The bytes that a record stands for, as far as the line has them.
@@ -291,7 +305,7 @@ pub(crate) fn split_span(
     span: Span,
 ) -> WrapState
     requires { ⌜ SpanRoom (now line) (wrapping .len) state ⌝ }
-    ensures { λ r. ⌜ Stepped (now (rows .entry)) state (spanOf (profileOf (wrapping .profile)) (wrapping .width .0) (wrapping .mode) (take (wrapping .len) (now (line .entry))) span) (2 * wrapping .len + 8) (2 * wrapping .len + 1) (now (rows .exit)) r ⌝ }
+    ensures { λ r. ⌜ Stepped (now (rows .entry)) state (spanOf (profileOf (wrapping .profile)) (wrapping .width .0) (wrapping .mode) (take (wrapping .len) (now (line .entry))) span) (10 * wrapping .len + 8) (2 * wrapping .len + 1) (now (rows .exit)) r ⌝ }
 {
     let width = wrapping.width;
     let kind = span.kind;
@@ -308,7 +322,12 @@ pub(crate) fn split_span(
             state,
         ),
         3 | 4 => unbroken(rows, width, state, Column(4)),
-        5 => unbroken(rows, width, state, Column(8)),
+        5 => unprintable(
+            text_of(&line[..len], place, span.len),
+            rows,
+            wrapping,
+            state,
+        ),
         10 => tab(rows, width, state),
         _ => state,
     }

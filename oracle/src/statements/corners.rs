@@ -1,4 +1,4 @@
-//! Corners of document 01, by what they are about.
+//! Corners of document 01 and of modes 3 and 4, by what they are about.
 
 use super::*;
 
@@ -10,6 +10,7 @@ pub fn corners() -> Vec<Statement> {
         questions,
         clusters,
         rows_and_bytes,
+        drawn_columns,
         overstrike,
         style_orders,
         other_sequences,
@@ -61,7 +62,9 @@ fn questions(list: &mut Vec<Statement>) {
     let large = 1 << 32;
     s.refuses(rows(b"a", large + 4, 1), 5);
     s.refuses(rows(b"a", 4, large + 1), 5);
-    s.refuses(rows(b"a", 4, 3), 5);
+    s.refuses(rows(b"a", 4, 5), 5);
+    s.refuses(height(b"a", 4, 5), 5);
+    s.refuses(draw_row(b"a", 0, 1, 4, 5), 5);
     s.refuses(height(b"a", large + 4, 1), 5);
     s.refuses(height(b"a", 4, usize::MAX), 5);
     s.refuses(draw_row(b"a", large, 1, 4, 1), 5);
@@ -148,6 +151,35 @@ fn rows_and_bytes(list: &mut Vec<Statement>) {
     let most: Vec<u8> = [0xFF, 0x09].repeat(2048);
     s.say(draw_window(&most, 1, 16_383), Says::Count(163_984));
     s.say(read(&most, &[]), Says::Count(4096));
+}
+
+/// Modes 3 and 4: an Unprintable span counts the columns that it draws, as one unit.
+fn drawn_columns(list: &mut Vec<Statement>) {
+    let mut s = about(list, "drawn columns");
+    let (mark, above) = ("CC 81", "F3 A0 84 80");
+    let marks = format!("{mark} {mark}");
+    for (grapheme, word) in [(1, 2), (3, 4)] {
+        let drawn = grapheme == 3;
+        for mode in [grapheme, word] {
+            s.rows(&marks, 80, mode, &[(0, if drawn { 16 } else { 8 })]);
+            s.rows(above, 80, mode, &[(0, if drawn { 9 } else { 8 })]);
+            let both = format!("{mark} {above}");
+            s.rows(&both, 80, mode, &[(0, if drawn { 17 } else { 8 })]);
+            let tab = format!("{marks} 09");
+            s.rows(&tab, 80, mode, &[(0, if drawn { 24 } else { 16 })]);
+            s.rows(mark, 8, mode, &[(0, 8)]);
+        }
+    }
+    s.rows(&marks, 8, 3, &[(0, 0), (0, 16)]);
+    s.rows(&marks, 15, 4, &[(0, 0), (0, 16)]);
+    s.rows(&format!("FF {marks} 'b'"), 20, 3, &[(0, 20), (20, 21)]);
+    let wide = bytes(&format!("{above} E3 80 80 2D"));
+    s.refuses(draw_row(&wide, 4, 1, 0, 2), 8);
+    s.accepts(draw_row(&wide, 4, 1, 0, 4));
+    s.say(
+        draw_row(&bytes(&marks), 1, 1, 8, 3),
+        Says::Changes("a00000002 t3C552B303330313E t3C552B303330313E d"),
+    );
 }
 
 fn overstrike(list: &mut Vec<Statement>) {

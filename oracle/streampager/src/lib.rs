@@ -17,3 +17,10 @@ mod keymaps;
 mod spanset;
 
 pub use line::probe;
+
+/// The columns that the source draws for an Unprintable span, by `Span::render`'s format.
+fn columns_drawn(grapheme: &str) -> usize {
+    use unicode_width::UnicodeWidthStr;
+    let mark = |c: char| format!("<U+{:04X}>", c as u32).width();
+    grapheme.chars().map(mark).sum()
+}

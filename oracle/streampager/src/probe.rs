@@ -15,6 +15,7 @@ use unicode_segmentation::UnicodeSegmentation;
 
 use super::{Line, Span};
 use crate::config::WrappingMode;
+use crate::line_drawn;
 use crate::search::{trim_trailing_newline, ESCAPE_SEQUENCE};
 use crate::{line_drawing, overstrike, util};
 
@@ -49,6 +50,8 @@ pub fn clip(text: &str, offset: usize, width: usize) -> Option<String> {
 /// A line read by the source.
 pub struct Reading {
     line: Line,
+    raw: Vec<u8>,
+    matches: Vec<(usize, usize)>,
     records: Vec<Record>,
     /// The address at which the source read the converted line.
     address: usize,
@@ -58,7 +61,7 @@ impl Reading {
     /// `Line::new`, or `Line::new_search` where there are matches.
     pub fn new(raw: &[u8], matches: &[(usize, usize)]) -> Reading {
         match matches {
-            [] => Reading::noted(raw, || Line::new(0, raw)),
+            [] => Reading::noted(raw, matches, || Line::new(0, raw)),
             _ => Reading::searched(raw, matches),
         }
     }
@@ -66,10 +69,10 @@ impl Reading {
     /// `Line::new_search`.
     pub fn searched(raw: &[u8], matches: &[(usize, usize)]) -> Reading {
         let search = Regex::Search(matches.to_vec());
-        Reading::noted(raw, || Line::new_search(0, raw, &search))
+        Reading::noted(raw, matches, || Line::new_search(0, raw, &search))
     }
 
-    fn noted(raw: &[u8], read: impl FnOnce() -> Line) -> Reading {
+    fn noted(raw: &[u8], matches: &[(usize, usize)], read: impl FnOnce() -> Line) -> Reading {
         let (line, notes) = trace::noting(read);
         let converted = convert(raw);
         let address = address(&line.spans, &notes);
@@ -83,6 +86,8 @@ impl Reading {
         let records = place(&converted, &line.spans, address, &notes);
         Reading {
             line,
+            raw: raw.to_vec(),
+            matches: matches.to_vec(),
             records,
             address,
         }
@@ -97,12 +102,30 @@ impl Reading {
         self.line.spans == other.line.spans
     }
 
+    /// Modes 3 and 4 are the source's 1 and 2, wrapped by the columns drawn.
     pub fn rows(&self, width: usize, mode: usize) -> Vec<(usize, usize)> {
-        self.line.make_wrap(width, wrapping(mode))
+        match mode {
+            3 | 4 => self.wrapped_as_drawn().rows(width, wrapping(mode - 2)),
+            _ => self.line.make_wrap(width, wrapping(mode)),
+        }
+    }
+
+    /// The same line, where an Unprintable span is wrapped by the columns that it draws.
+    fn wrapped_as_drawn(&self) -> line_drawn::Line {
+        match &self.matches[..] {
+            [] => line_drawn::Line::new(0, &self.raw),
+            matches => {
+                let search = Regex::Search(matches.to_vec());
+                line_drawn::Line::new_search(0, &self.raw, &search)
+            }
+        }
     }
 
     pub fn height(&self, width: usize, mode: usize) -> usize {
-        self.line.height(width, wrapping(mode))
+        match mode {
+            3 | 4 => self.rows(width, mode).len(),
+            _ => self.line.height(width, wrapping(mode)),
+        }
     }
 
     /// The changes of `Line::render`; none where `truncate_string` panics.
@@ -128,6 +151,9 @@ impl Reading {
         mode: usize,
         current: Option<usize>,
     ) -> Option<Vec<Change>> {
+        if mode > 2 {
+            return self.draw_drawn_row(first, count, width, mode, current);
+        }
         unless_torn(|| {
             let mut changes = Vec::new();
             let mode = wrapping(mode);
@@ -135,6 +161,25 @@ impl Reading {
                 .render_wrapped(&mut changes, first, count, width, mode, current);
             changes
         })
+    }
+
+    /// The same in modes 3 and 4: their rows stand in the source's cache while it draws.
+    fn draw_drawn_row(
+        &self,
+        first: usize,
+        count: usize,
+        width: usize,
+        mode: usize,
+        current: Option<usize>,
+    ) -> Option<Vec<Change>> {
+        let kept = |rows| {
+            let mut wraps = self.line.wraps.lock().unwrap();
+            wraps.put((width, wrapping(mode - 2)), rows);
+        };
+        kept(self.rows(width, mode));
+        let changes = self.draw_row(first, count, width, mode - 2, current);
+        kept(self.rows(width, mode - 2));
+        changes
     }
 
     /// The byte place of a hyperlink's URI in the converted line.

@@ -47,9 +47,6 @@ markPart v n i (suc k) = markByte v n i ∷ markPart v n (suc i) k
 abbrev pub markText : ℕ → ℕ → List Scalar
 markText v n = asciis (markPart v n 0 n)
 
-abbrev pub scalarLength : ℕ → ℕ
-scalarLength v = cond (ltb v 0x10000) 8 (cond (ltb v 0x100000) 9 10)
-
 -- a mark in a window
 abbrev pub marking : Window → ℕ → ℕ → AttributeState → Sent
 marking w v n t = writeTruncated (profileOf (w .profile)) (w .start .0) (w .end .0) (stateOf t) control (markText v n)

@@ -13,26 +13,27 @@ use lib.Dec.{eqb, ltb}
 use borrow.Author.Tests.{lt-ltb, le-ltb, eq-eqb, ne-eqb, ltb-true, ltb-false}
 use Rattle.text.specs.Tests.{cases}
 use Rattle.text.specs.Each.{all-nil, all-cons}
+use Rattle.text.specs.Utf8.{Scalar}
 use Rattle.text.specs.Class.{Profile}
 use Rattle.spans.specs.Sequence.{sgr, eraseToEnd, ignored, hyperlink, lineDrawing}
 use Rattle.spans.specs.Spans.RecordSpans.{HasContents}
 use Rattle.spans.specs.Spans.{Content, text, control, invalid, unprintable, escape, tab, crlf, lf, Span, Record, aRecord, kindOf, matchOf, recordOf, records}
 use Rattle.spans.specs.Spans.ContentLaw.{textIn, contentIn, contentOf}
-use Rattle.rows.specs.Rows.{Row, Wrap, wrap, split, splits, splitText, lastRow, wrapped, rows}
+use Rattle.rows.specs.Rows.{Row, Wrap, wrap, unbroken, split, splits, splitText, lastRow, wrapped, rows}
 use Rattle.rows.specs.Calls.{modeOf, numbersOf}
-use Rattle.rows.specs.Wrap.{nextCount, countedRow, pairAt, RowList, rowList, withRow, withRows, wrapRows, on, recordIn, spanOf, spansOf, lastRowList, beginning}
+use Rattle.rows.specs.Wrap.{nextCount, countedRow, pairAt, RowList, rowList, withRow, withRows, wrapRows, on, recordIn, wordMode, countOf, spanOf, spansOf, lastRowList, beginning}
 use Rattle.rows.specs.declared.wrap.RowCounts.{RowCounts}
 
 -- ---- what a record does is what its span does
 
-module _ (P : Profile) (width : ℕ) (w : Bool) (line : List ℕ) (t : Wrap) (p n : ℕ) where
-  content-split : (c : Content) → contentOf line (aRecord (kindOf c) p n (matchOf c)) ≡ c → recordIn P width w line (aRecord (kindOf c) p n (matchOf c)) t ≡ split P width w t c
+module _ (P : Profile) (count : List Scalar → ℕ) (width : ℕ) (w : Bool) (line : List ℕ) (t : Wrap) (p n : ℕ) where
+  content-split : (c : Content) → contentOf line (aRecord (kindOf c) p n (matchOf c)) ≡ c → recordIn P count width w line (aRecord (kindOf c) p n (matchOf c)) t ≡ split P count width w t c
   unfolding recordIn split contentOf contentIn kindOf matchOf
   content-split (text none s) e = let q : textIn n (drop p line) ≡ s = cc in ap (splitText P width w t) q
   content-split (text (some k) s) e = let q : textIn n (drop p line) ≡ s = cc in ap (splitText P width w t) q
   content-split (control b) e = refl
   content-split (invalid b) e = refl
-  content-split (unprintable s) e = refl
+  content-split (unprintable s) e = let q : textIn n (drop p line) ≡ s = cc in ap (λ (x : List Scalar). unbroken width t (count x)) q
   content-split (escape (sgr os)) e = refl
   content-split (escape (hyperlink a m)) e = refl
   content-split (escape (lineDrawing b)) e = refl
@@ -43,12 +44,12 @@ module _ (P : Profile) (width : ℕ) (w : Bool) (line : List ℕ) (t : Wrap) (p 
   content-split lf e = refl
 
 module _ (P : Profile) (width mode : ℕ) (line : List ℕ) where
-  records-split : (mode ≢ 0) → {ss : List Span} → HasContents line ss → (t : Wrap) → spansOf P width mode line (records ss) t ≡ splits P width (eqb mode 2) t ss
+  records-split : (mode ≢ 0) → {ss : List Span} → HasContents line ss → (t : Wrap) → spansOf P width mode line (records ss) t ≡ splits P (countOf mode) width (wordMode mode) t ss
   unfolding spansOf spanOf splits records recordOf
   records-split z all-nil t = refl
   records-split z (all-cons {a = s} {s = ss} h a) t =
-      ap (spansOf P width mode line (records ss)) (rw (ne-eqb mode 0 z) (content-split P width (eqb mode 2) line t (s .place) (s .len) (s .content) h))
-      ∙ records-split z a (split P width (eqb mode 2) t (s .content))
+      ap (spansOf P width mode line (records ss)) (rw (ne-eqb mode 0 z) (content-split P (countOf mode) width (wordMode mode) line t (s .place) (s .len) (s .content) h))
+      ∙ records-split z a (split P (countOf mode) width (wordMode mode) t (s .content))
 
   records-unwrapped : mode ≡ 0 → (rs : List Record) (t : Wrap) → spansOf P width mode line rs t ≡ t
   unfolding spansOf spanOf
@@ -87,23 +88,25 @@ none-yet l first last = rowList l (beginning first last .tally)
 
 module _ (P : Profile) (width : ℕ) (line l : List ℕ) (first last : ℕ) (ss : List Span) where
   wrapped-written : (mode : ℕ) → (mode ≢ 0) → HasContents line ss
-      → lastRowList mode (on (spansOf P width mode line (records ss)) (wrapRows l (beginning first last))) ≡ withRows (none-yet l first last) (reverse (wrapped P width (eqb mode 2) ss))
+      → lastRowList mode (on (spansOf P width mode line (records ss)) (wrapRows l (beginning first last))) ≡ withRows (none-yet l first last) (reverse (wrapped P (countOf mode) width (wordMode mode) ss))
   unfolding on wrapped
   wrapped-written mode z a =
-      let t : Wrap = splits P width (eqb mode 2) (wrap [] 0 0) ss in
+      let t : Wrap = splits P (countOf mode) width (wordMode mode) (wrap [] 0 0) ss in
       ap (λ (x : Wrap). lastRowList mode (record { rows = withRows (none-yet l first last) (x .rows); start = x .start; position = x .position })) (records-split P width mode line z a (wrap [] 0 0))
       ∙ last-written (none-yet l first last) refl mode z (t .start) (t .position) (t .rows)
       ∙ ap (withRows (none-yet l first last)) (sym (reverse-reverse (lastRow (t .start) (t .position) (t .rows))))
 
   -- the rows that the spans of a line push are its rows
-  pub rows-written : (mode : ℕ) → mode ≤ 2 → HasContents line ss
+  pub rows-written : (mode : ℕ) → mode ≤ 4 → HasContents line ss
       → lastRowList mode (on (spansOf P width mode line (records ss)) (wrapRows l (beginning first last))) ≡ withRows (none-yet l first last) (reverse (rows P width (modeOf mode) ss))
-  unfolding rows modeOf on lastRowList withRows
+  unfolding rows modeOf on lastRowList withRows wordMode countOf
   rows-written zero h a =
       ap (λ (x : Wrap). lastRowList 0 (record { rows = withRows (none-yet l first last) (x .rows); start = x .start; position = x .position })) (records-unwrapped P width 0 line refl (records ss) (wrap [] 0 0))
   rows-written (suc zero) h a = wrapped-written 1 (λ e. omega arith) a
   rows-written (suc (suc zero)) h a = wrapped-written 2 (λ e. omega arith) a
-  rows-written (suc (suc (suc n))) h a = absurd (omega arith)
+  rows-written (suc (suc (suc zero))) h a = wrapped-written 3 (λ e. omega arith) a
+  rows-written (suc (suc (suc (suc zero)))) h a = wrapped-written 4 (λ e. omega arith) a
+  rows-written (suc (suc (suc (suc (suc n))))) h a = absurd (omega arith)
 
 -- ---- the list of pairs
 

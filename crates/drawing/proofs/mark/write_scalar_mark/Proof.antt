@@ -3,8 +3,8 @@ use borrow.Author.Needs.{needs}
 use Rattle.drawing.proofs.mark.write_scalar_mark.Statement.{statement}
 use Rattle.drawing.proofs.mark.write_scalar_mark.Tie as tie
 
-scalar-mark-len-requires : tie.Need-scalar-mark-len-requires
-scalar-mark-len-requires c κs = search needs
+mark-columns-requires : tie.Need-mark-columns-requires
+mark-columns-requires c κs = search needs
 
 write-mark-requires : tie.Need-write-mark-requires
 write-mark-requires c κs = search scalar-room
@@ -17,4 +17,4 @@ returns c = search scalar-wrote
 
 pub write-scalar-mark-spec : {M : Type 1} → statement M
 write-scalar-mark-spec =
-    tie.close (tie.spec scalar-mark-len-requires write-mark-requires same-length returns)
+    tie.close (tie.spec mark-columns-requires write-mark-requires same-length returns)

@@ -135,7 +135,7 @@ Numbers = RefT (List ℕ)
 
 -- what `split_span` says of its result and of the row list's last numbers
 abbrev Said : Wrapping → List ℕ → WrapState → List ℕ → Span → WrapState → List ℕ → Type 0
-Said w l p bs x r zs = Stepped bs p (spanOf (profileOf (w .profile)) (w .width .0) (w .mode) (take (w .len) l) x) (2 * w .len + 8) (2 * w .len + 1) zs r
+Said w l p bs x r zs = Stepped bs p (spanOf (profileOf (w .profile)) (w .width .0) (w .mode) (take (w .len) l) x) (10 * w .len + 8) (2 * w .len + 1) zs r
 
 abbrev StepC : {M : Type 1} (𝓤 : URA M) (H : Heap 𝓤) (A : Atoms 𝓤) (mem : Memory → SProp 𝓤) (run : Routine → Fun 𝓤) → Contract 𝓤
 StepC 𝓤 H A mem run = tripleOf 𝓤 H A step.signature (step.spec 𝓤 H A mem run)
