@@ -1,3 +1,3 @@
-pub mod Counting
+pub mod Columns
 pub mod Conditions
 pub mod Picture

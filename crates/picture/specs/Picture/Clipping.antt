@@ -1,128 +1,101 @@
--- Clipping at columns between clusters: the clusters inside, whole, and no spaces.
+-- Clipping at columns within no cluster leaves the clusters inside the window, whole, and no spaces.
 use mathlib.Core.Path.{_≡_, refl, sym, ap, _∙_}
 use Prim.Native.Nat.{ℕ, _+_, _-_, _≤_, _<_}
 use native.Mathlib.Omega.{arith}
-use mathlib.Core.Bool.{Bool, true, false, cond, _&&_, _||_}
+use mathlib.Core.Bool.{true, false, _||_}
 use mathlib.Core.List.{List, [], _∷_, _++_}
 use mathlib.Core.Option.{some}
-use lib.Dec.{T, eqb, leb, ltb, eqb→eq, leb→le, le→leb, ltb→lt, lt→ltb, nleb→lt, nltb→le}
-use Rattle.text.specs.Tests.{cases, and-T, or-T, true-T, is-true, is-false, or-false}
+use lib.Dec.{eqb, leb, ltb}
+use borrow.Author.Tests.{ltb-true, ltb-false, leb-true, leb-false, le-leb, lt-leb, lt-ltb, le-ltb, ne-eqb}
+use Rattle.text.specs.Tests.{cases, or-false}
+use Rattle.text.specs.Each.{all-nil, all-cons}
 use Rattle.text.specs.Utf8.{Scalar}
 use Rattle.text.specs.Class.{Profile}
 use Rattle.text.specs.Width.{widthOf}
 use Rattle.text.specs.Cluster.{clusters, joinAll}
-use Rattle.text.specs.Cluster.Laws.{clusters-all}
-use Rattle.text.specs.Width.Laws.{width-append}
+use Rattle.text.specs.Cluster.Laws.{clusters-all, clusters-nil}
+use Rattle.text.specs.Cluster.Parts.{Wide, Ends, ends-none, ends-same, Clustered, none, more, clustered, first-before}
 use Rattle.drawing.specs.Clip.{clip, clipStart, clipEnd, spaces}
-use Rattle.picture.specs.Conditions.{positive}
+use Rattle.picture.specs.Columns.Wrapping.{widths, widths-total}
+use Rattle.picture.specs.Picture.Window.{inside, inside-right, inside-all, Outside}
 
 module _ (P : Profile) where
-  -- of the clusters from `column` on, those from column o up to column l
-  unfoldable pub inside : ℕ → ℕ → ℕ → List (List Scalar) → List (List Scalar)
-  inside o l column [] = []
-  inside o l column (g ∷ gs) =
-      let rest : List (List Scalar) = inside o l (column + widthOf P g) gs in
-      cond (leb o column && ltb column l) (g ∷ rest) rest
+  -- a text at column p, and a window from start to end
+  module _ (p start end : ℕ) (h : start ≤ end) where
+    clip-end : {gs : List (List Scalar)} → Wide P gs → (c a : ℕ) → a ≡ p + c → start ≤ a → Outside end a (widths P gs) → clipEnd P (end - p) c gs ≡ joinAll (inside (widthOf P) start end a gs)
+    unfolding clipEnd inside joinAll Outside
+    clip-end all-nil c a e s o = refl
+    clip-end (all-cons {a = g} {s = gs} w v) c a e s o =
+        let n = ne-eqb (widthOf P g) 0 (λ z. omega arith) in
+        cases (ltb (end - p) (c + widthOf P g))
+        (λ t.
+        let k = ltb-true (end - p) (c + widthOf P g) t in
+        let m : end ≤ a = cases (ltb a end) (λ q. absurd (omega (arith, o .0 (ltb-true a end q)))) (λ q. ltb-false a end q) in
+        let z : end - p - c ≡ 0 = omega arith in
+        rw (n, t, z) (sym (ap joinAll (inside-right (widthOf P) start end a (g ∷ gs) m))))
+        (λ t.
+        let k = ltb-false (end - p) (c + widthOf P g) t in
+        rw (n, t, le-leb start a s, lt-ltb a end (omega arith)) (ap (λ (x : List Scalar). g ++ x) (clip-end v (c + widthOf P g) (a + widthOf P g) (omega arith) (omega arith) (o .1))))
 
-  -- column x is inside none of them
-  unfoldable pub between : ℕ → ℕ → List (List Scalar) → Bool
-  between x column [] = true
-  between x column (g ∷ gs) = (leb x column || leb (column + widthOf P g) x) && between x (column + widthOf P g) gs
+    starts-here : (c : ℕ) (g : List Scalar) (gs : List (List Scalar)) → 1 ≤ widthOf P g → leb (start - p) c ≡ true → clipStart P (start - p) (end - p) c (g ∷ gs) ≡ some (spaces (c - (start - p)) ++ clipEnd P (end - p) c (g ∷ gs))
+    unfolding clipStart
+    starts-here c g gs w t = rw (ne-eqb (widthOf P g) 0 (λ z. omega arith), t) refl
 
-  side : (x column : ℕ) (g : List Scalar) (gs : List (List Scalar)) → T (between x column (g ∷ gs)) → column < x → column + widthOf P g ≤ x
-  unfolding between
-  side x column g gs t h =
-      or-T (leb x column) (leb (column + widthOf P g) x) (and-T (leb x column || leb (column + widthOf P g) x) (between x (column + widthOf P g) gs) t .0)
-      (λ a. let k = leb→le x column a in absurd (omega arith))
-      (λ a. leb→le _ _ a)
+    clip-start : {gs : List (List Scalar)} → Wide P gs → (c a : ℕ) → a ≡ p + c → c ≤ start - p → Outside start a (widths P gs) → Outside end a (widths P gs)
+        → clipStart P (start - p) (end - p) c gs ≡ some (joinAll (inside (widthOf P) start end a gs))
+    unfolding clipStart inside joinAll Outside
+    clip-start all-nil c a e s o q = refl
+    clip-start (all-cons {a = g} {s = gs} w v) c a e s o q =
+        cases (leb (start - p) c)
+        (λ t.
+        let k = leb-true (start - p) c t in
+        let z : c - (start - p) ≡ 0 = omega arith in
+        starts-here c g gs w t ∙ ap (λ (n : ℕ). some (spaces n ++ clipEnd P (end - p) c (g ∷ gs))) z ∙ ap some (clip-end (all-cons w v) c a e (omega arith) q))
+        (λ t.
+        let k = leb-false (start - p) c t in
+        let m : a + widthOf P g ≤ start = o .0 (omega arith) in
+        rw (ne-eqb (widthOf P g) 0 (λ z. omega arith), t, le-ltb (end - p) (c + widthOf P g) (omega arith), lt-leb start a (omega arith))
+        (clip-start v (c + widthOf P g) (a + widthOf P g) (omega arith) (omega arith) (o .1) (q .1)))
 
-  on : (x column : ℕ) (g : List Scalar) (gs : List (List Scalar)) → T (between x column (g ∷ gs)) → T (between x (column + widthOf P g) gs)
-  unfolding between
-  on x column g gs t = and-T (leb x column || leb (column + widthOf P g) x) (between x (column + widthOf P g) gs) t .1
+    pub clip-inside : (x : List Scalar) → p ≤ end → Wide P (clusters P x) → Outside start p (widths P (clusters P x)) → Outside end p (widths P (clusters P x))
+        → clip P (start - p) (end - p - (start - p)) x ≡ some (joinAll (inside (widthOf P) start end p (clusters P x)))
+    unfolding clip
+    clip-inside x r w o q =
+        let n : start - p + (end - p - (start - p)) ≡ end - p = omega arith in
+        cases (ltb 0 (start - p) || ltb (end - p - (start - p)) (widthOf P x))
+        (λ t. rw (t, n) (clip-start w 0 p (omega arith) (omega arith) o q))
+        (λ t.
+        let f = or-false (ltb 0 (start - p)) (ltb (end - p - (start - p)) (widthOf P x)) t in
+        let k = ltb-false 0 (start - p) (f .0) in
+        let m = ltb-false (end - p - (start - p)) (widthOf P x) (f .1) in
+        let i : inside (widthOf P) start end p (clusters P x) ≡ clusters P x = inside-all (widthOf P) start end p w (omega arith) (omega (arith, widths-total P x)) in
+        rw t (ap some (sym (ap joinAll i ∙ clusters-all P x))))
 
-  wide : (g : List Scalar) (gs : List (List Scalar)) → T (positive P (g ∷ gs)) → 0 < widthOf P g
-  unfolding positive
-  wide g gs t = ltb→lt 0 (widthOf P g) (and-T (ltb 0 (widthOf P g)) (positive P gs) t .0)
+  -- ---- what is left has these clusters
 
-  wider : (g : List Scalar) (gs : List (List Scalar)) → T (positive P (g ∷ gs)) → T (positive P gs)
-  unfolding positive
-  wider g gs t = and-T (ltb 0 (widthOf P g)) (positive P gs) t .1
+  -- clusters of a text that begins as s does, or of none
+  record Front (s : List Scalar) (gs : List (List Scalar)) : Type 0 where
+    same : clusters P (joinAll gs) ≡ gs
+    ends : Ends P s (joinAll gs)
 
-  not-none : (g : List Scalar) → 0 < widthOf P g → eqb (widthOf P g) 0 ≡ false
-  not-none g h = is-false _ (λ t. let k = eqb→eq (widthOf P g) 0 t in omega arith)
+  no-clusters : (s : List Scalar) → Front s []
+  unfolding joinAll
+  no-clusters s = record { same = clusters-nil P; ends = ends-none P s }
 
-  -- right of the limit nothing is inside
-  pub none-inside : (o l column : ℕ) (gs : List (List Scalar)) → l ≤ column → inside o l column gs ≡ []
-  unfolding inside
-  none-inside o l column [] h = refl
-  none-inside o l column (g ∷ gs) h =
-      let f : (leb o column && ltb column l) ≡ false = is-false _ (λ t. let k = ltb→lt column l (and-T (leb o column) (ltb column l) t .1) in omega arith) in
-      rw f (none-inside o l (column + widthOf P g) gs (omega arith))
-
-  end-inside : (o l column : ℕ) (gs : List (List Scalar)) → o ≤ column → T (positive P gs) → T (between l column gs) → clipEnd P l column gs ≡ joinAll (inside o l column gs)
-  unfolding clipEnd inside joinAll
-  end-inside o l column [] h p b = refl
-  end-inside o l column (g ∷ gs) h p b =
-      let w = wide g gs p in
-      let n = not-none g w in
-      cases (ltb l (column + widthOf P g))
-      (λ e.
-      let k : l < column + widthOf P g = ltb→lt l (column + widthOf P g) (true-T e) in
-      let m : l ≤ column = cases (leb l column) (λ t. leb→le _ _ (true-T t)) (λ t. let a = nleb→lt l column (rw t tt) in let c = side l column g gs b a in absurd (omega arith)) in
-      let z : l - column ≡ 0 = omega arith in
-      let f : (leb o column && ltb column l) ≡ false = is-false _ (λ t. let k = ltb→lt column l (and-T (leb o column) (ltb column l) t .1) in omega arith) in
-      rw (n, e, z, f) (ap joinAll (sym (none-inside o l (column + widthOf P g) gs (omega arith)))))
-      (λ e.
-      let k : column + widthOf P g ≤ l = nltb→le _ _ (rw e tt) in
-      let f : leb o column ≡ true = is-true _ (le→leb o column h) in
-      let q : ltb column l ≡ true = is-true _ (lt→ltb column l (omega arith)) in
-      rw (n, e, f, q) (ap (λ (x : List Scalar). g ++ x) (end-inside o l (column + widthOf P g) gs (omega arith) (wider g gs p) (on l column g gs b))))
-
-  starts-here : (o l column : ℕ) (g : List Scalar) (gs : List (List Scalar)) → eqb (widthOf P g) 0 ≡ false → leb o column ≡ true
-      → clipStart P o l column (g ∷ gs) ≡ some (spaces (column - o) ++ clipEnd P l column (g ∷ gs))
-  unfolding clipStart
-  starts-here o l column g gs n e = rw (n, e) refl
-
-  start-inside : (o l column : ℕ) (gs : List (List Scalar)) → column ≤ o → o ≤ l → T (positive P gs) → T (between o column gs) → T (between l column gs)
-      → clipStart P o l column gs ≡ some (joinAll (inside o l column gs))
-  unfolding clipStart inside joinAll
-  start-inside o l column [] h k p a b = refl
-  start-inside o l column (g ∷ gs) h k p a b =
-      let w = wide g gs p in
-      let n = not-none g w in
-      cases (leb o column)
-      (λ e.
-      let m : o ≤ column = leb→le o column (true-T e) in
-      let z : column - o ≡ 0 = omega arith in
-      starts-here o l column g gs n e ∙ ap (λ (i : ℕ). some (spaces i ++ clipEnd P l column (g ∷ gs))) z ∙ ap some (end-inside o l column (g ∷ gs) m p b))
-      (λ e.
-      let m : column < o = nleb→lt o column (rw e tt) in
-      let q : column + widthOf P g ≤ o = side o column g gs a m in
-      let f : ltb l (column + widthOf P g) ≡ false = is-false _ (λ t. let r = ltb→lt l (column + widthOf P g) t in omega arith) in
-      rw (n, e, f) (start-inside o l (column + widthOf P g) gs q k (wider g gs p) (on o column g gs a) (on l column g gs b)))
-
-  -- a window that holds all of the text
-  all-inside : (o l column : ℕ) (gs : List (List Scalar)) → o ≤ column → T (positive P gs) → column + widthOf P (joinAll gs) ≤ l → inside o l column gs ≡ gs
+  front : {s : List Scalar} {gs : List (List Scalar)} → Clustered P s gs → (o l c : ℕ) → o ≤ c → Front s (inside (widthOf P) o l c gs)
   unfolding inside joinAll
-  all-inside o l column [] h p k = refl
-  all-inside o l column (g ∷ gs) h p k =
-      let w = wide g gs p in
-      let a = width-append P g (joinAll gs) in
-      let e : leb o column ≡ true = is-true _ (le→leb o column h) in
-      let f : ltb column l ≡ true = is-true _ (lt→ltb column l (omega arith)) in
-      rw (e, f) (ap (λ (x : List (List Scalar)). g ∷ x) (all-inside o l (column + widthOf P g) gs (omega arith) (wider g gs p) (omega arith)))
+  front none o l c h = no-clusters []
+  front (more {c = d} {x = x} {rest = rest} {gs = gs} e k) o l c h =
+      let f = front k o l (c + widthOf P (d ∷ x)) (omega arith) in
+      let r : List Scalar = joinAll (inside (widthOf P) o l (c + widthOf P (d ∷ x)) gs) in
+      cases (ltb c l)
+      (λ t. rw (le-leb o c h, t) (record { same = first-before P d x rest r e (f .ends) ∙ ap (λ (gs : List (List Scalar)). (d ∷ x) ∷ gs) (f .same); ends = ends-same P d (x ++ rest) (x ++ r) }))
+      (λ t. rw (le-leb o c h, t, inside-right (widthOf P) o l (c + widthOf P (d ∷ x)) gs (omega (arith, ltb-false c l t))) (no-clusters (d ∷ (x ++ rest))))
 
-  -- truncate_string at two columns between clusters
-  pub clip-inside : (o n : ℕ) (s : List Scalar) → T (positive P (clusters P s)) → T (between o 0 (clusters P s)) → T (between (o + n) 0 (clusters P s))
-      → clip P o n s ≡ some (joinAll (inside o (o + n) 0 (clusters P s)))
-  unfolding clip
-  clip-inside o n s p a b =
-      cases (ltb 0 o || ltb n (widthOf P s))
-      (λ e. rw e (start-inside o (o + n) 0 (clusters P s) (omega arith) (omega arith) p a b))
-      (λ e.
-      let q = or-false (ltb 0 o) (ltb n (widthOf P s)) e in
-      let z : o ≤ 0 = nltb→le 0 o (rw (q .0) tt) in
-      let m : widthOf P s ≤ n = nltb→le n (widthOf P s) (rw (q .1) tt) in
-      let c : widthOf P (joinAll (clusters P s)) ≡ widthOf P s = ap (widthOf P) (clusters-all P s) in
-      let i : inside o (o + n) 0 (clusters P s) ≡ clusters P s = all-inside o (o + n) 0 (clusters P s) z p (omega arith) in
-      rw e (ap some (sym (ap joinAll i ∙ clusters-all P s))))
+  inside-clustered : {s : List Scalar} {gs : List (List Scalar)} → Clustered P s gs → (o l c : ℕ) → clusters P (joinAll (inside (widthOf P) o l c gs)) ≡ inside (widthOf P) o l c gs
+  unfolding inside joinAll
+  inside-clustered none o l c = clusters-nil P
+  inside-clustered (more {c = d} {x = x} e k) o l c = cases (leb o c) (λ t. front (more e k) o l c (leb-true o c t) .same) (λ t. rw t (inside-clustered k o l (c + widthOf P (d ∷ x))))
+
+  pub inside-clusters : (o l c : ℕ) (s : List Scalar) → clusters P (joinAll (inside (widthOf P) o l c (clusters P s))) ≡ inside (widthOf P) o l c (clusters P s)
+  inside-clusters o l c s = inside-clustered (clustered P (clusters P s) s refl) o l c

@@ -1,0 +1,271 @@
+-- Where whitespace and hyphens are unshared, words and their own clusters end where clusters of the text end, a column of width 0 apart.
+use mathlib.Core.Path.{_≡_, refl, sym, ap, ap₂, _∙_, subst}
+use Prim.Native.Nat.{ℕ, _+_}
+use native.Mathlib.Omega.{arith}
+use mathlib.Core.Bool.{Bool, true, false, not, _&&_, _||_, or-true, true≢false}
+use mathlib.Core.List.{List, [], _∷_, _++_, append-assoc, append-nil, reverse, reverseAux}
+use lib.Dec.{eqb}
+use borrow.Author.Tests.{eqb-true}
+use Rattle.text.specs.Tests.{cases, true-T}
+use Rattle.text.specs.Each.{All, all-nil, all-cons}
+use Rattle.text.specs.Utf8.{Scalar}
+use Rattle.text.specs.Class.{Profile, cr, lf, control, other, number, among, whitespace}
+use Rattle.text.specs.Width.{widthOf}
+use Rattle.text.specs.Width.Laws.{width-append, width-cons, width-nil}
+use Rattle.text.specs.Cluster.{Context, start, after, joined, classOf, context, joins, joinsNext, addToCluster, clustersAfter, clusters}
+use Rattle.text.specs.Cluster.Laws.{clusters-nil, clusters-first, clusters-one}
+use Rattle.rows.specs.Words.{Word, words}
+use Rattle.rows.specs.Words.Laws.{belongs, leading, beyond, leading-beyond, wordFrom, restFrom, firstWord, restWords, words-first}
+use Rattle.picture.specs.Columns.Wrapping.{total, EachEnd, widths, widths-total, behind, WordEnds, TextEnds}
+use Rattle.picture.specs.Conditions.{wordBreak, WordBreakClasses, Unshared}
+
+all-first : {A : Type 0} {Q : A → Type 0} {a : A} {s : List A} → All Q (a ∷ s) → Q a × All Q s
+all-first (all-cons q e) = (q, e)
+
+-- behind these classes the context starts anew
+restarted : (k : Context) (n : ℕ) → among n (cr ∷ lf ∷ control ∷ other ∷ []) ≡ true → after k n ≡ start
+unfolding after among number
+restarted k n g = cases (eqb n 10) (λ e. absurd (true-T (rw (eqb-true n 10 e) at g))) (λ e. rw e)
+
+module _ (P : Profile) where
+  -- ---- the clusters of a text in two parts
+
+  -- the clusters xs, and behind them ys: apart, or the last of xs and the first of ys being one
+  unfoldable meet : Bool → List (List Scalar) → List (List Scalar) → List (List Scalar)
+  meet j [] ys = ys
+  meet false (g ∷ []) ys = g ∷ ys
+  meet true (g ∷ []) [] = g ∷ []
+  meet true (g ∷ []) (h ∷ ys) = (g ++ h) ∷ ys
+  meet j (g ∷ h ∷ gs) ys = g ∷ meet j (h ∷ gs) ys
+
+  meet-one : (j : Bool) (d : Scalar) (ys : List (List Scalar)) → addToCluster P j d ys ≡ meet j ((d ∷ []) ∷ []) ys
+  unfolding addToCluster meet
+  meet-one false d ys = refl
+  meet-one true d [] = refl
+  meet-one true d (g ∷ ys) = refl
+
+  add-first : (j w : Bool) (d : Scalar) (g : List Scalar) (gs ys : List (List Scalar)) → addToCluster P w d (meet j (g ∷ gs) ys) ≡ meet j (addToCluster P w d (g ∷ gs)) ys
+  unfolding addToCluster meet
+  add-first j false d g gs ys = refl
+  add-first false true d g [] ys = refl
+  add-first true true d g [] [] = refl
+  add-first true true d g [] (h ∷ ys) = refl
+  add-first false true d g (h ∷ gs) ys = refl
+  add-first true true d g (h ∷ gs) ys = refl
+
+  add-meet : (j w v : Bool) (d e : Scalar) (gs ys : List (List Scalar)) → addToCluster P w d (meet j (addToCluster P v e gs) ys) ≡ meet j (addToCluster P w d (addToCluster P v e gs)) ys
+  unfolding addToCluster
+  add-meet j w false d e gs ys = add-first j w d (e ∷ []) gs ys
+  add-meet j w true d e [] ys = add-first j w d (e ∷ []) [] ys
+  add-meet j w true d e (g ∷ gs) ys = add-first j w d (e ∷ g) gs ys
+
+  meet-after : (b a before : List Scalar) (d : Scalar)
+      → clustersAfter P before (d ∷ (a ++ b)) ≡ meet (joinsNext P (reverseAux a (d ∷ before)) b) (clustersAfter P before (d ∷ a)) (clustersAfter P (reverseAux a (d ∷ before)) b)
+  unfolding clustersAfter joinsNext
+  meet-after b [] before d = meet-one (joinsNext P (d ∷ before) b) d (clustersAfter P (d ∷ before) b)
+  meet-after b (e ∷ a) before d =
+      let t : List Scalar = reverseAux a (e ∷ d ∷ before) in
+      ap (addToCluster P (joins P (d ∷ before) e) d) (meet-after b a (d ∷ before) e)
+      ∙ add-meet (joinsNext P t b) (joins P (d ∷ before) e) (joinsNext P (e ∷ d ∷ before) a) d e (clustersAfter P (e ∷ d ∷ before) a) (clustersAfter P t b)
+
+  clusters-meet : (a b : List Scalar) → clusters P (a ++ b) ≡ meet (joinsNext P (reverse a) b) (clusters P a) (clustersAfter P (reverse a) b)
+  unfolding clusters clustersAfter meet
+  clusters-meet [] b = refl
+  clusters-meet (d ∷ a) b = meet-after b a [] d
+
+  -- clusters depend on the context alone
+  same-after : (s : List Scalar) (c : Scalar) (a b : List Scalar) → context P (c ∷ a) ≡ context P (c ∷ b) → clustersAfter P a (c ∷ s) ≡ clustersAfter P b (c ∷ s)
+  unfolding clustersAfter joinsNext joins context
+  same-after [] c a b e = refl
+  same-after (d ∷ s) c a b e =
+      ap₂ (λ (w : Bool) (gs : List (List Scalar)). addToCluster P w c gs) (ap (λ (k : Context). joined (classOf P c) k (classOf P d)) e)
+      (same-after s d (c ∷ a) (c ∷ b) (ap (λ (k : Context). after k (classOf P d)) e))
+
+  module _ (classes : WordBreakClasses P) (c : Scalar) (k : wordBreak (c .code) ≡ true) where
+    break-context : (a : List Scalar) → context P (c ∷ a) ≡ start
+    unfolding context
+    break-context a = restarted (context P a) (classOf P c) (classes (c .code) k)
+
+    -- whitespace or a hyphen in front of a text
+    break-clusters : (s : List Scalar) → clusters P (c ∷ s) ≡ addToCluster P (joinsNext P (c ∷ []) s) c (clusters P s)
+    unfolding clusters clustersAfter context
+    break-clusters [] = refl
+    break-clusters (d ∷ s) = ap (addToCluster P (joinsNext P (c ∷ []) (d ∷ s)) c) (same-after s d (c ∷ []) [] (ap (λ (k : Context). after k (classOf P d)) (break-context [])))
+
+    -- a text in front of whitespace or a hyphen
+    clusters-break : (a s : List Scalar) → clusters P (a ++ (c ∷ s)) ≡ meet (joins P (reverse a) c) (clusters P a) (clusters P (c ∷ s))
+    unfolding joinsNext clusters
+    clusters-break a s = clusters-meet a (c ∷ s) ∙ ap (meet (joins P (reverse a) c) (clusters P a)) (same-after s c (reverse a) [] (break-context (reverse a) ∙ sym (break-context [])))
+
+  -- ---- parts of unshared clusters
+
+  unshared-front : (u v : List Scalar) → Unshared P (u ++ v) → Unshared P u
+  unshared-front u v f x y c e k =
+      let z = f x (y ++ v) c (ap (λ (l : List Scalar). l ++ v) e ∙ append-assoc x (c ∷ y) v) k in
+      omega (arith, z, width-append P x (y ++ v), width-append P x y, width-append P y v)
+
+  unshared-rest : (u v : List Scalar) → Unshared P (u ++ v) → Unshared P v
+  unshared-rest u v f x y c e k =
+      let z = f (u ++ x) y c (ap (λ (l : List Scalar). u ++ l) e ∙ sym (append-assoc u x (c ∷ y))) k in
+      omega (arith, z, width-append P (u ++ x) y, width-append P u x, width-append P x y)
+
+  -- ---- columns
+
+  module _ (F : ℕ → Type 0) where
+    -- unshared clusters from column p on, at whose ends F holds
+    record Ending (p : ℕ) (gs : List (List Scalar)) : Type 0 where
+      here : F p
+      ends : EachEnd F p (widths P gs)
+      unshared : All (Unshared P) gs
+
+    moved : {p q : ℕ} {gs : List (List Scalar)} → p ≡ q → Ending p gs → Ending q gs
+    moved {gs = gs} e t = subst (λ (n : ℕ). Ending n gs) e t
+
+    no-ending : {p : ℕ} → F p → Ending p []
+    unfolding EachEnd
+    no-ending f = record { here = f; ends = tt; unshared = all-nil }
+
+    with-first : {p : ℕ} (g : List Scalar) {gs : List (List Scalar)} → F p → Unshared P g → Ending (p + widthOf P g) gs → Ending p (g ∷ gs)
+    unfolding EachEnd
+    with-first g f u t = record { here = f; ends = (t .here, t .ends); unshared = all-cons u (t .unshared) }
+
+    first-ending : {p : ℕ} (g : List Scalar) (gs : List (List Scalar)) → Ending p (g ∷ gs) → Unshared P g × Ending (p + widthOf P g) gs
+    unfolding EachEnd
+    first-ending g gs t = let u = all-first (t .unshared) in (u .0, record { here = t .ends .0; ends = t .ends .1; unshared = u .1 })
+
+    -- the clusters before whitespace or a hyphen, and those from there on
+    meet-parts : (j : Bool) (c : Scalar) (v : List Scalar) (gs : List (List Scalar)) → wordBreak (c .code) ≡ true → (xs : List (List Scalar)) (p : ℕ) → Ending p (meet j xs ((c ∷ v) ∷ gs))
+        → Ending p xs × Ending (p + total (widths P xs)) ((c ∷ v) ∷ gs)
+    unfolding meet total
+    meet-parts j c v gs k [] p t = (no-ending (t .here), moved (omega arith) t)
+    meet-parts false c v gs k (g ∷ []) p t = let f = first-ending g ((c ∷ v) ∷ gs) t in (with-first g (t .here) (f .0) (no-ending (f .1 .here)), moved (omega arith) (f .1))
+    meet-parts true c v gs k (g ∷ []) p t =
+        let f = first-ending (g ++ (c ∷ v)) gs t in
+        let z : widthOf P g ≡ 0 = omega (arith, f .0 g v c refl k, width-append P g v) in
+        let n = width-append P g (c ∷ v) in
+        let e : p ≡ p + widthOf P g = omega arith in
+        let here : F (p + widthOf P g) = subst F e (t .here) in (
+          with-first g (t .here) (unshared-front g (c ∷ v) (f .0)) (no-ending here),
+          moved (omega arith) (with-first (c ∷ v) here (unshared-rest g (c ∷ v) (f .0)) (moved (omega arith) (f .1))),
+        )
+    meet-parts j c v gs k (g ∷ h ∷ xs) p t =
+        let f = first-ending g (meet j (h ∷ xs) ((c ∷ v) ∷ gs)) t in
+        let r = meet-parts j c v gs k (h ∷ xs) (p + widthOf P g) (f .1) in
+        (with-first g (t .here) (f .0) (r .0), moved (omega arith) (r .1))
+
+    -- a hyphen behind clusters
+    meet-ends : (j : Bool) (c : Scalar) (xs : List (List Scalar)) (p : ℕ) → EachEnd F p (widths P xs) → F (p + total (widths P xs) + P .width (c .code)) → EachEnd F p (widths P (meet j xs ((c ∷ []) ∷ [])))
+    unfolding meet total EachEnd
+    meet-ends j c [] p e f = (subst F (omega (arith, width-cons P c [], width-nil P)) f, tt)
+    meet-ends false c (g ∷ []) p e f = (e .0, (subst F (omega (arith, width-cons P c [], width-nil P)) f, tt))
+    meet-ends true c (g ∷ []) p e f = (subst F (omega (arith, width-append P g (c ∷ []), width-cons P c [], width-nil P)) f, tt)
+    meet-ends j c (g ∷ h ∷ xs) p e f = (e .0, meet-ends j c (h ∷ xs) (p + widthOf P g) (e .1) (subst F (omega arith) f))
+
+    -- whitespace or a hyphen in front of clusters
+    add-parts : (j : Bool) (c : Scalar) (gs : List (List Scalar)) (p : ℕ) → wordBreak (c .code) ≡ true → Ending p (addToCluster P j c gs) → Ending (p + P .width (c .code)) gs
+    unfolding addToCluster
+    add-parts false c gs p k t = moved (omega (arith, width-cons P c [], width-nil P)) (first-ending (c ∷ []) gs t .1)
+    add-parts true c [] p k t = moved (omega (arith, width-cons P c [], width-nil P)) (first-ending (c ∷ []) [] t .1)
+    add-parts true c (g ∷ gs) p k t =
+        let f = first-ending (c ∷ g) gs t in
+        let z = f .0 [] g c refl k in
+        let n = width-cons P c g in
+        with-first g (subst F (omega arith) (f .1 .here)) (unshared-rest (c ∷ []) g (f .0)) (moved (omega arith) (f .1))
+
+    add-ends : (j : Bool) (c : Scalar) (gs : List (List Scalar)) (p : ℕ) → F (p + P .width (c .code)) → EachEnd F (p + P .width (c .code)) (widths P gs) → EachEnd F p (widths P (addToCluster P j c gs))
+    unfolding addToCluster EachEnd
+    add-ends false c gs p f e = let q : p + P .width (c .code) ≡ p + widthOf P (c ∷ []) = omega (arith, width-cons P c [], width-nil P) in (subst F q f, subst (λ (n : ℕ). EachEnd F n (widths P gs)) q e)
+    add-ends true c [] p f e = (subst F (omega (arith, width-cons P c [], width-nil P)) f, tt)
+    add-ends true c (g ∷ gs) p f e = let q : p + P .width (c .code) + widthOf P g ≡ p + widthOf P (c ∷ g) = omega (arith, width-cons P c g) in (subst F q (e .0), subst (λ (n : ℕ). EachEnd F n (widths P gs)) q (e .1))
+
+    last-end : (ws : List ℕ) (p : ℕ) → F p → EachEnd F p ws → F (p + total ws)
+    unfolding EachEnd total
+    last-end [] p f e = subst F (omega arith) f
+    last-end (w ∷ ws) p f e = subst F (omega arith) (last-end ws (p + w) (e .0) (e .1))
+
+    -- ---- words
+
+    module _ (classes : WordBreakClasses P) where
+      abbrev EndingText : ℕ → List Scalar → Type 0
+      EndingText p s = Ending p (clusters P s)
+
+      abbrev EndsIn : ℕ → List Scalar → Type 0
+      EndsIn p s = EachEnd F p (widths P (clusters P s))
+
+      no-ends : (p : ℕ) → EndsIn p []
+      unfolding EachEnd
+      no-ends p = rw (clusters-nil P) tt
+
+      before-break : (c : Scalar) → wordBreak (c .code) ≡ true → (a s : List Scalar) (p : ℕ) → EndingText p (a ++ (c ∷ s)) → EndingText p a × EndingText (p + widthOf P a) (c ∷ s)
+      before-break c k a s p t =
+          let f = clusters-first P c s in
+          let r = meet-parts (joins P (reverse a) c) c _ _ k (clusters P a) p (subst (Ending p) (clusters-break classes c k a s ∙ ap (meet (joins P (reverse a) c) (clusters P a)) f) t) in
+          (r .0, rw f (rw (widths-total P a) at (r .1)))
+
+      behind-break : (c : Scalar) → wordBreak (c .code) ≡ true → (s : List Scalar) (p : ℕ) → EndingText p (c ∷ s) → EndingText (p + P .width (c .code)) s
+      behind-break c k s p t = add-parts (joinsNext P (c ∷ []) s) c (clusters P s) p k (rw (break-clusters classes c k s) at t)
+
+      spaces-parts : (s : List Scalar) (p : ℕ) → EndingText p s → EndsIn p (leading true s) × EndingText (p + widthOf P (leading true s)) (beyond true s)
+      unfolding leading beyond belongs
+      spaces-parts [] p t = (no-ends p, moved (omega (arith, width-nil P)) t)
+      spaces-parts (c ∷ s) p t =
+          cases (whitespace (c .code))
+          (λ w.
+          let k : wordBreak (c .code) ≡ true = rw w in
+          let b = behind-break c k s p t in
+          let r = spaces-parts s (p + P .width (c .code)) b in
+          rw w (rw (break-clusters classes c k (leading true s)) (add-ends (joinsNext P (c ∷ []) (leading true s)) c (clusters P (leading true s)) p (b .here) (r .0)), moved (omega (arith, width-cons P c (leading true s))) (r .1)))
+          (λ w. rw w (no-ends p, moved (omega (arith, width-nil P)) t))
+
+      -- the first word, its separator and the rest
+      record Parts (p : ℕ) (v : Word) (r : List Scalar) : Type 0 where
+        word : EndsIn p (v .word)
+        sep : EndsIn (p + widthOf P (v .word)) (v .sep)
+        rest : EndingText (behind P p v) r
+
+      parts-from : (w b : List Scalar) → ((c : Scalar) (s : List Scalar) → b ≡ c ∷ s → belongs false (c .code) ≡ false) → (p : ℕ) → EndingText p (w ++ b) → Parts p (wordFrom w b) (restFrom b)
+      unfolding wordFrom restFrom belongs
+      parts-from w [] h p t =
+          let u : EndingText p w = rw (append-nil w) at t in
+          record { word = u .ends; sep = no-ends _; rest = rw (clusters-nil P) (no-ending (subst F (omega (arith, widths-total P w, width-nil P)) (last-end (widths P (clusters P w)) p (u .here) (u .ends)))) }
+      parts-from w (c ∷ b) h p t =
+          cases (eqb (c .code) 0x2D)
+          (λ e.
+          let k : wordBreak (c .code) ≡ true = rw (e, or-true (whitespace (c .code))) in
+          let q = before-break c k w b p t in
+          let r = behind-break c k b (p + widthOf P w) (q .1) in
+          rw e (record {
+            word = rw (clusters-break classes c k w [], clusters-one P c) (meet-ends (joins P (reverse w) c) c (clusters P w) p (q .0 .ends) (rw (widths-total P w) (r .here)));
+            sep = no-ends _;
+            rest = moved (omega (arith, width-append P w (c ∷ []), width-cons P c [], width-nil P)) r;
+          }))
+          (λ e.
+          let i : whitespace (c .code) ≡ true = cases (whitespace (c .code)) (λ i. i) (λ i. absurd (true≢false (rw (i, e) at (h c b refl)))) in
+          let q = before-break c (rw i) w b p t in
+          let r = spaces-parts (c ∷ b) (p + widthOf P w) (q .1) in
+          rw e (record { word = q .0 .ends; sep = r .0; rest = r .1 }))
+
+      beyond-head : (s : List Scalar) (c : Scalar) (t : List Scalar) → beyond false s ≡ c ∷ t → belongs false (c .code) ≡ false
+      unfolding beyond
+      beyond-head [] c t e = absurd (let z : _≡_ {A = ℕ} 0 1 = cc in omega arith)
+      beyond-head (d ∷ s) c t e = cases (belongs false (d .code)) (λ b. beyond-head s c t (rw b at e)) (λ b. let f : d ∷ s ≡ c ∷ t = rw b at e in let q : d ≡ c = cc in rw (← q) b)
+
+      first-parts : (s : List Scalar) (p : ℕ) → EndingText p s → Parts p (firstWord s) (restWords s)
+      unfolding firstWord restWords
+      first-parts s p t = parts-from (leading false s) (beyond false s) (beyond-head s) p (subst (EndingText p) (leading-beyond false s) t)
+
+      word-ends : (vs : List Word) (s : List Scalar) → words s ≡ vs → (p : ℕ) → EndingText p s → WordEnds F P p vs
+      unfolding words WordEnds
+      word-ends [] s e p t = tt
+      word-ends (v ∷ vs) [] e p t = absurd (let z : _≡_ {A = ℕ} 0 1 = cc in omega arith)
+      word-ends (v ∷ vs) (c ∷ s) e p t =
+          let f : firstWord (c ∷ s) ∷ words (restWords (c ∷ s)) ≡ v ∷ vs = sym (words-first (c ∷ s) c s refl) ∙ e in
+          let i : firstWord (c ∷ s) ≡ v = cc in
+          let r = first-parts (c ∷ s) p t in
+          rw (← i) (r .word, r .sep, r .rest .here, word-ends vs (restWords (c ∷ s)) (cc) (behind P p (firstWord (c ∷ s))) (r .rest))
+
+      -- where F holds at the ends of a text's clusters, it holds wherever wrapping may end a row in the text
+      pub text-ends : (b : Bool) (s : List Scalar) (p : ℕ) → F p → EachEnd F p (widths P (clusters P s)) → All (Unshared P) (clusters P s) → TextEnds F P b p s
+      unfolding TextEnds
+      text-ends true s p f e u = word-ends (words s) s refl p (record { here = f; ends = e; unshared = u })
+      text-ends false s p f e u = e
