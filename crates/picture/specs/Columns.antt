@@ -10,21 +10,22 @@ pub mod Wrapping
 
 -- an Unprintable span takes `count` columns
 module _ (P : Profile) (count : List Scalar → ℕ) where
-  -- the column behind a span that begins at column p
-  unfoldable pub columnAfter : ℕ → Content → ℕ
-  columnAfter p (text m s) = p + widthOf P s
-  columnAfter p (control b) = p + 4
-  columnAfter p (invalid b) = p + 4
-  columnAfter p (unprintable s) = p + count s
-  columnAfter p (escape e) = p
-  columnAfter p tab = p + (8 - p % 8)
-  columnAfter p crlf = p
-  columnAfter p lf = p
+  -- the columns of a span that begins at column p
+  unfoldable pub spanColumns : ℕ → Content → ℕ
+  spanColumns p (text m s) = widthOf P s
+  spanColumns p (control b) = 4
+  spanColumns p (invalid b) = 4
+  spanColumns p (unprintable s) = count s
+  spanColumns p (escape e) = 0
+  spanColumns p tab = 8 - p % 8
+  spanColumns p crlf = 0
+  spanColumns p lf = 0
 
+  -- the column behind spans from column p on
   unfoldable pub lastColumnFrom : ℕ → List Span → ℕ
-  unfolding columnAfter
+  unfolding spanColumns
   lastColumnFrom p [] = p
-  lastColumnFrom p (s ∷ ss) = lastColumnFrom (columnAfter p (s .content)) ss
+  lastColumnFrom p (s ∷ ss) = lastColumnFrom (p + spanColumns p (s .content)) ss
 
   -- the line's last column
   abbrev pub lastColumn : List Span → ℕ

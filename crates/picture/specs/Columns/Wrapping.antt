@@ -1,23 +1,25 @@
 -- Rows run end to end, and begin and end at columns of which F holds, if F holds wherever wrapping may end a row.
 use mathlib.Core.Path.{_≡_, refl, sym, ap, _∙_, subst}
 use Prim.Native.Nat.{ℕ, _+_, _-_, _%_, _≤_}
+use native.Mathlib.Nat.{add-zero, add-assoc}
 use native.Mathlib.Omega.{arith}
 use mathlib.Core.Bool.{Bool, true, false}
-use mathlib.Core.List.{List, [], _∷_, map, reverse, reverseAux}
+use mathlib.Core.List.{List, [], _∷_, _++_, map, reverse, reverseAux}
 use mathlib.Core.Option.{Option}
 use lib.Dec.{eqb, ltb}
 use borrow.Author.Tests.{ltb-false}
 use Rattle.text.specs.Tests.{cases, both}
 use Rattle.text.specs.Utf8.{Scalar}
-use Rattle.text.specs.Class.{Profile, whitespace}
+use Rattle.text.specs.Class.{Profile}
 use Rattle.text.specs.Width.{widthOf}
-use Rattle.text.specs.Width.Laws.{width-append, width-cons, width-nil}
+use Rattle.text.specs.Width.Laws.{width-append, width-nil}
 use Rattle.text.specs.Cluster.{clusters, joinAll}
 use Rattle.text.specs.Cluster.Laws.{clusters-all, join-cons, join-nil}
 use Rattle.spans.specs.Spans.{Content, text, control, invalid, unprintable, escape, tab, crlf, lf, Span}
-use Rattle.rows.specs.Words.{Word, aWord, words, addSpace, joinSpace, addLetter}
+use Rattle.rows.specs.Words.{Word, words}
+use Rattle.rows.specs.Words.Laws.{firstWord, restWords, first-word-all, words-first}
 use Rattle.rows.specs.Rows.{Row, row, Wrap, wrap, fitsRow, unbroken, tabbed, pushed, byClusters, wordEnd, longWord, oneWord, byWords, splitText, split, splits, lastRow, wrapped}
-use Rattle.picture.specs.Columns.{columnAfter, lastColumnFrom, lastColumn, EndToEnd}
+use Rattle.picture.specs.Columns.{spanColumns, lastColumnFrom, lastColumn, EndToEnd}
 
 -- ---- widths side by side
 
@@ -52,29 +54,22 @@ module _ (P : Profile) where
   wordsWidth [] = 0
   wordsWidth (v ∷ vs) = widthOf P (v .word) + widthOf P (v .sep) + wordsWidth vs
 
-  space-width : (c : Scalar) (w : List Scalar) (v : Word) (vs : List Word) → v .word ≡ w → wordsWidth (joinSpace c w v vs) ≡ P .width (c .code) + wordsWidth (v ∷ vs)
-  unfolding joinSpace wordsWidth widthOf
-  space-width c [] v vs e = rw e (omega arith)
-  space-width c (d ∷ w) v vs e = omega arith
-
-  add-width : (c : Scalar) (vs : List Word) → (wordsWidth (addSpace c vs) ≡ P .width (c .code) + wordsWidth vs) × (wordsWidth (addLetter c vs) ≡ P .width (c .code) + wordsWidth vs)
-  unfolding addSpace addLetter wordsWidth widthOf
-  add-width c [] = (omega arith, omega arith)
-  add-width c (v ∷ vs) = (space-width c (v .word) v vs refl, omega arith)
-
-  hyphen-width : (c : Scalar) (vs : List Word) → wordsWidth (aWord (c ∷ []) [] ∷ vs) ≡ P .width (c .code) + wordsWidth vs
-  unfolding wordsWidth widthOf
-  hyphen-width c vs = omega arith
+  words-sum : (vs : List Word) (s : List Scalar) → words s ≡ vs → wordsWidth vs ≡ widthOf P s
+  unfolding words wordsWidth
+  words-sum [] [] e = sym (width-nil P)
+  words-sum (v ∷ vs) [] e = absurd (let z : _≡_ {A = ℕ} 0 1 = cc in omega arith)
+  words-sum [] (c ∷ s) e = absurd (let f = sym (words-first (c ∷ s) c s refl) ∙ e in let z : _≡_ {A = ℕ} 0 1 = cc in omega arith)
+  words-sum (v ∷ vs) (c ∷ s) e =
+      let f : firstWord (c ∷ s) ∷ words (restWords (c ∷ s)) ≡ v ∷ vs = sym (words-first (c ∷ s) c s refl) ∙ e in
+      let i : firstWord (c ∷ s) ≡ v = cc in
+      let w : List Scalar = firstWord (c ∷ s) .word in
+      let t : List Scalar = firstWord (c ∷ s) .sep in
+      let r : List Scalar = restWords (c ∷ s) in
+      rw (← i) (omega (arith, words-sum vs r (cc), ap (widthOf P) (first-word-all (c ∷ s)), width-append P (w ++ t) r, width-append P w t))
 
   -- words and their separators are as wide as their text
   pub words-width : (s : List Scalar) → wordsWidth (words s) ≡ widthOf P s
-  unfolding words wordsWidth widthOf
-  words-width [] = refl
-  words-width (c ∷ s) =
-      let e = words-width s in
-      cases (whitespace (c .code))
-      (λ w. rw w (omega (arith, add-width c (words s) .0)))
-      (λ w. cases (eqb (c .code) 0x2D) (λ h. rw (w, h) (omega (arith, hyphen-width c (words s)))) (λ h. rw (w, h) (omega (arith, add-width c (words s) .1))))
+  words-width s = words-sum (words s) s refl
 
 module _ (F : ℕ → Type 0) where
   -- rows, the last one first, that run end to end from column 0 to column z; F holds where they begin and end
@@ -98,6 +93,9 @@ module _ (F : ℕ → Type 0) where
     start : F (t .start)
     here : F (t .position)
     position : t .position ≡ p
+
+  still : {p : ℕ} (t : Wrap) → Wrapped p t → Wrapped (p + 0) t
+  still {p} t w = rw (add-zero p) w
 
   unbroken-wrapped : (width n p : ℕ) (t : Wrap) → Wrapped p t → F (p + n) → Wrapped (p + n) (unbroken width t n)
   unfolding unbroken
@@ -142,10 +140,9 @@ module _ (F : ℕ → Type 0) where
     module _ (width : ℕ) where
       byClusters-wrapped : (gs : List (List Scalar)) (p : ℕ) (t : Wrap) → Wrapped p t → EachEnd F p (widths P gs) → Wrapped (p + total (widths P gs)) (byClusters P width t gs)
       unfolding byClusters EachEnd total
-      byClusters-wrapped [] p t w e = let z : p ≡ p + 0 = omega arith in subst (λ (n : ℕ). Wrapped n t) z w
+      byClusters-wrapped [] p t w e = still t w
       byClusters-wrapped (g ∷ gs) p t w e =
-          let q : p + widthOf P g + total (widths P gs) ≡ p + (widthOf P g + total (widths P gs)) = omega arith in
-          subst (λ (n : ℕ). Wrapped n (byClusters P width (unbroken width t (widthOf P g)) gs)) q
+          rw (← add-assoc p (widthOf P g) (total (widths P gs)))
           (byClusters-wrapped gs (p + widthOf P g) (unbroken width t (widthOf P g)) (unbroken-wrapped width (widthOf P g) p t w (e .0)) (e .1))
 
       clusters-wrapped : (s : List Scalar) (p : ℕ) (t : Wrap) → Wrapped p t → EachEnd F p (widths P (clusters P s)) → Wrapped (p + widthOf P s) (byClusters P width t (clusters P s))
@@ -172,11 +169,10 @@ module _ (F : ℕ → Type 0) where
 
       byWords-wrapped : (vs : List Word) (p : ℕ) (t : Wrap) → Wrapped p t → WordEnds p vs → Wrapped (p + wordsWidth P vs) (byWords P width t vs)
       unfolding byWords WordEnds wordsWidth
-      byWords-wrapped [] p t w e = let z : p ≡ p + 0 = omega arith in subst (λ (n : ℕ). Wrapped n t) z w
+      byWords-wrapped [] p t w e = still t w
       byWords-wrapped (v ∷ vs) p t w e =
-          let q : behind P p v + wordsWidth P vs ≡ p + (widthOf P (v .word) + widthOf P (v .sep) + wordsWidth P vs) = omega arith in
-          subst (λ (n : ℕ). Wrapped n (byWords P width (oneWord P width t v) vs)) q
-          (byWords-wrapped vs (behind P p v) (oneWord P width t v) (oneWord-wrapped v p (e .0) (e .1) (e .2) t w) (e .3))
+          let q : p + (widthOf P (v .word) + widthOf P (v .sep) + wordsWidth P vs) ≡ behind P p v + wordsWidth P vs = omega arith in
+          rw q (byWords-wrapped vs (behind P p v) (oneWord P width t v) (oneWord-wrapped v p (e .0) (e .1) (e .2) t w) (e .3))
 
       text-wrapped : (b : Bool) (s : List Scalar) (p : ℕ) (t : Wrap) → Wrapped p t → TextEnds b p s → Wrapped (p + widthOf P s) (splitText P width b t s)
       unfolding splitText TextEnds
@@ -190,26 +186,26 @@ module _ (F : ℕ → Type 0) where
       unfoldable pub Stops : ℕ → List Span → Type 0
       Stops p [] = Unit {0}
       Stops p (s ∷ ss) =
-          ((m : Option ℕ) (x : List Scalar) → s .content ≡ text m x → TextEnds b p x) × F (columnAfter P count p (s .content)) × Stops (columnAfter P count p (s .content)) ss
+          ((m : Option ℕ) (x : List Scalar) → s .content ≡ text m x → TextEnds b p x) × F (p + spanColumns P count p (s .content)) × Stops (p + spanColumns P count p (s .content)) ss
 
       module _ (width : ℕ) where
-        split-wrapped : (c : Content) (p : ℕ) (t : Wrap) → Wrapped p t → ((m : Option ℕ) (x : List Scalar) → c ≡ text m x → TextEnds b p x) → F (columnAfter P count p c)
-            → Wrapped (columnAfter P count p c) (split P count width b t c)
-        unfolding split columnAfter
+        split-wrapped : (c : Content) (p : ℕ) (t : Wrap) → Wrapped p t → ((m : Option ℕ) (x : List Scalar) → c ≡ text m x → TextEnds b p x) → F (p + spanColumns P count p c)
+            → Wrapped (p + spanColumns P count p c) (split P count width b t c)
+        unfolding split spanColumns
         split-wrapped (text m s) p t w e f = text-wrapped width b s p t w (e m s refl)
         split-wrapped (control x) p t w e f = unbroken-wrapped width 4 p t w f
         split-wrapped (invalid x) p t w e f = unbroken-wrapped width 4 p t w f
         split-wrapped (unprintable s) p t w e f = unbroken-wrapped width (count s) p t w f
-        split-wrapped (escape x) p t w e f = w
+        split-wrapped (escape x) p t w e f = still t w
         split-wrapped tab p t w e f = tabbed-wrapped width p t w f
-        split-wrapped crlf p t w e f = w
-        split-wrapped lf p t w e f = w
+        split-wrapped crlf p t w e f = still t w
+        split-wrapped lf p t w e f = still t w
 
         splits-wrapped : (ss : List Span) (p : ℕ) (t : Wrap) → Wrapped p t → Stops p ss → Wrapped (lastColumnFrom P count p ss) (splits P count width b t ss)
         unfolding splits lastColumnFrom Stops
         splits-wrapped [] p t w e = w
         splits-wrapped (s ∷ ss) p t w e =
-            splits-wrapped ss (columnAfter P count p (s .content)) (split P count width b t (s .content)) (split-wrapped (s .content) p t w (e .0) (e .1)) (e .2)
+            splits-wrapped ss (p + spanColumns P count p (s .content)) (split P count width b t (s .content)) (split-wrapped (s .content) p t w (e .0) (e .1)) (e .2)
 
   -- ---- make_wrap
 

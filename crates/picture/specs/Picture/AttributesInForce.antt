@@ -2,17 +2,16 @@
 use mathlib.Core.Path.{_≡_, refl, sym, ap, _∙_}
 use Prim.Native.Nat.{ℕ}
 use mathlib.Core.Bool.{true, false, cond, not, _&&_}
-use mathlib.Core.List.{List, [], _∷_, _++_, map, append-assoc}
+use mathlib.Core.List.{List, [], _∷_, _++_, append-assoc}
 use lib.Dec.{eqb}
 use borrow.Author.Tests.{eqb-true, not-true}
 use Rattle.text.specs.Tests.{and-T, is-true, true-T, by-case}
 use Rattle.text.specs.Class.{Profile}
-use Rattle.text.specs.Cluster.{clusters}
 use Rattle.drawing.specs.declared.attributes.Attributes.{Attributes}
 use Rattle.drawing.specs.Attributes.{Style, file, control, match, currentMatch, number, styled}
 use Rattle.drawing.specs.Change.{Change, text, torn, allAttributes, clearToEnd, cursorRight, whole}
 use Rattle.drawing.specs.Draw.{State, Sent, style}
-use Rattle.picture.specs.Picture.{cell, shownFrom}
+use Rattle.picture.specs.Picture.{shownFrom}
 
 -- behind changes, `a` being in force before them
 unfoldable pub inForce : Attributes → List Change → Attributes

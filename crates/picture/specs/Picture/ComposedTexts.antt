@@ -1,15 +1,15 @@
 -- What spans draw: clusters of width above 0, and as many columns as modes 3 and 4 count.
-use mathlib.Core.Path.{_≡_, refl, sym, ap, ap₂, subst, _∙_}
+use mathlib.Core.Path.{_≡_, refl, sym, ap, ap₂, _∙_}
 use Prim.Native.Nat.{ℕ, zero, suc, _+_, _-_, _/_, _%_, _≤_, _<_}
 use native.Mathlib.Omega.{arith}
 use mathlib.Core.Bool.{Bool, true, false, cond}
-use mathlib.Core.List.{List, [], _∷_, _++_, map}
+use mathlib.Core.List.{List, [], _∷_, _++_}
 use mathlib.Core.Option.{Option}
 use lib.ListN.{length, length-replicate}
 use lib.Dec.{ltb}
 use Rattle.text.specs.Tests.{cases, every, every-one}
 use Rattle.text.specs.Each.{Each, nil, cons, All, all-nil, all-cons, all-append}
-use Rattle.text.specs.Utf8.{Scalar, to, within, ascii, scalar}
+use Rattle.text.specs.Utf8.{Scalar, to, within, ascii}
 use Rattle.text.specs.Class.{Profile, number, inAny}
 use Rattle.text.specs.Width.{widthOf}
 use Rattle.text.specs.Width.Laws.{width-cons, width-nil}
@@ -23,7 +23,7 @@ use Rattle.drawing.specs.declared.attributes.Attributes.{Attributes}
 use Rattle.drawing.specs.Attributes.{Style, styled}
 use Rattle.drawing.specs.Clip.{spaces}
 use Rattle.drawing.specs.Marks.{hexDigit, byteMark, upperDigits, scalarMark, lineDrawn}
-use Rattle.picture.specs.Columns.{columnAfter, lastColumnFrom}
+use Rattle.picture.specs.Columns.{spanColumns, lastColumnFrom}
 use Rattle.picture.specs.Columns.Wrapping.{total, widths, widths-total}
 use Rattle.picture.specs.Conditions.{composed, replacement, PlainComposed, Drawable}
 use Rattle.picture.specs.Picture.{Cell}
@@ -139,32 +139,24 @@ module _ (P : Profile) (H : PlainComposed P) where
   mark-cells a (c ∷ s) = both-cells (text-cells a _ (scalarMark (c .code)) (rw (scalar-length (c .code)) at (composed-takes (scalar-composed (c .code))))) (mark-cells a s)
 
   module _ (current : Option ℕ) where
-    -- what a span at column p draws
-    record SpanDraws (p : ℕ) (c : Content) (xs : List Cell) : Type 0 where
-      wide : SomeWidth (cellWidth P) xs
-      column : p + columns (cellWidth P) xs ≡ columnAfter P drawnColumns p c
+    span-cells : (r : Rendition) (p : ℕ) (c : Content) → Drawable P c → CellsTake (spanColumns P drawnColumns p c) (spanCells P current r p c)
+    unfolding spanCells spanColumns byteMark
+    span-cells r p (text m s) d = text-cells (r .attrs) _ (cond (r .lineDrawing) (lineDrawn s) s) (text-takes (r .lineDrawing) s (d .wide m s refl))
+    span-cells r p (control b) d = text-cells (r .attrs) _ (byteMark b) (composed-takes (byte-composed b (d .control b refl)))
+    span-cells r p (invalid b) d = text-cells (r .attrs) _ (byteMark b) (composed-takes (byte-composed b (d .invalid b refl)))
+    span-cells r p (unprintable s) d = mark-cells (r .attrs) s
+    span-cells r p (escape e) d = no-cells
+    span-cells r p tab d = text-cells (r .attrs) _ (spaces (8 - p % 8)) (rw (length-replicate (8 - p % 8) (ascii 0x20)) at (composed-takes (spaces-composed (8 - p % 8))))
+    span-cells r p crlf d = no-cells
+    span-cells r p lf d = no-cells
 
-    draws : (p : ℕ) (c : Content) {n : ℕ} {xs : List Cell} → CellsTake n xs → p + n ≡ columnAfter P drawnColumns p c → SpanDraws p c xs
-    draws p c t e = record { wide = t .wide; column = rw (t .columns) e }
-
-    span-draws : (r : Rendition) (p : ℕ) (c : Content) → Drawable P c → SpanDraws p c (spanCells P current r p c)
-    unfolding spanCells columnAfter byteMark
-    span-draws r p (text m s) d = draws p _ (text-cells (r .attrs) _ (cond (r .lineDrawing) (lineDrawn s) s) (text-takes (r .lineDrawing) s (d .wide m s refl))) refl
-    span-draws r p (control b) d = draws p _ (text-cells (r .attrs) _ (byteMark b) (composed-takes (byte-composed b (d .control b refl)))) refl
-    span-draws r p (invalid b) d = draws p _ (text-cells (r .attrs) _ (byteMark b) (composed-takes (byte-composed b (d .invalid b refl)))) refl
-    span-draws r p (unprintable s) d = draws p _ (mark-cells (r .attrs) s) refl
-    span-draws r p (escape e) d = draws p _ no-cells (omega arith)
-    span-draws r p tab d = draws p _ (text-cells (r .attrs) _ (spaces (8 - p % 8)) (composed-takes (spaces-composed (8 - p % 8)))) (rw (length-replicate (8 - p % 8) (ascii 0x20)))
-    span-draws r p crlf d = draws p _ no-cells (omega arith)
-    span-draws r p lf d = draws p _ no-cells (omega arith)
-
-    pub span-columns : (r : Rendition) (p : ℕ) (c : Content) → Drawable P c → p + columns (cellWidth P) (spanCells P current r p c) ≡ columnAfter P drawnColumns p c
-    span-columns r p c d = span-draws r p c d .column
+    pub span-columns : (r : Rendition) (p : ℕ) (c : Content) → Drawable P c → columns (cellWidth P) (spanCells P current r p c) ≡ spanColumns P drawnColumns p c
+    span-columns r p c d = span-cells r p c d .columns
 
     pub line-wide : {ss : List Span} → All (λ (s : Span). Drawable P (s .content)) ss → (r : Rendition) (p : ℕ) → SomeWidth (cellWidth P) (lineCells P current r p ss)
     unfolding lineCells
     line-wide all-nil r p = all-nil
-    line-wide (all-cons {a = s} d a) r p = all-append (span-draws r p (s .content) d .wide) (line-wide a (renditionAfter r (s .place) (s .content)) (p + columns (cellWidth P) (spanCells P current r p (s .content))))
+    line-wide (all-cons {a = s} d a) r p = all-append (span-cells r p (s .content) d .wide) (line-wide a (renditionAfter r (s .place) (s .content)) _)
 
     pub line-columns : {ss : List Span} → All (λ (s : Span). Drawable P (s .content)) ss → (r : Rendition) (p : ℕ) → p + columns (cellWidth P) (lineCells P current r p ss) ≡ lastColumnFrom P drawnColumns p ss
     unfolding lineCells lastColumnFrom total
@@ -173,4 +165,4 @@ module _ (P : Profile) (H : PlainComposed P) where
         let xs : List Cell = spanCells P current r p (s .content) in
         let q : ℕ = p + columns (cellWidth P) xs in
         let n : Rendition = renditionAfter r (s .place) (s .content) in
-        omega (arith, columns-append (cellWidth P) xs (lineCells P current n q ss), line-columns a n q) ∙ ap (λ (m : ℕ). lastColumnFrom P drawnColumns m ss) (span-draws r p (s .content) d .column)
+        omega (arith, columns-append (cellWidth P) xs (lineCells P current n q ss), line-columns a n q) ∙ ap (λ (m : ℕ). lastColumnFrom P drawnColumns (p + m) ss) (span-columns r p (s .content) d)

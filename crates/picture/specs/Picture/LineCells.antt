@@ -1,5 +1,5 @@
 -- The cells of a line: the clusters that its spans draw, with their attributes, whatever the window.
-use mathlib.Core.Path.{_≡_, refl, ap, ap₂}
+use mathlib.Core.Path.{_≡_, refl, ap}
 use Prim.Native.Nat.{ℕ, _+_, _-_, _%_}
 use mathlib.Core.Bool.{Bool, cond, _&&_}
 use mathlib.Core.List.{List, [], _∷_, _++_, map}
@@ -20,7 +20,7 @@ use Rattle.drawing.specs.Attributes.{Style, file, styled, applyAll, linked}
 use Rattle.drawing.specs.Clip.{spaces}
 use Rattle.drawing.specs.Marks.{byteMark, scalarMark, lineDrawn}
 use Rattle.drawing.specs.Draw.{State, textStyle}
-use Rattle.picture.specs.Columns.Wrapping.{widths, widths-total}
+use Rattle.picture.specs.Columns.Wrapping.{widths}
 use Rattle.picture.specs.Picture.{Cell, cell}
 use Rattle.picture.specs.Picture.Window.{columns, inside, SomeWidth}
 

@@ -1,11 +1,10 @@
 -- The row picture of every accepted line: its spans are as the row picture asks, and its columns fit mode 0's row.
-use mathlib.Core.Path.{_≡_, refl, sym, ap, _∙_, subst}
+use mathlib.Core.Path.{_≡_, refl, sym, ap, _∙_}
 use Prim.Native.Nat.{ℕ, zero, suc, _+_, _*_, _≤_}
 use native.Mathlib.Omega.{arith}
-use mathlib.Core.Bool.{true}
 use mathlib.Core.List.{List, [], _∷_}
 use mathlib.Core.Option.{Option, none, some}
-use lib.ListN.{length, getD, take, drop, length-append, length-drop, length-take}
+use lib.ListN.{length, getD, length-append, length-drop, length-take}
 use lib.Seq.{slice}
 use Rattle.text.specs.Each.{All, all-nil, all-cons, all-append, all-map}
 use Rattle.text.specs.Utf8.{Scalar, decode, runOf, bytesOf, Piece}
@@ -15,7 +14,6 @@ use Rattle.text.specs.Utf8.Valid.{Valid}
 use Rattle.text.specs.Class.{Profile}
 use Rattle.text.specs.Width.{widthOf}
 use Rattle.text.specs.Width.Laws.{width-cons, width-nil}
-use Rattle.text.specs.Cluster.{clusters}
 use Rattle.text.specs.Overstrike.{convert}
 use Rattle.text.specs.Overstrike.Bytes.{Byte, converted-bytes}
 use Rattle.text.specs.Overstrike.Length.{convert-size}
@@ -23,12 +21,11 @@ use Rattle.spans.specs.Spans.{Content, text, control, invalid, unprintable, esc
 use Rattle.spans.specs.Spans.ContentLaw.{contentOf, content}
 use Rattle.spans.specs.Spans.ContentKinds.{scalarsOf, text-content, match-content, control-content, invalid-content, unprintable-content}
 use Rattle.spans.specs.Spans.SpanCount.{few}
-use Rattle.spans.specs.Calls.{readCall}
 use Rattle.spans.specs.Calls.Laws.{read-passed}
 use Rattle.rows.specs.Marks.{drawnColumns}
 use Rattle.rows.specs.Marks.Laws.{mark-small}
 use Rattle.rows.specs.Calls.Reading.{unmatched-spans}
-use Rattle.picture.specs.Columns.{columnAfter, lastColumnFrom, lastColumn}
+use Rattle.picture.specs.Columns.{spanColumns, lastColumnFrom}
 use Rattle.picture.specs.Conditions.{Unshared, UnsharedPiece, UnsharedLine, Drawable}
 use Rattle.picture.specs.Picture.{RowsShowLines}
 use Rattle.picture.specs.Picture.TextSpans.{plain-wide, TextClusters, run-texts}
@@ -93,14 +90,14 @@ module _ (P : Profile) (narrow : (v : ℕ) → P .width v ≤ 2) where
   width-few (c ∷ s) = omega (arith, width-cons P c s, narrow (c .code), width-few s)
 
   -- a span takes few columns
-  span-few : (line : List ℕ) → length line ≤ 0x8000 → (x : Span) → contentOf line (recordOf x) ≡ x .content → (p : ℕ) → columnAfter P drawnColumns p (x .content) ≤ p + 0x60000
-  unfolding recordOf kindOf columnAfter
+  span-few : (line : List ℕ) → length line ≤ 0x8000 → (x : Span) → contentOf line (recordOf x) ≡ x .content → (p : ℕ) → spanColumns P drawnColumns p (x .content) ≤ 0x60000
+  unfolding recordOf kindOf spanColumns
   span-few line h x held p = by (x .content) refl
     where
       scalars : (s : List Scalar) → scalarsOf line (recordOf x) ≡ s → length s ≤ 0x8000
       scalars s e = rw (← e) (omega (arith, run-few (slice (x .place) (x .place + x .len) line), slice-few line (x .place) (x .place + x .len)))
 
-      by : (c : Content) → x .content ≡ c → columnAfter P drawnColumns p c ≤ p + 0x60000
+      by : (c : Content) → x .content ≡ c → spanColumns P drawnColumns p c ≤ 0x60000
       by (text none s) i = let e : text none (scalarsOf line (recordOf x)) ≡ text none s = sym (text-content line (recordOf x) (ap kindOf i)) ∙ held ∙ i in omega (arith, width-few s, scalars s (cc))
       by (text (some k) s) i = let e : text (some _) (scalarsOf line (recordOf x)) ≡ text (some k) s = sym (match-content line (recordOf x) (ap kindOf i)) ∙ held ∙ i in omega (arith, width-few s, scalars s (cc))
       by (control b) i = omega arith
@@ -111,10 +108,10 @@ module _ (P : Profile) (narrow : (v : ℕ) → P .width v ≤ 2) where
       by crlf i = omega arith
       by lf i = omega arith
 
-  last-few : {ss : List Span} → All (λ (x : Span). (p : ℕ) → columnAfter P drawnColumns p (x .content) ≤ p + 0x60000) ss → (p : ℕ) → lastColumnFrom P drawnColumns p ss ≤ p + 0x60000 * length ss
+  last-few : {ss : List Span} → All (λ (x : Span). (p : ℕ) → spanColumns P drawnColumns p (x .content) ≤ 0x60000) ss → (p : ℕ) → lastColumnFrom P drawnColumns p ss ≤ p + 0x60000 * length ss
   unfolding lastColumnFrom
   last-few all-nil p = omega arith
-  last-few (all-cons {a = x} f a) p = omega (arith, f p, last-few a (columnAfter P drawnColumns p (x .content)))
+  last-few (all-cons {a = x} f a) p = omega (arith, f p, last-few a (p + spanColumns P drawnColumns p (x .content)))
 
 -- ---- lines
 

@@ -2,7 +2,7 @@
 use mathlib.Core.Path.{_≡_, refl, sym, ap, _∙_, subst}
 use Prim.Native.Nat.{ℕ, _+_}
 use native.Mathlib.Omega.{arith}
-use mathlib.Core.Bool.{Bool, true, false, cond}
+use mathlib.Core.Bool.{Bool, cond}
 use mathlib.Core.List.{List, [], _∷_, _++_, map, append-assoc}
 use mathlib.Core.Option.{Option}
 use Rattle.text.specs.Each.{All, all-nil, all-cons}
@@ -12,16 +12,15 @@ use Rattle.text.specs.Cluster.{clusters}
 use Rattle.spans.specs.Spans.{Content, text, Span}
 use Rattle.spans.specs.Spans.Laws.{map-append}
 use Rattle.rows.specs.Marks.{drawnColumns}
-use Rattle.rows.specs.Rows.{wrapped}
 use Rattle.drawing.specs.Marks.{lineDrawn}
 use Rattle.drawing.specs.Attributes.{styled}
-use Rattle.drawing.specs.Draw.{textStyle, initial}
-use Rattle.picture.specs.Columns.{columnAfter, lastColumn}
-use Rattle.picture.specs.Columns.Wrapping.{total, EachEnd, widths, TextEnds, Stops, Run, wrapped-run}
+use Rattle.drawing.specs.Draw.{textStyle}
+use Rattle.picture.specs.Columns.{spanColumns}
+use Rattle.picture.specs.Columns.Wrapping.{total, EachEnd, widths, TextEnds, Stops}
 use Rattle.picture.specs.Conditions.{PlainComposed, WordBreakClasses, Drawable}
 use Rattle.picture.specs.Picture.{Cell}
 use Rattle.picture.specs.Picture.Window.{columns, columns-append, Outside, outside-before, outside-behind, outside-append}
-use Rattle.picture.specs.Picture.LineCells.{Rendition, renditionOf, renditionAfter, cellWidth, textCells, spanCells, lineCells, cells-widths}
+use Rattle.picture.specs.Picture.LineCells.{Rendition, renditionAfter, cellWidth, textCells, spanCells, lineCells, cells-widths}
 use Rattle.picture.specs.Picture.ComposedTexts.{text-widths, span-columns}
 use Rattle.picture.specs.Picture.WordClusters.{text-ends}
 
@@ -56,7 +55,7 @@ module _ (P : Profile) where
         text-ends P (Boundary P cells) classes b s p (rw n at (between cells xs (now ++ ys) e)) (rw (n, w) at (cells-end cells xs now ys e)) (d .unshared m s refl)
 
     -- counted : wrapping counts the columns that a span draws
-    pub stops : {ss : List Span} → All (λ (s : Span). Drawable P (s .content)) ss → All (λ (s : Span). (p : ℕ) → columnAfter P count p (s .content) ≡ columnAfter P drawnColumns p (s .content)) ss
+    pub stops : {ss : List Span} → All (λ (s : Span). Drawable P (s .content)) ss → All (λ (s : Span). (p : ℕ) → spanColumns P count p (s .content) ≡ spanColumns P drawnColumns p (s .content)) ss
         → (r : Rendition) (p : ℕ) (xs : List Cell) → columns (cellWidth P) xs ≡ p → xs ++ lineCells P current r p ss ≡ cells → Stops (Boundary P cells) P count b p ss
     unfolding Stops lineCells
     stops all-nil all-nil r p xs n e = tt
@@ -66,7 +65,7 @@ module _ (P : Profile) where
         let m : Rendition = renditionAfter r (s .place) (s .content) in
         let f : (xs ++ now) ++ lineCells P current m q ss ≡ cells = append-assoc xs now (lineCells P current m q ss) ∙ e in
         let l : columns (cellWidth P) (xs ++ now) ≡ q = columns-append (cellWidth P) xs now ∙ ap (λ (i : ℕ). i + columns (cellWidth P) now) n in
-        let i : q ≡ columnAfter P count p (s .content) = span-columns P composed current r p (s .content) d ∙ sym (k p) in (
+        let i : q ≡ p + spanColumns P count p (s .content) = ap (λ (n : ℕ). p + n) (span-columns P composed current r p (s .content) d ∙ sym (k p)) in (
           λ o x u. span-stops r p xs (lineCells P current m q ss) o x n (subst (λ (y : Content). xs ++ (spanCells P current r p y ++ lineCells P current m q ss) ≡ cells) u e) (subst (Drawable P) u d),
           rw (l ∙ i) at (between cells (xs ++ now) (lineCells P current m q ss) f),
           subst (λ (n : ℕ). Stops (Boundary P cells) P count b n ss) i (stops a c m q (xs ++ now) l f),

@@ -1,11 +1,11 @@
 -- Where what joins whitespace and hyphens has no width, they are unshared in every cluster.
 use mathlib.Core.Path.{_≡_, refl, sym, _∙_}
-use Prim.Native.Nat.{ℕ, suc, _+_}
+use Prim.Native.Nat.{ℕ}
 use native.Mathlib.Omega.{arith}
-use mathlib.Core.Bool.{Bool, true, false, true≢false, not, _||_, or-true}
+use mathlib.Core.Bool.{Bool, true, true≢false, not, _||_, or-true}
 use mathlib.Core.List.{List, [], _∷_, _++_}
 use lib.ListN.{length}
-use lib.Dec.{T, eqb}
+use lib.Dec.{eqb}
 use borrow.Author.Tests.{eqb-true, eqb-false}
 use Rattle.text.specs.Tests.{cases, true-T, every, every-one}
 use Rattle.text.specs.Each.{All, all-nil, all-cons}

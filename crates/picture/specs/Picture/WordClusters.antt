@@ -2,7 +2,7 @@
 use mathlib.Core.Path.{_≡_, refl, sym, ap, ap₂, _∙_, subst}
 use Prim.Native.Nat.{ℕ, _+_}
 use native.Mathlib.Omega.{arith}
-use mathlib.Core.Bool.{Bool, true, false, not, _&&_, _||_, or-true, true≢false}
+use mathlib.Core.Bool.{Bool, true, false, or-true, true≢false}
 use mathlib.Core.List.{List, [], _∷_, _++_, append-assoc, append-nil, reverse, reverseAux}
 use lib.Dec.{eqb}
 use borrow.Author.Tests.{eqb-true}
@@ -13,8 +13,8 @@ use Rattle.text.specs.Class.{Profile, cr, lf, control, other, number, among, wh
 use Rattle.text.specs.Width.{widthOf}
 use Rattle.text.specs.Width.Laws.{width-append, width-cons, width-nil}
 use Rattle.text.specs.Cluster.{Context, start, after, joined, classOf, context, joins, joinsNext, addToCluster, clustersAfter, clusters}
-use Rattle.text.specs.Cluster.Laws.{clusters-nil, clusters-first, clusters-one}
-use Rattle.rows.specs.Words.{Word, words}
+use Rattle.text.specs.Cluster.Laws.{clusters-nil, clusters-first}
+use Rattle.rows.specs.Words.{Word, aWord, words}
 use Rattle.rows.specs.Words.Laws.{belongs, leading, beyond, leading-beyond, wordFrom, restFrom, firstWord, restWords, words-first}
 use Rattle.picture.specs.Columns.Wrapping.{total, EachEnd, widths, widths-total, behind, WordEnds, TextEnds}
 use Rattle.picture.specs.Conditions.{wordBreak, WordBreakClasses, Unshared}
@@ -97,13 +97,6 @@ module _ (P : Profile) where
     unfolding joinsNext clusters
     clusters-break a s = clusters-meet a (c ∷ s) ∙ ap (meet (joins P (reverse a) c) (clusters P a)) (same-after s c (reverse a) [] (break-context (reverse a) ∙ sym (break-context [])))
 
-  -- ---- parts of unshared clusters
-
-  unshared-front : (u v : List Scalar) → Unshared P (u ++ v) → Unshared P u
-  unshared-front u v f x y c e k =
-      let z = f x (y ++ v) c (ap (λ (l : List Scalar). l ++ v) e ∙ append-assoc x (c ∷ y) v) k in
-      omega (arith, z, width-append P x (y ++ v), width-append P x y, width-append P y v)
-
   unshared-rest : (u v : List Scalar) → Unshared P (u ++ v) → Unshared P v
   unshared-rest u v f x y c e k =
       let z = f (u ++ x) y c (ap (λ (l : List Scalar). u ++ l) e ∙ sym (append-assoc u x (c ∷ y))) k in
@@ -112,6 +105,13 @@ module _ (P : Profile) where
   -- ---- columns
 
   module _ (F : ℕ → Type 0) where
+    -- where F holds at the ends of clusters, and in front of a part of them, it holds at the ends of the clusters in front
+    meet-ends : (j : Bool) (xs ys : List (List Scalar)) (p : ℕ) → EachEnd F p (widths P (meet j xs ys)) → F (p + total (widths P xs)) → EachEnd F p (widths P xs)
+    unfolding meet total EachEnd
+    meet-ends j [] ys p e f = tt
+    meet-ends j (g ∷ []) ys p e f = (subst F (omega arith) f, tt)
+    meet-ends j (g ∷ h ∷ xs) ys p e f = (e .0, meet-ends j (h ∷ xs) ys (p + widthOf P g) (e .1) (subst F (omega arith) f))
+
     -- unshared clusters from column p on, at whose ends F holds
     record Ending (p : ℕ) (gs : List (List Scalar)) : Type 0 where
       here : F p
@@ -121,10 +121,6 @@ module _ (P : Profile) where
     moved : {p q : ℕ} {gs : List (List Scalar)} → p ≡ q → Ending p gs → Ending q gs
     moved {gs = gs} e t = subst (λ (n : ℕ). Ending n gs) e t
 
-    no-ending : {p : ℕ} → F p → Ending p []
-    unfolding EachEnd
-    no-ending f = record { here = f; ends = tt; unshared = all-nil }
-
     with-first : {p : ℕ} (g : List Scalar) {gs : List (List Scalar)} → F p → Unshared P g → Ending (p + widthOf P g) gs → Ending p (g ∷ gs)
     unfolding EachEnd
     with-first g f u t = record { here = f; ends = (t .here, t .ends); unshared = all-cons u (t .unshared) }
@@ -133,117 +129,94 @@ module _ (P : Profile) where
     unfolding EachEnd
     first-ending g gs t = let u = all-first (t .unshared) in (u .0, record { here = t .ends .0; ends = t .ends .1; unshared = u .1 })
 
-    -- the clusters before whitespace or a hyphen, and those from there on
-    meet-parts : (j : Bool) (c : Scalar) (v : List Scalar) (gs : List (List Scalar)) → wordBreak (c .code) ≡ true → (xs : List (List Scalar)) (p : ℕ) → Ending p (meet j xs ((c ∷ v) ∷ gs))
-        → Ending p xs × Ending (p + total (widths P xs)) ((c ∷ v) ∷ gs)
+    -- the clusters from whitespace or a hyphen on: if the last cluster before is joined to them, it has no width
+    meet-rest : (j : Bool) (c : Scalar) (v : List Scalar) (gs : List (List Scalar)) → wordBreak (c .code) ≡ true → (xs : List (List Scalar)) (p : ℕ) → Ending p (meet j xs ((c ∷ v) ∷ gs)) → Ending (p + total (widths P xs)) ((c ∷ v) ∷ gs)
     unfolding meet total
-    meet-parts j c v gs k [] p t = (no-ending (t .here), moved (omega arith) t)
-    meet-parts false c v gs k (g ∷ []) p t = let f = first-ending g ((c ∷ v) ∷ gs) t in (with-first g (t .here) (f .0) (no-ending (f .1 .here)), moved (omega arith) (f .1))
-    meet-parts true c v gs k (g ∷ []) p t =
+    meet-rest j c v gs k [] p t = moved (omega arith) t
+    meet-rest false c v gs k (g ∷ []) p t = moved (omega arith) (first-ending g ((c ∷ v) ∷ gs) t .1)
+    meet-rest true c v gs k (g ∷ []) p t =
         let f = first-ending (g ++ (c ∷ v)) gs t in
-        let z : widthOf P g ≡ 0 = omega (arith, f .0 g v c refl k, width-append P g v) in
-        let n = width-append P g (c ∷ v) in
-        let e : p ≡ p + widthOf P g = omega arith in
-        let here : F (p + widthOf P g) = subst F e (t .here) in (
-          with-first g (t .here) (unshared-front g (c ∷ v) (f .0)) (no-ending here),
-          moved (omega arith) (with-first (c ∷ v) here (unshared-rest g (c ∷ v) (f .0)) (moved (omega arith) (f .1))),
-        )
-    meet-parts j c v gs k (g ∷ h ∷ xs) p t =
-        let f = first-ending g (meet j (h ∷ xs) ((c ∷ v) ∷ gs)) t in
-        let r = meet-parts j c v gs k (h ∷ xs) (p + widthOf P g) (f .1) in
-        (with-first g (t .here) (f .0) (r .0), moved (omega arith) (r .1))
+        let z = f .0 g v c refl k in
+        let n = width-append P g v in
+        with-first (c ∷ v) (subst F (omega arith) (t .here)) (unshared-rest g (c ∷ v) (f .0)) (moved (omega (arith, width-append P g (c ∷ v))) (f .1))
+    meet-rest j c v gs k (g ∷ h ∷ xs) p t = moved (omega arith) (meet-rest j c v gs k (h ∷ xs) (p + widthOf P g) (first-ending g _ t .1))
 
-    -- a hyphen behind clusters
-    meet-ends : (j : Bool) (c : Scalar) (xs : List (List Scalar)) (p : ℕ) → EachEnd F p (widths P xs) → F (p + total (widths P xs) + P .width (c .code)) → EachEnd F p (widths P (meet j xs ((c ∷ []) ∷ [])))
-    unfolding meet total EachEnd
-    meet-ends j c [] p e f = (subst F (omega (arith, width-cons P c [], width-nil P)) f, tt)
-    meet-ends false c (g ∷ []) p e f = (e .0, (subst F (omega (arith, width-cons P c [], width-nil P)) f, tt))
-    meet-ends true c (g ∷ []) p e f = (subst F (omega (arith, width-append P g (c ∷ []), width-cons P c [], width-nil P)) f, tt)
-    meet-ends j c (g ∷ h ∷ xs) p e f = (e .0, meet-ends j c (h ∷ xs) (p + widthOf P g) (e .1) (subst F (omega arith) f))
-
-    -- whitespace or a hyphen in front of clusters
-    add-parts : (j : Bool) (c : Scalar) (gs : List (List Scalar)) (p : ℕ) → wordBreak (c .code) ≡ true → Ending p (addToCluster P j c gs) → Ending (p + P .width (c .code)) gs
+    -- the clusters behind whitespace or a hyphen: if the first is joined to it, it has no width
+    add-rest : (j : Bool) (c : Scalar) (gs : List (List Scalar)) (p : ℕ) → wordBreak (c .code) ≡ true → Ending p (addToCluster P j c gs) → Ending (p + P .width (c .code)) gs
     unfolding addToCluster
-    add-parts false c gs p k t = moved (omega (arith, width-cons P c [], width-nil P)) (first-ending (c ∷ []) gs t .1)
-    add-parts true c [] p k t = moved (omega (arith, width-cons P c [], width-nil P)) (first-ending (c ∷ []) [] t .1)
-    add-parts true c (g ∷ gs) p k t =
+    add-rest false c gs p k t = moved (omega (arith, width-cons P c [], width-nil P)) (first-ending (c ∷ []) gs t .1)
+    add-rest true c [] p k t = moved (omega (arith, width-cons P c [], width-nil P)) (first-ending (c ∷ []) [] t .1)
+    add-rest true c (g ∷ gs) p k t =
         let f = first-ending (c ∷ g) gs t in
         let z = f .0 [] g c refl k in
         let n = width-cons P c g in
         with-first g (subst F (omega arith) (f .1 .here)) (unshared-rest (c ∷ []) g (f .0)) (moved (omega arith) (f .1))
-
-    add-ends : (j : Bool) (c : Scalar) (gs : List (List Scalar)) (p : ℕ) → F (p + P .width (c .code)) → EachEnd F (p + P .width (c .code)) (widths P gs) → EachEnd F p (widths P (addToCluster P j c gs))
-    unfolding addToCluster EachEnd
-    add-ends false c gs p f e = let q : p + P .width (c .code) ≡ p + widthOf P (c ∷ []) = omega (arith, width-cons P c [], width-nil P) in (subst F q f, subst (λ (n : ℕ). EachEnd F n (widths P gs)) q e)
-    add-ends true c [] p f e = (subst F (omega (arith, width-cons P c [], width-nil P)) f, tt)
-    add-ends true c (g ∷ gs) p f e = let q : p + P .width (c .code) + widthOf P g ≡ p + widthOf P (c ∷ g) = omega (arith, width-cons P c g) in (subst F q (e .0), subst (λ (n : ℕ). EachEnd F n (widths P gs)) q (e .1))
 
     last-end : (ws : List ℕ) (p : ℕ) → F p → EachEnd F p ws → F (p + total ws)
     unfolding EachEnd total
     last-end [] p f e = subst F (omega arith) f
     last-end (w ∷ ws) p f e = subst F (omega arith) (last-end ws (p + w) (e .0) (e .1))
 
-    -- ---- words
+    -- ---- texts
+
+    abbrev EndingText : ℕ → List Scalar → Type 0
+    EndingText p s = Ending p (clusters P s)
+
+    abbrev TextEnd : ℕ → List Scalar → Type 0
+    TextEnd p s = EachEnd F p (widths P (clusters P s))
+
+    front-ends : (a b : List Scalar) (p : ℕ) → TextEnd p (a ++ b) → F (p + widthOf P a) → TextEnd p a
+    front-ends a b p e f = meet-ends (joinsNext P (reverse a) b) (clusters P a) (clustersAfter P (reverse a) b) p (rw (clusters-meet a b) at e) (rw (widths-total P a) f)
 
     module _ (classes : WordBreakClasses P) where
-      abbrev EndingText : ℕ → List Scalar → Type 0
-      EndingText p s = Ending p (clusters P s)
-
-      abbrev EndsIn : ℕ → List Scalar → Type 0
-      EndsIn p s = EachEnd F p (widths P (clusters P s))
-
-      no-ends : (p : ℕ) → EndsIn p []
-      unfolding EachEnd
-      no-ends p = rw (clusters-nil P) tt
-
-      before-break : (c : Scalar) → wordBreak (c .code) ≡ true → (a s : List Scalar) (p : ℕ) → EndingText p (a ++ (c ∷ s)) → EndingText p a × EndingText (p + widthOf P a) (c ∷ s)
+      before-break : (c : Scalar) → wordBreak (c .code) ≡ true → (a s : List Scalar) (p : ℕ) → EndingText p (a ++ (c ∷ s)) → EndingText (p + widthOf P a) (c ∷ s)
       before-break c k a s p t =
           let f = clusters-first P c s in
-          let r = meet-parts (joins P (reverse a) c) c _ _ k (clusters P a) p (subst (Ending p) (clusters-break classes c k a s ∙ ap (meet (joins P (reverse a) c) (clusters P a)) f) t) in
-          (r .0, rw f (rw (widths-total P a) at (r .1)))
+          let r = meet-rest (joins P (reverse a) c) c _ _ k (clusters P a) p (subst (Ending p) (clusters-break classes c k a s ∙ ap (meet (joins P (reverse a) c) (clusters P a)) f) t) in
+          rw f (rw (widths-total P a) at r)
 
       behind-break : (c : Scalar) → wordBreak (c .code) ≡ true → (s : List Scalar) (p : ℕ) → EndingText p (c ∷ s) → EndingText (p + P .width (c .code)) s
-      behind-break c k s p t = add-parts (joinsNext P (c ∷ []) s) c (clusters P s) p k (rw (break-clusters classes c k s) at t)
+      behind-break c k s p t = add-rest (joinsNext P (c ∷ []) s) c (clusters P s) p k (rw (break-clusters classes c k s) at t)
 
-      spaces-parts : (s : List Scalar) (p : ℕ) → EndingText p s → EndsIn p (leading true s) × EndingText (p + widthOf P (leading true s)) (beyond true s)
+      behind-spaces : (s : List Scalar) (p : ℕ) → EndingText p s → EndingText (p + widthOf P (leading true s)) (beyond true s)
       unfolding leading beyond belongs
-      spaces-parts [] p t = (no-ends p, moved (omega (arith, width-nil P)) t)
-      spaces-parts (c ∷ s) p t =
+      behind-spaces [] p t = moved (omega (arith, width-nil P)) t
+      behind-spaces (c ∷ s) p t =
           cases (whitespace (c .code))
-          (λ w.
-          let k : wordBreak (c .code) ≡ true = rw w in
-          let b = behind-break c k s p t in
-          let r = spaces-parts s (p + P .width (c .code)) b in
-          rw w (rw (break-clusters classes c k (leading true s)) (add-ends (joinsNext P (c ∷ []) (leading true s)) c (clusters P (leading true s)) p (b .here) (r .0)), moved (omega (arith, width-cons P c (leading true s))) (r .1)))
-          (λ w. rw w (no-ends p, moved (omega (arith, width-nil P)) t))
+          (λ w. rw w (moved (omega (arith, width-cons P c (leading true s))) (behind-spaces s (p + P .width (c .code)) (behind-break c (rw w) s p t))))
+          (λ w. rw w (moved (omega (arith, width-nil P)) t))
 
-      -- the first word, its separator and the rest
+      -- ---- the first word, its separator and the rest
+
       record Parts (p : ℕ) (v : Word) (r : List Scalar) : Type 0 where
-        word : EndsIn p (v .word)
-        sep : EndsIn (p + widthOf P (v .word)) (v .sep)
+        word : TextEnd p (v .word)
+        sep : TextEnd (p + widthOf P (v .word)) (v .sep)
         rest : EndingText (behind P p v) r
 
+      no-sep : (w r : List Scalar) (p : ℕ) → TextEnd p (w ++ r) → EndingText (p + widthOf P w) r → Parts p (aWord w []) r
+      unfolding EachEnd
+      no-sep w r p e t = record { word = front-ends w r p e (t .here); sep = rw (clusters-nil P) tt; rest = moved (omega (arith, width-nil P)) t }
+
       parts-from : (w b : List Scalar) → ((c : Scalar) (s : List Scalar) → b ≡ c ∷ s → belongs false (c .code) ≡ false) → (p : ℕ) → EndingText p (w ++ b) → Parts p (wordFrom w b) (restFrom b)
-      unfolding wordFrom restFrom belongs
+      unfolding wordFrom restFrom belongs EachEnd
       parts-from w [] h p t =
-          let u : EndingText p w = rw (append-nil w) at t in
-          record { word = u .ends; sep = no-ends _; rest = rw (clusters-nil P) (no-ending (subst F (omega (arith, widths-total P w, width-nil P)) (last-end (widths P (clusters P w)) p (u .here) (u .ends)))) }
+          let u = rw (append-nil w) at t in
+          no-sep w [] p (t .ends) (record { here = rw (widths-total P w) at (last-end (widths P (clusters P w)) p (u .here) (u .ends)); ends = rw (clusters-nil P) tt; unshared = rw (clusters-nil P) all-nil })
       parts-from w (c ∷ b) h p t =
           cases (eqb (c .code) 0x2D)
           (λ e.
           let k : wordBreak (c .code) ≡ true = rw (e, or-true (whitespace (c .code))) in
-          let q = before-break c k w b p t in
-          let r = behind-break c k b (p + widthOf P w) (q .1) in
-          rw e (record {
-            word = rw (clusters-break classes c k w [], clusters-one P c) (meet-ends (joins P (reverse w) c) c (clusters P w) p (q .0 .ends) (rw (widths-total P w) (r .here)));
-            sep = no-ends _;
-            rest = moved (omega (arith, width-append P w (c ∷ []), width-cons P c [], width-nil P)) r;
-          }))
+          rw e (no-sep (w ++ (c ∷ [])) b p (rw (append-assoc w (c ∷ []) b) (t .ends))
+          (moved (omega (arith, width-append P w (c ∷ []), width-cons P c [], width-nil P)) (behind-break c k b (p + widthOf P w) (before-break c k w b p t)))))
           (λ e.
           let i : whitespace (c .code) ≡ true = cases (whitespace (c .code)) (λ i. i) (λ i. absurd (true≢false (rw (i, e) at (h c b refl)))) in
           let q = before-break c (rw i) w b p t in
-          let r = spaces-parts (c ∷ b) (p + widthOf P w) (q .1) in
-          rw e (record { word = q .0 .ends; sep = r .0; rest = r .1 }))
+          let r = behind-spaces (c ∷ b) (p + widthOf P w) q in
+          rw e (record {
+            word = front-ends w (c ∷ b) p (t .ends) (q .here);
+            sep = front-ends (leading true (c ∷ b)) (beyond true (c ∷ b)) (p + widthOf P w) (subst (TextEnd (p + widthOf P w)) (leading-beyond true (c ∷ b)) (q .ends)) (r .here);
+            rest = r;
+          }))
 
       beyond-head : (s : List Scalar) (c : Scalar) (t : List Scalar) → beyond false s ≡ c ∷ t → belongs false (c .code) ≡ false
       unfolding beyond
