@@ -1,11 +1,11 @@
 -- What the row picture is claimed of: profiles, lines, spans and modes.
 use mathlib.Core.Path.{_≡_}
 use Prim.Native.Nat.{ℕ, _-_, _≤_}
-use mathlib.Core.Bool.{Bool, true, false, _||_}
+use mathlib.Core.Bool.{Bool, true, _||_}
 use mathlib.Core.List.{List, [], _∷_, _++_}
 use mathlib.Core.Option.{Option}
 use lib.ListN.{getD}
-use lib.Dec.{T, eqb}
+use lib.Dec.{eqb}
 use Rattle.text.specs.Each.{All}
 use Rattle.text.specs.Utf8 as utf8
 use Rattle.text.specs.Utf8.{Scalar, scalar, Range, to, within, decode, Piece, runs}
@@ -58,13 +58,13 @@ module _ (P : Profile) where
     run : {s : List Scalar} → All Unshared (clusters P s) → UnsharedPiece (utf8.run s)
     damaged : {b : ℕ} → UnsharedPiece (utf8.damaged b)
 
-  -- in every cluster of a line: document 01's profile has it for every line
+  -- in every cluster of a line
   abbrev pub UnsharedLine : List ℕ → Type 0
   UnsharedLine s = All UnsharedPiece (runs (decode s))
 
   -- ---- spans
 
-  -- texts of clusters of width above 0, and bytes: so in every line of bytes
+  -- texts of unshared clusters, none of width 0, and bytes: so in every such line of bytes
   pub record Drawable (c : Content) : Type 0 where
     pub wide : (m : Option ℕ) (s : List Scalar) → c ≡ text m s → Wide P (clusters P s)
     pub unshared : (m : Option ℕ) (s : List Scalar) → c ≡ text m s → All Unshared (clusters P s)
@@ -77,14 +77,10 @@ module _ (P : Profile) where
 abbrev pub OneMark : Content → Type 0
 OneMark c = (s : List Scalar) → c ≡ unprintable s → (v : Scalar) × (s ≡ v ∷ []) × (v .code ≤ 0xFFFF)
 
--- modes 1 and 2, which count any Unprintable span as the columns of one mark
-unfoldable pub countsOne : Mode → Bool
-countsOne unwrapped = false
-countsOne graphemeBoundary = true
-countsOne wordBoundary = true
-countsOne drawnGraphemeBoundary = false
-countsOne drawnWordBoundary = false
-
--- what modes 1 and 2 ask for; the others ask for nothing
-abbrev pub MarksCounted : Mode → List Span → Type 0
-MarksCounted mode ss = T (countsOne mode) → All (λ (s : Span). OneMark (s .content)) ss
+-- modes 1 and 2 count any Unprintable span as the columns of one mark, and ask that each is one; the others ask for nothing
+unfoldable pub SingleMarks : Mode → List Span → Type 0
+SingleMarks unwrapped ss = Unit {0}
+SingleMarks graphemeBoundary ss = All (λ (s : Span). OneMark (s .content)) ss
+SingleMarks wordBoundary ss = All (λ (s : Span). OneMark (s .content)) ss
+SingleMarks drawnGraphemeBoundary ss = Unit {0}
+SingleMarks drawnWordBoundary ss = Unit {0}

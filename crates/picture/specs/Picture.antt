@@ -1,4 +1,4 @@
--- Rows together show the line: the rows of a line run end to end, and drawn one by one show what the line shows Unwrapped.
+-- Document 02, U4 and U5. Rows together show the line: they run end to end, and drawn one by one they show what is drawn Unwrapped.
 use mathlib.Core.Path.{_≡_}
 use mathlib.Core.Logic.{_≢_}
 use Prim.Native.Nat.{ℕ, zero, suc, _≤_}
@@ -23,13 +23,14 @@ use Rattle.drawing.specs.Change as change
 use Rattle.drawing.specs.Change.{Change, torn, allAttributes, clearToEnd, cursorRight}
 use Rattle.drawing.specs.Draw.{renderWrapped}
 use Rattle.picture.specs.Columns.{lastColumn, EndToEnd}
-use Rattle.picture.specs.Conditions.{PlainComposed, WordBreakClasses, UnsharedLine, Drawable, MarksCounted}
+use Rattle.picture.specs.Conditions.{PlainComposed, WordBreakClasses, UnsharedLine, Drawable, SingleMarks}
 pub mod Window
 pub mod Clipping
 pub mod AttributesInForce
 pub mod LineCells
 pub mod WindowDrawing
-pub mod ComposedTexts
+pub mod DrawnWidths
+pub mod AppendedClusters
 pub mod WordClusters
 pub mod RowBoundaries
 pub mod RowDrawing
@@ -83,23 +84,22 @@ module _ (P : Profile) where
     -- drawn row by row, joined, they show what is drawn Unwrapped
     pub same : rowsShown width mode current ss 0 (length (rows P width mode ss)) ≡ shown (renderWrapped P 0 1 width unwrapped current ss)
 
+  -- in every mode that wraps, at every width
+  abbrev pub RowsShow : List Span → Type 0
+  RowsShow ss = (mode : Mode) → mode ≢ unwrapped → SingleMarks mode ss → (width : ℕ) (current : Option ℕ) → Picture width mode current ss
+
 -- ---- the statements
 
--- for any such profile and spans, inside the columns of mode 0's row
+-- any such profile, and any spans within the columns of mode 0's row
 abbrev pub RowPicture : Profile → Type 0
-RowPicture P =
-    PlainComposed P → WordBreakClasses P → (ss : List Span) → All (λ (s : Span). Drawable P (s .content)) ss → lastColumn P drawnColumns ss ≤ 0xFFFF_FFFF_FFFF_FFFF
-    → (mode : Mode) → mode ≢ unwrapped → MarksCounted mode ss → (width : ℕ) (current : Option ℕ) → Picture P width mode current ss
+RowPicture P = PlainComposed P → WordBreakClasses P → (ss : List Span) → All (λ (s : Span). Drawable P (s .content)) ss → lastColumn P drawnColumns ss ≤ 0xFFFF_FFFF_FFFF_FFFF → RowsShow P ss
 
--- for any such profile of widths up to 2: every accepted line read without matches, in whose converted form no whitespace or hyphen shares a cluster
--- with another scalar of width above 0
+-- any such profile of widths up to 2, and every accepted line read without matches in whose converted form no whitespace or hyphen shares a cluster with another scalar of width above 0
 abbrev pub RowsShowLines : Profile → Type 0
 RowsShowLines P =
-    PlainComposed P → WordBreakClasses P → ((v : ℕ) → P .width v ≤ 2) → (line : List ℕ) → All Byte line → (conv places : ℕ) → readCall P conv places [] line .number ≡ 0 → UnsharedLine P (convert P line)
-    → (mode : Mode) → mode ≢ unwrapped → MarksCounted mode (spans P (convert P line)) → (width : ℕ) (current : Option ℕ) → Picture P width mode current (spans P (convert P line))
+    PlainComposed P → WordBreakClasses P → ((v : ℕ) → P .width v ≤ 2)
+    → (line : List ℕ) → All Byte line → (conv places : ℕ) → readCall P conv places [] line .number ≡ 0 → UnsharedLine P (convert P line) → RowsShow P (spans P (convert P line))
 
--- document 01's profile: every accepted line read without matches
+-- document 01's profile, and every accepted line read without matches
 abbrev pub RowsShowTheLine : Type 0
-RowsShowTheLine =
-    (line : List ℕ) → All Byte line → (conv places : ℕ) → readCall profile01 conv places [] line .number ≡ 0
-    → (mode : Mode) → mode ≢ unwrapped → MarksCounted mode (spans profile01 (convert profile01 line)) → (width : ℕ) (current : Option ℕ) → Picture profile01 width mode current (spans profile01 (convert profile01 line))
+RowsShowTheLine = (line : List ℕ) → All Byte line → (conv places : ℕ) → readCall profile01 conv places [] line .number ≡ 0 → RowsShow profile01 (spans profile01 (convert profile01 line))

@@ -50,12 +50,12 @@ module _ (P : Profile) where
   abbrev pub behind : ℕ → Word → ℕ
   behind p v = p + widthOf P (v .word) + widthOf P (v .sep)
 
-  unfoldable pub wordsWidth : List Word → ℕ
+  unfoldable wordsWidth : List Word → ℕ
   wordsWidth [] = 0
   wordsWidth (v ∷ vs) = widthOf P (v .word) + widthOf P (v .sep) + wordsWidth vs
 
   words-sum : (vs : List Word) (s : List Scalar) → words s ≡ vs → wordsWidth vs ≡ widthOf P s
-  unfolding words wordsWidth
+  unfolding wordsWidth words
   words-sum [] [] e = sym (width-nil P)
   words-sum (v ∷ vs) [] e = absurd (let z : _≡_ {A = ℕ} 0 1 = cc in omega arith)
   words-sum [] (c ∷ s) e = absurd (let f = sym (words-first (c ∷ s) c s refl) ∙ e in let z : _≡_ {A = ℕ} 0 1 = cc in omega arith)
@@ -68,7 +68,7 @@ module _ (P : Profile) where
       rw (← i) (omega (arith, words-sum vs r (cc), ap (widthOf P) (first-word-all (c ∷ s)), width-append P (w ++ t) r, width-append P w t))
 
   -- words and their separators are as wide as their text
-  pub words-width : (s : List Scalar) → wordsWidth (words s) ≡ widthOf P s
+  words-width : (s : List Scalar) → wordsWidth (words s) ≡ widthOf P s
   words-width s = words-sum (words s) s refl
 
 module _ (F : ℕ → Type 0) where
@@ -139,7 +139,7 @@ module _ (F : ℕ → Type 0) where
 
     module _ (width : ℕ) where
       byClusters-wrapped : (gs : List (List Scalar)) (p : ℕ) (t : Wrap) → Wrapped p t → EachEnd F p (widths P gs) → Wrapped (p + total (widths P gs)) (byClusters P width t gs)
-      unfolding byClusters EachEnd total
+      unfolding total EachEnd byClusters
       byClusters-wrapped [] p t w e = still t w
       byClusters-wrapped (g ∷ gs) p t w e =
           rw (← add-assoc p (widthOf P g) (total (widths P gs)))
@@ -168,14 +168,14 @@ module _ (F : ℕ → Type 0) where
             both (Wrapped (behind P p v)) (fitsRow width t (wordEnd P width t v)) (fitting t w) (longWord-wrapped (pushed t) (pushed-wrapped p t w))
 
       byWords-wrapped : (vs : List Word) (p : ℕ) (t : Wrap) → Wrapped p t → WordEnds p vs → Wrapped (p + wordsWidth P vs) (byWords P width t vs)
-      unfolding byWords WordEnds wordsWidth
+      unfolding wordsWidth WordEnds byWords
       byWords-wrapped [] p t w e = still t w
       byWords-wrapped (v ∷ vs) p t w e =
           let q : p + (widthOf P (v .word) + widthOf P (v .sep) + wordsWidth P vs) ≡ behind P p v + wordsWidth P vs = omega arith in
           rw q (byWords-wrapped vs (behind P p v) (oneWord P width t v) (oneWord-wrapped v p (e .0) (e .1) (e .2) t w) (e .3))
 
       text-wrapped : (b : Bool) (s : List Scalar) (p : ℕ) (t : Wrap) → Wrapped p t → TextEnds b p s → Wrapped (p + widthOf P s) (splitText P width b t s)
-      unfolding splitText TextEnds
+      unfolding TextEnds splitText
       text-wrapped true s p t w e = rw (words-width P s) at (byWords-wrapped (words s) p t w e)
       text-wrapped false s p t w e = clusters-wrapped s p t w e
 
@@ -191,7 +191,7 @@ module _ (F : ℕ → Type 0) where
       module _ (width : ℕ) where
         split-wrapped : (c : Content) (p : ℕ) (t : Wrap) → Wrapped p t → ((m : Option ℕ) (x : List Scalar) → c ≡ text m x → TextEnds b p x) → F (p + spanColumns P count p c)
             → Wrapped (p + spanColumns P count p c) (split P count width b t c)
-        unfolding split spanColumns
+        unfolding spanColumns split
         split-wrapped (text m s) p t w e f = text-wrapped width b s p t w (e m s refl)
         split-wrapped (control x) p t w e f = unbroken-wrapped width 4 p t w f
         split-wrapped (invalid x) p t w e f = unbroken-wrapped width 4 p t w f
@@ -202,7 +202,7 @@ module _ (F : ℕ → Type 0) where
         split-wrapped lf p t w e f = still t w
 
         splits-wrapped : (ss : List Span) (p : ℕ) (t : Wrap) → Wrapped p t → Stops p ss → Wrapped (lastColumnFrom P count p ss) (splits P count width b t ss)
-        unfolding splits lastColumnFrom Stops
+        unfolding Stops lastColumnFrom splits
         splits-wrapped [] p t w e = w
         splits-wrapped (s ∷ ss) p t w e =
             splits-wrapped ss (p + spanColumns P count p (s .content)) (split P count width b t (s .content)) (split-wrapped (s .content) p t w (e .0) (e .1)) (e .2)

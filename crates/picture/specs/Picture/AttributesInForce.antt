@@ -33,7 +33,7 @@ module _ (cs : List Change) where
   force-append a (cursorRight ∷ bs) = force-append a bs
 
   pub shown-append : (P : Profile) (a : Attributes) (bs : List Change) → shownFrom P a (bs ++ cs) ≡ shownFrom P a bs ++ shownFrom P (inForce a bs) cs
-  unfolding shownFrom inForce
+  unfolding inForce shownFrom
   shown-append P a [] = refl
   shown-append P a (text s ∷ bs) = rw (shown-append P a bs, append-assoc)
   shown-append P a (torn ∷ bs) = shown-append P a bs
@@ -60,7 +60,7 @@ styleAt : ℕ → Style
 styleAt n = cond (eqb n 0) file (cond (eqb n 1) control (cond (eqb n 2) match currentMatch))
 
 at-number : (s : Style) → styleAt (number s) ≡ s
-unfolding styleAt number
+unfolding number styleAt
 at-number file = refl
 at-number control = refl
 at-number match = refl
@@ -77,7 +77,7 @@ pub record Styled (P : Profile) (t : State) (s : Style) (a : Attributes) (r : Se
   pub position : r .after .position ≡ t .position
 
 pub style-sent : (P : Profile) (t : State) (s : Style) (a : Attributes) → InForce t a → Styled P t s a (style t s)
-unfolding style shownFrom whole inForce
+unfolding inForce whole shownFrom style
 style-sent P t s a f =
     by-case (Styled P t s a) (eqb (number (t .style)) (number s) && not (t .changed))
     (λ e.

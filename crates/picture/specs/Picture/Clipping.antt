@@ -23,7 +23,7 @@ module _ (P : Profile) where
   -- a text at column p, and a window from start to end
   module _ (p start end : ℕ) (h : start ≤ end) where
     clip-end : {gs : List (List Scalar)} → Wide P gs → (c a : ℕ) → a ≡ p + c → start ≤ a → Outside end a (widths P gs) → clipEnd P (end - p) c gs ≡ joinAll (inside (widthOf P) start end a gs)
-    unfolding clipEnd inside joinAll Outside
+    unfolding Outside joinAll inside clipEnd
     clip-end all-nil c a e s o = refl
     clip-end (all-cons {a = g} {s = gs} w v) c a e s o =
         let n = ne-eqb (widthOf P g) 0 (λ z. omega arith) in
@@ -43,7 +43,7 @@ module _ (P : Profile) where
 
     clip-start : {gs : List (List Scalar)} → Wide P gs → (c a : ℕ) → a ≡ p + c → c ≤ start - p → Outside start a (widths P gs) → Outside end a (widths P gs)
         → clipStart P (start - p) (end - p) c gs ≡ some (joinAll (inside (widthOf P) start end a gs))
-    unfolding clipStart inside joinAll Outside
+    unfolding Outside joinAll inside clipStart
     clip-start all-nil c a e s o q = refl
     clip-start (all-cons {a = g} {s = gs} w v) c a e s o q =
         cases (leb (start - p) c)
@@ -83,7 +83,7 @@ module _ (P : Profile) where
   no-clusters s = record { same = clusters-nil P; ends = ends-none P s }
 
   front : {s : List Scalar} {gs : List (List Scalar)} → Clustered P s gs → (o l c : ℕ) → o ≤ c → Front s (inside (widthOf P) o l c gs)
-  unfolding inside joinAll
+  unfolding joinAll inside
   front none o l c h = no-clusters []
   front (more {c = d} {x = x} {rest = rest} {gs = gs} e k) o l c h =
       let f = front k o l (c + widthOf P (d ∷ x)) (omega arith) in
@@ -93,7 +93,7 @@ module _ (P : Profile) where
       (λ t. rw (le-leb o c h, t, inside-right (widthOf P) o l (c + widthOf P (d ∷ x)) gs (omega (arith, ltb-false c l t))) (no-clusters (d ∷ (x ++ rest))))
 
   inside-clustered : {s : List Scalar} {gs : List (List Scalar)} → Clustered P s gs → (o l c : ℕ) → clusters P (joinAll (inside (widthOf P) o l c gs)) ≡ inside (widthOf P) o l c gs
-  unfolding inside joinAll
+  unfolding joinAll inside
   inside-clustered none o l c = clusters-nil P
   inside-clustered (more {c = d} {x = x} e k) o l c = cases (leb o c) (λ t. front (more e k) o l c (leb-true o c t) .same) (λ t. rw t (inside-clustered k o l (c + widthOf P (d ∷ x))))
 

@@ -9,7 +9,7 @@ use borrow.Author.Tests.{eqb-true, le-leb}
 use Rattle.text.specs.Tests.{cases, in-range, every, every-one}
 use Rattle.text.specs.Each.{All, all-nil, all-cons}
 use Rattle.text.specs.Utf8 as utf8
-use Rattle.text.specs.Utf8.{Scalar, value, scalar, Piece, runs, decode}
+use Rattle.text.specs.Utf8.{Scalar, scalar, Piece, runs, decode}
 use Rattle.text.specs.Class.{Class, Profile, cr, lf, control, extend, zwj, classV, classT, other, number, among, class01, spaces, whitespace}
 use Rattle.text.specs.Class.Ascii.{AsciiClasses, printable-class, printable-columns}
 use Rattle.text.specs.Class.Code.{printable, profileOf}
@@ -17,7 +17,7 @@ use Rattle.text.specs.Class.Profile01.{profile-is, ascii-classes}
 use Rattle.text.specs.Class.Ranges.{eachIn, each-in}
 use Rattle.text.specs.Class.Symbols.{SymbolClasses, symbol-classes}
 use Rattle.text.specs.Scalar.Laws.{number-le}
-use Rattle.text.specs.Width.{width01, profile01}
+use Rattle.text.specs.Width.{profile01}
 use Rattle.text.specs.Width.Laws.{width-le}
 use Rattle.text.specs.Width.Symbols.{symbol, SymbolColumns, symbol-columns}
 use Rattle.text.specs.Cluster.{clusters}
@@ -32,11 +32,11 @@ use Rattle.picture.specs.Picture.Lines.{rowsShowLines}
 -- ---- what drawing composes
 
 composed-printable : T (eachIn composed printable)
-unfolding eachIn every composed
+unfolding composed eachIn
 composed-printable = tt
 
 replacements-symbols : T (every (λ v. symbol (replacement v .code)) 0x5F 32)
-unfolding every replacements scalar value
+unfolding scalar replacements every
 replacements-symbols = tt
 
 plain-composed : (P : Profile) → AsciiClasses P → SymbolClasses P → SymbolColumns P → PlainComposed P
@@ -62,20 +62,20 @@ separator : ℕ → Bool
 separator v = among (number (class01 v)) (cr ∷ lf ∷ control ∷ other ∷ [])
 
 spaces-separate : T (eachIn spaces separator)
-unfolding eachIn every spaces separator class01 among number
+unfolding among class01 separator spaces eachIn
 spaces-separate = tt
 
 classes01 : WordBreakClasses profile01
-unfolding profile01 separator whitespace class01 among number
+unfolding whitespace separator profile01
 classes01 v e = cases (whitespace v) (λ w. each-in spaces v separator spaces-separate w) (λ w. rw (eqb-true v 0x2D (rw w at e)))
 
 -- what may share a cluster with them has no width
 flat-classes : (c : Class) → sharing (number c) ≡ true → among (number c) (cr ∷ lf ∷ control ∷ extend ∷ zwj ∷ classV ∷ classT ∷ []) ≡ true
-unfolding every sharing among number
+unfolding among sharing every
 flat-classes c e = rw e at (every-one (λ c. not (sharing c) || among c (cr ∷ lf ∷ control ∷ extend ∷ zwj ∷ classV ∷ classT ∷ [])) 12 0 (number c) tt (omega arith) (omega (arith, number-le c)))
 
 unshared01 : (s : List Scalar) → All (Unshared profile01) (clusters profile01 s)
-unfolding profile01 width01
+unfolding profile01
 unshared01 = all-unshared profile01 classes01 (λ v e. rw (flat-classes (class01 v) e))
 
 pieces01 : (ps : List Piece) → All (UnsharedPiece profile01) ps

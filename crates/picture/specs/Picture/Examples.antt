@@ -32,27 +32,27 @@ abbrev line : List Span
 line = read (0x1B ∷ 0x5B ∷ 0x31 ∷ 0x6D ∷ 0x61 ∷ 0xFF ∷ 0x09 ∷ 0xE6 ∷ 0xBC ∷ 0xA2 ∷ 0xCC ∷ 0x81 ∷ 0x2D ∷ 0x1B ∷ 0x28 ∷ 0x30 ∷ 0x71 ∷ 0x20 ∷ 0x62 ∷ [])
 
 by-clusters : byRows profile01 2 graphemeBoundary line ≡ whole profile01 line
-unfolding rowsShown shown renderWrapped rows spans convert profile01
+unfolding profile01 convert spans rowsShown
 by-clusters = refl
 
 by-words : byRows profile01 3 wordBoundary line ≡ whole profile01 line
-unfolding rowsShown shown renderWrapped rows spans convert profile01
+unfolding profile01 convert spans rowsShown
 by-words = refl
 
 some-cells : length (whole profile01 line) ≡ 13
-unfolding shown renderWrapped spans convert profile01
+unfolding profile01 convert spans renderWrapped shown
 some-cells = refl
 
 -- ---- OneMark: two lone marks draw 16 columns, and mode 1 counts 8
 
 two-marks : (length (byRows profile01 80 graphemeBoundary (read (0xCC ∷ 0x81 ∷ 0xCC ∷ 0x81 ∷ []))) ≡ 8) × (length (whole profile01 (read (0xCC ∷ 0x81 ∷ 0xCC ∷ 0x81 ∷ []))) ≡ 16)
-unfolding rowsShown shown renderWrapped rows spans convert profile01
+unfolding profile01 convert spans rowsShown
 two-marks = (refl, refl)
 
 -- ---- Byte: at a number above 255 the mark's first digit would be U+3037, of width 2, and no row would reach the mark's `>`
 
 no-byte : (length (byRows profile01 80 graphemeBoundary (read (0x30000 ∷ []))) ≡ 3) × (length (whole profile01 (read (0x30000 ∷ []))) ≡ 4)
-unfolding rowsShown shown renderWrapped rows spans convert profile01
+unfolding profile01 convert spans rowsShown
 no-byte = (refl, refl)
 
 -- ---- profiles
@@ -75,7 +75,7 @@ abbrev pairs : List Span
 pairs = texts (one 0x2D ∷ one 0x100 ∷ one 0x101 ∷ one 0x102 ∷ [])
 
 pairs-cut : (scalars (byRows indicators 1 wordBoundary pairs) ≡ 3) × (scalars (whole indicators pairs) ≡ 4)
-unfolding scalars joinAll rowsShown shown renderWrapped rows
+unfolding rowsShown joinAll scalars
 pairs-cut = (refl, refl)
 
 -- Unshared: a hyphen, and behind it an Extend of width 1
@@ -86,5 +86,5 @@ abbrev shared : List Span
 shared = texts (one 0x2D ∷ one 0x100 ∷ [])
 
 shared-cut : (scalars (byRows wideExtend 1 wordBoundary shared) ≡ 1) × (scalars (whole wideExtend shared) ≡ 2)
-unfolding scalars joinAll rowsShown shown renderWrapped rows
+unfolding rowsShown joinAll scalars
 shared-cut = (refl, refl)

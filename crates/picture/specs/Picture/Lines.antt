@@ -17,7 +17,7 @@ use Rattle.text.specs.Width.Laws.{width-cons, width-nil}
 use Rattle.text.specs.Overstrike.{convert}
 use Rattle.text.specs.Overstrike.Bytes.{Byte, converted-bytes}
 use Rattle.text.specs.Overstrike.Length.{convert-size}
-use Rattle.spans.specs.Spans.{Content, text, control, invalid, unprintable, escape, tab, crlf, lf, Span, span, readPieces, spansAt, spans, kindOf, recordOf}
+use Rattle.spans.specs.Spans.{Content, text, control, invalid, unprintable, escape, tab, crlf, lf, Span, span, readPieces, spans, kindOf, recordOf}
 use Rattle.spans.specs.Spans.ContentLaw.{contentOf, content}
 use Rattle.spans.specs.Spans.ContentKinds.{scalarsOf, text-content, match-content, control-content, invalid-content, unprintable-content}
 use Rattle.spans.specs.Spans.SpanCount.{few}
@@ -46,7 +46,7 @@ module _ (P : Profile) where
   pieces-good m p (all-cons (UnsharedPiece.damaged {b = b}) a) = all-cons {a = span p 1 (invalid b)} (λ n t i. absurd (let z : _≡_ {A = ℕ} 0 1 = cc in omega arith)) (pieces-good m (suc p) a)
 
   spans-good : (s : List ℕ) → UnsharedLine P s → All (TextClusters P Good) (spans P s)
-  unfolding spans spansAt
+  unfolding spans
   spans-good s u = pieces-good none 0 u
 
 -- ---- bytes
@@ -58,7 +58,7 @@ byte-at (all-cons h a) (suc i) = byte-at a i
 
 module _ (P : Profile) (line : List ℕ) (bytes : All Byte line) (x : Span) (held : contentOf line (recordOf x) ≡ x .content) where
   drawable : TextClusters P (Good P) x → Drawable P (x .content)
-  unfolding recordOf kindOf
+  unfolding recordOf
   drawable t = record {
     wide = λ m s i. all-map (λ g h. h .0) (t m s i);
     unshared = λ m s i. all-map (λ g h. h .1) (t m s i);
@@ -91,7 +91,7 @@ module _ (P : Profile) (narrow : (v : ℕ) → P .width v ≤ 2) where
 
   -- a span takes few columns
   span-few : (line : List ℕ) → length line ≤ 0x8000 → (x : Span) → contentOf line (recordOf x) ≡ x .content → (p : ℕ) → spanColumns P drawnColumns p (x .content) ≤ 0x60000
-  unfolding recordOf kindOf spanColumns
+  unfolding spanColumns recordOf
   span-few line h x held p = by (x .content) refl
     where
       scalars : (s : List Scalar) → scalarsOf line (recordOf x) ≡ s → length s ≤ 0x8000

@@ -21,7 +21,7 @@ use Rattle.picture.specs.Conditions.{PlainComposed, WordBreakClasses, Dr
 use Rattle.picture.specs.Picture.{Cell}
 use Rattle.picture.specs.Picture.Window.{columns, columns-append, Outside, outside-before, outside-behind, outside-append}
 use Rattle.picture.specs.Picture.LineCells.{Rendition, renditionAfter, cellWidth, textCells, spanCells, lineCells, cells-widths}
-use Rattle.picture.specs.Picture.ComposedTexts.{text-widths, span-columns}
+use Rattle.picture.specs.Picture.DrawnWidths.{text-widths, span-columns}
 use Rattle.picture.specs.Picture.WordClusters.{text-ends}
 
 -- column x is within none of the cells
@@ -36,7 +36,7 @@ module _ (P : Profile) where
       rw (← e, map-append (cellWidth P) xs ys) (outside-append n 0 (map (cellWidth P) xs) (map (cellWidth P) ys) (outside-behind n 0 (map (cellWidth P) xs) (omega arith)) (outside-before n (0 + n) (map (cellWidth P) ys) (omega arith)))
 
   cells-end : (cells xs ys zs : List Cell) → xs ++ (ys ++ zs) ≡ cells → EachEnd (Boundary P cells) (columns (cellWidth P) xs) (map (cellWidth P) ys)
-  unfolding EachEnd total
+  unfolding total EachEnd
   cells-end cells xs [] zs e = tt
   cells-end cells xs (y ∷ ys) zs e =
       let f : (xs ++ (y ∷ [])) ++ (ys ++ zs) ≡ cells = append-assoc xs (y ∷ []) (ys ++ zs) ∙ e in
@@ -57,7 +57,7 @@ module _ (P : Profile) where
     -- counted : wrapping counts the columns that a span draws
     pub stops : {ss : List Span} → All (λ (s : Span). Drawable P (s .content)) ss → All (λ (s : Span). (p : ℕ) → spanColumns P count p (s .content) ≡ spanColumns P drawnColumns p (s .content)) ss
         → (r : Rendition) (p : ℕ) (xs : List Cell) → columns (cellWidth P) xs ≡ p → xs ++ lineCells P current r p ss ≡ cells → Stops (Boundary P cells) P count b p ss
-    unfolding Stops lineCells
+    unfolding lineCells Stops
     stops all-nil all-nil r p xs n e = tt
     stops (all-cons {a = s} {s = ss} d a) (all-cons k c) r p xs n e =
         let now : List Cell = spanCells P current r p (s .content) in

@@ -45,7 +45,7 @@ module _ (F : ℕ → Type 0) where
   run-end (next {b = b} h f g r) e (suc j) = let q = run-end r b j in (omega (arith, q .0), q .1)
 
   run-start : {a z : ℕ} {rs : List Row} → Run F a z rs → (e i j : ℕ) → i ≤ j → (startOf (endOf e j rs) i rs ≤ endOf e j rs) × F (startOf (endOf e j rs) i rs)
-  unfolding endOf startOf
+  unfolding startOf endOf
   run-start (last h f g) e zero zero k = (h, f)
   run-start (last h f g) e zero (suc j) k = (h, f)
   run-start (last h f g) e (suc i) zero k = absurd (omega arith)
@@ -62,18 +62,18 @@ module _ (P : Profile) (current : Option ℕ) (ss : List Span) where
   cells = lineCells P current (renditionOf initial) 0 ss
 
   closed : (room : Bool) (t : State) (a : Attributes) → (shownFrom P a (closeRows room t) ≡ []) × (whole (closeRows room t) ≡ true)
-  unfolding closeRows shownFrom whole
+  unfolding whole shownFrom closeRows
   closed true t a = (refl, refl)
   closed false t a = (refl, refl)
 
   begun : InForce initial plain
-  unfolding initial styled
+  unfolding styled initial
   begun e = refl
 
   module _ (wide : SomeWidth (cellWidth P) cells) where
     window : (start end : ℕ) (room : Bool) → start ≤ end → Boundary P cells start → Boundary P cells end
         → (shown P (renderSpans P start end current (closeRows room) initial ss) ≡ inside (cellWidth P) start end 0 cells) × (whole (renderSpans P start end current (closeRows room) initial ss) ≡ true)
-    unfolding shown initial
+    unfolding initial shown
     window start end room h f g = spans-draw P start end h current (closeRows room) (closed room) ss (renditionOf initial) initial plain begun refl (record { wide = wide; starts = f; ends = g })
 
     module _ (width : ℕ) (mode : Mode) where

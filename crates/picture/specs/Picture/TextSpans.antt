@@ -26,14 +26,14 @@ abbrev Special : ClusterKind → Type 0
 Special w = isPlain w ≡ false
 
 control-special : (g : List ℕ) (w : ClusterKind) → Special w → Special (controlKind g w)
-unfolding controlKind isPlain
+unfolding isPlain controlKind
 control-special [] w h = h
 control-special (b ∷ []) w h = both Special (leb b 0x1F || eqb b 0x7F) refl h
 control-special (b ∷ c ∷ g) w h = h
 
 module _ (P : Profile) where
   flat-special : (g : List Scalar) → eqb (widthOf P g) 0 ≡ true → plainCluster P g ≡ false
-  unfolding plainCluster clusterKind isPlain
+  unfolding plainCluster
   flat-special g e =
       both Special (reads g (0x1B ∷ [])) (escape-special (parse []))
       (both Special (reads g (0x0D ∷ 0x0A ∷ [])) refl (both Special (reads g (0x0A ∷ [])) refl (both Special (reads g (0x09 ∷ [])) refl (control-special (bytesOf g) _ (rw e refl)))))
@@ -46,10 +46,13 @@ module _ (P : Profile) where
     abbrev pub TextClusters : Span → Type 0
     TextClusters x = (m : Option ℕ) (t : List Scalar) → x .content ≡ text m t → All Q (clusters P t)
 
-    -- the spans of the text s: what joins nothing to s joins nothing to the text that they begin with
+    -- the spans of the text s: a cluster that ends before s ends before the text that they begin with
+    abbrev Begins : List Scalar → List Span → Type 0
+    Begins s ss = (x : Span) (xs : List Span) → ss ≡ x ∷ xs → (m : Option ℕ) (t : List Scalar) → x .content ≡ text m t → Ends P s t
+
     record Reads (s : List Scalar) (ss : List Span) : Type 0 where
       texts : All TextClusters ss
-      begins : (x : Span) (xs : List Span) → ss ≡ x ∷ xs → (m : Option ℕ) (t : List Scalar) → x .content ≡ text m t → Ends P s t
+      begins : Begins s ss
 
     -- a plain cluster in front of spans
     module _ (m : Option ℕ) (p : ℕ) (c : Scalar) (x rest : List Scalar) (e : further P (c ∷ []) (x ++ rest) ≡ length x) (q : Q (c ∷ x)) where
@@ -62,24 +65,21 @@ module _ (P : Profile) where
       alone : (n : ℕ) (ss : List Span) → All TextClusters ss → Reads (c ∷ (x ++ rest)) (span p n (text m (c ∷ x)) ∷ ss)
       alone n ss b = rw (append-nil x) at (front n [] ss (ends-none P rest) (rw (clusters-nil P) all-nil) b)
 
-      join-reads : (s : Span) (w : Content) (ss : List Span) → s .content ≡ w → Reads rest (s ∷ ss) → Reads (c ∷ (x ++ rest)) (joinText m p (c ∷ x) s w ss)
+      join-reads : (s : Span) (w : Content) (ss : List Span) → s .content ≡ w → Begins rest (s ∷ ss) → TextClusters s → All TextClusters ss → Reads (c ∷ (x ++ rest)) (joinText m p (c ∷ x) s w ss)
       unfolding joinText
-      join-reads s (text k t) ss i r = let a = first-of (r .texts) in front _ t ss (r .begins s ss refl k t i) (a .0 k t i) (a .1)
-        where
-          first-of : All TextClusters (s ∷ ss) → TextClusters s × All TextClusters ss
-          first-of (all-cons u v) = (u, v)
-      join-reads s (control b) ss i r = alone _ (s ∷ ss) (r .texts)
-      join-reads s (invalid b) ss i r = alone _ (s ∷ ss) (r .texts)
-      join-reads s (unprintable t) ss i r = alone _ (s ∷ ss) (r .texts)
-      join-reads s (escape t) ss i r = alone _ (s ∷ ss) (r .texts)
-      join-reads s tab ss i r = alone _ (s ∷ ss) (r .texts)
-      join-reads s crlf ss i r = alone _ (s ∷ ss) (r .texts)
-      join-reads s lf ss i r = alone _ (s ∷ ss) (r .texts)
+      join-reads s (text k t) ss i b h a = front _ t ss (b s ss refl k t i) (h k t i) a
+      join-reads s (control v) ss i b h a = alone _ (s ∷ ss) (all-cons h a)
+      join-reads s (invalid v) ss i b h a = alone _ (s ∷ ss) (all-cons h a)
+      join-reads s (unprintable t) ss i b h a = alone _ (s ∷ ss) (all-cons h a)
+      join-reads s (escape t) ss i b h a = alone _ (s ∷ ss) (all-cons h a)
+      join-reads s tab ss i b h a = alone _ (s ∷ ss) (all-cons h a)
+      join-reads s crlf ss i b h a = alone _ (s ∷ ss) (all-cons h a)
+      join-reads s lf ss i b h a = alone _ (s ∷ ss) (all-cons h a)
 
-      plain-reads : (ss : List Span) → Reads rest ss → Reads (c ∷ (x ++ rest)) (addText m p (c ∷ x) ss)
+      plain-reads : {ss : List Span} → All TextClusters ss → Begins rest ss → Reads (c ∷ (x ++ rest)) (addText m p (c ∷ x) ss)
       unfolding addText
-      plain-reads [] r = alone _ [] all-nil
-      plain-reads (s ∷ ss) r = join-reads s (s .content) ss refl r
+      plain-reads all-nil b = alone _ [] all-nil
+      plain-reads (all-cons {a = s} {s = ss} h a) b = join-reads s (s .content) ss refl b h a
 
     -- a span that is no text
     special-reads : (s : List Scalar) (p k : ℕ) (c : Content) (ss : List Span) → NoText (special c k) → All TextClusters ss → Reads s (span p k c ∷ ss)
@@ -91,8 +91,8 @@ module _ (P : Profile) where
 
     kind-reads : (m : Option ℕ) (p : ℕ) (c : Scalar) (x rest : List Scalar) → further P (c ∷ []) (x ++ rest) ≡ length x → (plainCluster P (c ∷ x) ≡ true → Q (c ∷ x)) → (behind : List ℕ) (w : ClusterKind)
         → clusterKind P (c ∷ x) behind ≡ w → (go : ℕ → List Span) → ((k : ℕ) → All TextClusters (go k)) → Reads rest (go zero) → Reads (c ∷ (x ++ rest)) (addCluster m p (c ∷ x) (length (bytesOf (c ∷ x))) w go)
-    unfolding addCluster isPlain
-    kind-reads m p c x rest e f behind plain i go a r = plain-reads m p c x rest e (f (sym (plain-same P (c ∷ x) behind) ∙ ap isPlain i)) (go zero) r
+    unfolding isPlain addCluster
+    kind-reads m p c x rest e f behind plain i go a r = plain-reads m p c x rest e (f (sym (plain-same P (c ∷ x) behind) ∙ ap isPlain i)) (r .texts) (r .begins)
     kind-reads m p c x rest e f behind (special w k) i go a r = special-reads (c ∷ (x ++ rest)) p k w (go (k - length (bytesOf (c ∷ x)))) (rw i at (kind-noText P (c ∷ x) behind)) (a (k - length (bytesOf (c ∷ x))))
 
     -- the spans of a run

@@ -29,7 +29,7 @@ sharing c = among c (cr ∷ lf ∷ extend ∷ zwj ∷ [])
 
 -- behind any of them a cluster goes on with those that share: a test of every two classes
 joins-sharing : (k : Context) (a b : Class) → breaking (number a) || sharing (number a) ≡ true → joined (number a) (after k (number a)) (number b) ≡ true → sharing (number b) ≡ true
-unfolding every joined after among number breaking sharing
+unfolding sharing breaking after joined every
 joins-sharing k a b e j = rw (e, j) at (every-one (test (number a)) 12 0 (number b) (true-T (every-one (λ a. every (test a) 0 12) 12 0 (number a) tt (omega arith) (omega (arith, number-le a)))) (omega arith) (omega (arith, number-le b)))
   where
     test : ℕ → ℕ → Bool
@@ -42,13 +42,13 @@ module _ (P : Profile) (classes : WordBreakClasses P) (flat : (v : ℕ) → shar
   Joined before (c ∷ s) = (joins P before c ≡ true) × Joined (c ∷ before) s
 
   cluster-joined : (x before rest : List Scalar) → further P before (x ++ rest) ≡ length x → Joined before x
-  unfolding further Joined
+  unfolding Joined further
   cluster-joined [] before rest e = tt
   cluster-joined (c ∷ x) before rest e =
       cases (joins P before c) (λ j. (j, cluster-joined x (c ∷ before) rest (let f = rw j at e in omega arith))) (λ j. absurd (let f = rw j at e in omega arith))
 
   rest-flat : (s : List Scalar) (c : Scalar) (before : List Scalar) → breaking (classOf P c) || sharing (classOf P c) ≡ true → Joined (c ∷ before) s → widthOf P s ≡ 0
-  unfolding Joined joins context
+  unfolding joins Joined
   rest-flat [] c before e t = width-nil P
   rest-flat (d ∷ s) c before e t =
       let f = joins-sharing (context P before) (P .class (c .code)) (P .class (d .code)) e (t .0) in
@@ -56,7 +56,7 @@ module _ (P : Profile) (classes : WordBreakClasses P) (flat : (v : ℕ) → shar
 
   -- whitespace or a hyphen joins CR alone, and CR nothing
   first-cr : (x y : List Scalar) (d c : Scalar) (before : List Scalar) → wordBreak (d .code) ≡ true → Joined (c ∷ before) (x ++ (d ∷ y)) → classOf P c ≡ 0
-  unfolding Joined joins among number
+  unfolding joins Joined
   first-cr [] y d c before k t =
       cases (eqb (classOf P c) 0) (λ e. eqb-true _ 0 e)
       (λ e. absurd (true≢false (sym (t .0) ∙ apart-numbers (classOf P c) (context P (c ∷ before)) (classOf P d) (eqb-false _ 0 e) (classes (d .code) k))))
@@ -64,7 +64,7 @@ module _ (P : Profile) (classes : WordBreakClasses P) (flat : (v : ℕ) → shar
       absurd (true≢false (sym (t .0) ∙ alone-numbers (classOf P c) (context P (c ∷ before)) (classOf P f) (rw (first-cr x y d f (c ∷ before) k (t .1)))))
 
   joined-unshared : (c : Scalar) (s : List Scalar) → Joined (c ∷ []) s → Unshared P (c ∷ s)
-  unfolding breaking sharing among number
+  unfolding among sharing breaking
   joined-unshared c s t [] y d e k = let i : c ≡ d = cc in let j : s ≡ y = cc in rw (← j) (rest-flat s c [] (rw (i, classes (d .code) k)) t)
   joined-unshared c s t (b ∷ x) y d e k =
       let i : c ≡ b = cc in

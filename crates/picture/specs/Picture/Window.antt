@@ -37,7 +37,7 @@ module _ {A : Type 0} (wide : A → ℕ) where
   columns-append (x ∷ xs) ys = omega (arith, columns-append xs ys)
 
   pub inside-append : (o l c : ℕ) (xs ys : List A) → inside o l c (xs ++ ys) ≡ inside o l c xs ++ inside o l (c + columns xs) ys
-  unfolding inside total
+  unfolding total inside
   inside-append o l c [] ys = let e : c ≡ c + 0 = omega arith in ap (λ (n : ℕ). inside o l n ys) e
   inside-append o l c (x ∷ xs) ys =
       let e : c + wide x + columns xs ≡ c + (wide x + columns xs) = omega arith in
@@ -51,13 +51,13 @@ module _ {A : Type 0} (wide : A → ℕ) where
   inside-right o l c (x ∷ xs) h = rw (right-of o l c h) (inside-right o l (c + wide x) xs (omega arith))
 
   pub inside-left : (o l c : ℕ) {xs : List A} → SomeWidth xs → c + columns xs ≤ o → inside o l c xs ≡ []
-  unfolding inside total
+  unfolding total inside
   inside-left o l c all-nil h = refl
   inside-left o l c (all-cons {a = x} w a) h = rw (left-of o l c (omega arith)) (inside-left o l (c + wide x) a (omega arith))
 
   -- all in a window that holds them
   pub inside-all : (o l c : ℕ) {xs : List A} → SomeWidth xs → o ≤ c → c + columns xs ≤ l → inside o l c xs ≡ xs
-  unfolding inside total
+  unfolding total inside
   inside-all o l c all-nil h k = refl
   inside-all o l c (all-cons {a = x} w a) h k = rw (within-window o l c h (omega arith), inside-all o l (c + wide x) a (omega arith) (omega arith))
 
@@ -91,14 +91,14 @@ outside-before x c [] h = tt
 outside-before x c (w ∷ ws) h = (λ k. omega arith, outside-before x (c + w) ws (omega arith))
 
 pub outside-append : (x c : ℕ) (vs ws : List ℕ) → Outside x c vs → Outside x (c + total vs) ws → Outside x c (vs ++ ws)
-unfolding Outside total
+unfolding total Outside
 outside-append x c [] ws o p = let e : c + 0 ≡ c = omega arith in subst (λ (n : ℕ). Outside x n ws) e p
 outside-append x c (v ∷ vs) ws o p =
     let e : c + (v + total vs) ≡ c + v + total vs = omega arith in
     (o .0, outside-append x (c + v) vs ws (o .1) (subst (λ (n : ℕ). Outside x n ws) e p))
 
 pub outside-parts : (x c : ℕ) (vs ws : List ℕ) → Outside x c (vs ++ ws) → Outside x c vs × Outside x (c + total vs) ws
-unfolding Outside total
+unfolding total Outside
 outside-parts x c [] ws o = let e : c ≡ c + 0 = omega arith in (tt, subst (λ (n : ℕ). Outside x n ws) e o)
 outside-parts x c (v ∷ vs) ws o =
     let e : c + v + total vs ≡ c + (v + total vs) = omega arith in
@@ -106,6 +106,6 @@ outside-parts x c (v ∷ vs) ws o =
     ((o .0, r .0), subst (λ (n : ℕ). Outside x n ws) e (r .1))
 
 pub outside-behind : (x c : ℕ) (ws : List ℕ) → c + total ws ≤ x → Outside x c ws
-unfolding Outside total
+unfolding total Outside
 outside-behind x c [] h = tt
 outside-behind x c (w ∷ ws) h = (λ k. omega arith, outside-behind x (c + w) ws (omega arith))

@@ -55,13 +55,13 @@ module _ (P : Profile) (start end : ℕ) (ordered : start ≤ end) where
     rendition : renditionOf (r .after) ≡ n
     position : r .after .position ≡ t .position + columns (cellWidth P) xs
 
-  nothing : (t u : State) (a : Attributes) → InForce u a → u .position ≡ t .position → Draws t a [] (renditionOf u) (sent [] u)
-  unfolding inside inForce whole shownFrom total
-  nothing t u a f e = record { shows = refl; whole = refl; force = f; rendition = refl; position = omega arith }
+  draws-nothing : (t u : State) (a : Attributes) → InForce u a → u .position ≡ t .position → Draws t a [] (renditionOf u) (sent [] u)
+  unfolding total shownFrom whole inForce inside
+  draws-nothing t u a f e = record { shows = refl; whole = refl; force = f; rendition = refl; position = omega arith }
 
-  then : {t : State} {a : Attributes} {xs ys : List Cell} {m n : Rendition} {q r : Sent} → Draws t a xs m q → Draws (q .after) (inForce a (q .changes)) ys n r
+  draws-both : {t : State} {a : Attributes} {xs ys : List Cell} {m n : Rendition} {q r : Sent} → Draws t a xs m q → Draws (q .after) (inForce a (q .changes)) ys n r
       → Draws t a (xs ++ ys) n (sent (q .changes ++ r .changes) (r .after))
-  then {t} {a} {xs} {ys} {q = q} {r = r} d e =
+  draws-both {t} {a} {xs} {ys} {q = q} {r = r} d e =
       record {
         shows = shown-append (r .changes) P a (q .changes) ∙ ap₂ (λ (x y : List Cell). x ++ y) (d .shows) (e .shows)
             ∙ ap (λ (n : ℕ). inside (cellWidth P) start end (t .position) xs ++ inside (cellWidth P) start end n ys) (d .position) ∙ sym (inside-append (cellWidth P) start end (t .position) xs ys);
@@ -99,7 +99,7 @@ module _ (P : Profile) (start end : ℕ) (ordered : start ≤ end) where
         (λ f. inside-left (widthOf P) start end (t .position) wide (omega (arith, ltb-false start (t .position + widthOf P x) f)))
 
     write-draws : (a : Attributes) → InForce t a → Draws t a (textCells P (t .attrs) s x) (renditionOf t) (writeTruncated P start end t s x)
-    unfolding writeTruncated move inForce whole shownFrom
+    unfolding shownFrom whole inForce writeTruncated
     write-draws a f =
         let b : Attributes = styled (t .attrs) s in
         let n : columns (cellWidth P) (textCells P (t .attrs) s x) ≡ widthOf P x = ap total (cells-widths P b (clusters P x)) ∙ widths-total P x in
@@ -128,12 +128,12 @@ module _ (P : Profile) (start end : ℕ) (ordered : start ≤ end) where
 
   marks-draw : (s : List Scalar) (n : Rendition) (t : State) (a : Attributes) → InForce t a → renditionOf t ≡ n → Uncut (t .position) (markCells P (n .attrs) s)
       → Draws t a (markCells P (n .attrs) s) n (writeMarks P start end t s)
-  unfolding markCells writeMarks
-  marks-draw [] n t a f e u = subst (λ (n : Rendition). Draws t a [] n (sent [] t)) e (nothing t t a f refl)
+  unfolding writeMarks markCells
+  marks-draw [] n t a f e u = subst (λ (n : Rendition). Draws t a [] n (sent [] t)) e (draws-nothing t t a f refl)
   marks-draw (c ∷ s) n t a f e u =
       let p = uncut-parts (t .position) (textCells P (n .attrs) attributes.control (scalarMark (c .code))) (markCells P (n .attrs) s) u in
       let d = text-draws n t a f e attributes.control (scalarMark (c .code)) (p .0) in
-      then d (marks-draw s n _ _ (d .force) (d .rendition) (rw (d .position) (p .1)))
+      draws-both d (marks-draw s n _ _ (d .force) (d .rendition) (rw (d .position) (p .1)))
 
   module _ (current : Option ℕ) where
     style-same : (m : Option ℕ) → textStyle P 0 0 current m ≡ textStyle P start end current m
@@ -146,16 +146,16 @@ module _ (P : Profile) (start end : ℕ) (ordered : start ≤ end) where
         by (some j) (some k) = refl
 
     sequence-draws : (e : Sequence) (place : ℕ) (t : State) (a : Attributes) → InForce t a → Draws t a [] (renditionAfter (renditionOf t) place (escape e)) (sent [] (renderSequence P start end t place e))
-    unfolding renderSequence renditionAfter
-    sequence-draws (sgr os) place t a f = nothing t _ a (λ z. cc) refl
-    sequence-draws (hyperlink b n) place t a f = nothing t _ a (λ z. cc) refl
-    sequence-draws (lineDrawing b) place t a f = nothing t _ a f refl
-    sequence-draws eraseToEnd place t a f = nothing t _ a f refl
-    sequence-draws ignored place t a f = nothing t t a f refl
+    unfolding renditionAfter renderSequence
+    sequence-draws (sgr os) place t a f = draws-nothing t _ a (λ z. cc) refl
+    sequence-draws (hyperlink b n) place t a f = draws-nothing t _ a (λ z. cc) refl
+    sequence-draws (lineDrawing b) place t a f = draws-nothing t _ a f refl
+    sequence-draws eraseToEnd place t a f = draws-nothing t _ a f refl
+    sequence-draws ignored place t a f = draws-nothing t t a f refl
 
     span-draws : (c : Content) (place : ℕ) (n : Rendition) (t : State) (a : Attributes) → InForce t a → renditionOf t ≡ n → Uncut (t .position) (spanCells P current n (t .position) c)
         → Draws t a (spanCells P current n (t .position) c) (renditionAfter n place c) (renderSpan P start end current t place c)
-    unfolding renderSpan spanCells renditionAfter
+    unfolding renditionAfter spanCells renderSpan
     span-draws (text m s) place n t a f e u =
         let y : Style = textStyle P 0 0 current m in
         let x : List Scalar = cond (n .lineDrawing) (lineDrawn s) s in
@@ -165,15 +165,15 @@ module _ (P : Profile) (start end : ℕ) (ordered : start ≤ end) where
     span-draws (unprintable s) place n t a f e u = marks-draw s n t a f e u
     span-draws (escape q) place n t a f e u = subst (λ (n : Rendition). Draws t a [] (renditionAfter n place (escape q)) (sent [] (renderSequence P start end t place q))) e (sequence-draws q place t a f)
     span-draws tab place n t a f e u = text-draws n t a f e file (spaces (8 - t .position % 8)) u
-    span-draws crlf place n t a f e u = subst (λ (n : Rendition). Draws t a [] n (sent [] t)) e (nothing t t a f refl)
-    span-draws lf place n t a f e u = subst (λ (n : Rendition). Draws t a [] n (sent [] t)) e (nothing t t a f refl)
+    span-draws crlf place n t a f e u = subst (λ (n : Rendition). Draws t a [] n (sent [] t)) e (draws-nothing t t a f refl)
+    span-draws lf place n t a f e u = subst (λ (n : Rendition). Draws t a [] n (sent [] t)) e (draws-nothing t t a f refl)
 
     -- ---- all spans
 
     module _ (close : State → List Change) (closed : (t : State) (a : Attributes) → (shownFrom P a (close t) ≡ []) × (whole (close t) ≡ true)) where
       pub spans-draw : (ss : List Span) (n : Rendition) (t : State) (a : Attributes) → InForce t a → renditionOf t ≡ n → Uncut (t .position) (lineCells P current n (t .position) ss)
           → (shownFrom P a (renderSpans P start end current close t ss) ≡ inside (cellWidth P) start end (t .position) (lineCells P current n (t .position) ss)) × (whole (renderSpans P start end current close t ss) ≡ true)
-      unfolding renderSpans lineCells inside
+      unfolding inside lineCells renderSpans
       spans-draw [] n t a f e u = closed t a
       spans-draw (s ∷ ss) n t a f e u =
           let xs : List Cell = spanCells P current n (t .position) (s .content) in

@@ -1,86 +1,34 @@
--- Where whitespace and hyphens are unshared, words and their own clusters end where clusters of the text end, a column of width 0 apart.
-use mathlib.Core.Path.{_≡_, refl, sym, ap, ap₂, _∙_, subst}
+-- Where whitespace and hyphens are unshared, words, their separators and their own clusters end at columns at which clusters of the text end.
+use mathlib.Core.Path.{_≡_, refl, sym, ap, _∙_, subst}
 use Prim.Native.Nat.{ℕ, _+_}
 use native.Mathlib.Omega.{arith}
 use mathlib.Core.Bool.{Bool, true, false, or-true, true≢false}
-use mathlib.Core.List.{List, [], _∷_, _++_, append-assoc, append-nil, reverse, reverseAux}
+use mathlib.Core.List.{List, [], _∷_, _++_, append-assoc, append-nil, reverse}
 use lib.Dec.{eqb}
 use borrow.Author.Tests.{eqb-true}
 use Rattle.text.specs.Tests.{cases, true-T}
 use Rattle.text.specs.Each.{All, all-nil, all-cons}
 use Rattle.text.specs.Utf8.{Scalar}
-use Rattle.text.specs.Class.{Profile, cr, lf, control, other, number, among, whitespace}
+use Rattle.text.specs.Class.{Profile, cr, lf, control, other, among, whitespace}
 use Rattle.text.specs.Width.{widthOf}
 use Rattle.text.specs.Width.Laws.{width-append, width-cons, width-nil}
-use Rattle.text.specs.Cluster.{Context, start, after, joined, classOf, context, joins, joinsNext, addToCluster, clustersAfter, clusters}
+use Rattle.text.specs.Cluster.{Context, start, after, classOf, context, joins, joinsNext, addToCluster, clustersAfter, clusters}
 use Rattle.text.specs.Cluster.Laws.{clusters-nil, clusters-first}
 use Rattle.rows.specs.Words.{Word, aWord, words}
 use Rattle.rows.specs.Words.Laws.{belongs, leading, beyond, leading-beyond, wordFrom, restFrom, firstWord, restWords, words-first}
 use Rattle.picture.specs.Columns.Wrapping.{total, EachEnd, widths, widths-total, behind, WordEnds, TextEnds}
 use Rattle.picture.specs.Conditions.{wordBreak, WordBreakClasses, Unshared}
+use Rattle.picture.specs.Picture.AppendedClusters.{appendClusters, clusters-append, same-after}
 
 all-first : {A : Type 0} {Q : A → Type 0} {a : A} {s : List A} → All Q (a ∷ s) → Q a × All Q s
 all-first (all-cons q e) = (q, e)
 
 -- behind these classes the context starts anew
 restarted : (k : Context) (n : ℕ) → among n (cr ∷ lf ∷ control ∷ other ∷ []) ≡ true → after k n ≡ start
-unfolding after among number
+unfolding after
 restarted k n g = cases (eqb n 10) (λ e. absurd (true-T (rw (eqb-true n 10 e) at g))) (λ e. rw e)
 
 module _ (P : Profile) where
-  -- ---- the clusters of a text in two parts
-
-  -- the clusters xs, and behind them ys: apart, or the last of xs and the first of ys being one
-  unfoldable meet : Bool → List (List Scalar) → List (List Scalar) → List (List Scalar)
-  meet j [] ys = ys
-  meet false (g ∷ []) ys = g ∷ ys
-  meet true (g ∷ []) [] = g ∷ []
-  meet true (g ∷ []) (h ∷ ys) = (g ++ h) ∷ ys
-  meet j (g ∷ h ∷ gs) ys = g ∷ meet j (h ∷ gs) ys
-
-  meet-one : (j : Bool) (d : Scalar) (ys : List (List Scalar)) → addToCluster P j d ys ≡ meet j ((d ∷ []) ∷ []) ys
-  unfolding addToCluster meet
-  meet-one false d ys = refl
-  meet-one true d [] = refl
-  meet-one true d (g ∷ ys) = refl
-
-  add-first : (j w : Bool) (d : Scalar) (g : List Scalar) (gs ys : List (List Scalar)) → addToCluster P w d (meet j (g ∷ gs) ys) ≡ meet j (addToCluster P w d (g ∷ gs)) ys
-  unfolding addToCluster meet
-  add-first j false d g gs ys = refl
-  add-first false true d g [] ys = refl
-  add-first true true d g [] [] = refl
-  add-first true true d g [] (h ∷ ys) = refl
-  add-first false true d g (h ∷ gs) ys = refl
-  add-first true true d g (h ∷ gs) ys = refl
-
-  add-meet : (j w v : Bool) (d e : Scalar) (gs ys : List (List Scalar)) → addToCluster P w d (meet j (addToCluster P v e gs) ys) ≡ meet j (addToCluster P w d (addToCluster P v e gs)) ys
-  unfolding addToCluster
-  add-meet j w false d e gs ys = add-first j w d (e ∷ []) gs ys
-  add-meet j w true d e [] ys = add-first j w d (e ∷ []) [] ys
-  add-meet j w true d e (g ∷ gs) ys = add-first j w d (e ∷ g) gs ys
-
-  meet-after : (b a before : List Scalar) (d : Scalar)
-      → clustersAfter P before (d ∷ (a ++ b)) ≡ meet (joinsNext P (reverseAux a (d ∷ before)) b) (clustersAfter P before (d ∷ a)) (clustersAfter P (reverseAux a (d ∷ before)) b)
-  unfolding clustersAfter joinsNext
-  meet-after b [] before d = meet-one (joinsNext P (d ∷ before) b) d (clustersAfter P (d ∷ before) b)
-  meet-after b (e ∷ a) before d =
-      let t : List Scalar = reverseAux a (e ∷ d ∷ before) in
-      ap (addToCluster P (joins P (d ∷ before) e) d) (meet-after b a (d ∷ before) e)
-      ∙ add-meet (joinsNext P t b) (joins P (d ∷ before) e) (joinsNext P (e ∷ d ∷ before) a) d e (clustersAfter P (e ∷ d ∷ before) a) (clustersAfter P t b)
-
-  clusters-meet : (a b : List Scalar) → clusters P (a ++ b) ≡ meet (joinsNext P (reverse a) b) (clusters P a) (clustersAfter P (reverse a) b)
-  unfolding clusters clustersAfter meet
-  clusters-meet [] b = refl
-  clusters-meet (d ∷ a) b = meet-after b a [] d
-
-  -- clusters depend on the context alone
-  same-after : (s : List Scalar) (c : Scalar) (a b : List Scalar) → context P (c ∷ a) ≡ context P (c ∷ b) → clustersAfter P a (c ∷ s) ≡ clustersAfter P b (c ∷ s)
-  unfolding clustersAfter joinsNext joins context
-  same-after [] c a b e = refl
-  same-after (d ∷ s) c a b e =
-      ap₂ (λ (w : Bool) (gs : List (List Scalar)). addToCluster P w c gs) (ap (λ (k : Context). joined (classOf P c) k (classOf P d)) e)
-      (same-after s d (c ∷ a) (c ∷ b) (ap (λ (k : Context). after k (classOf P d)) e))
-
   module _ (classes : WordBreakClasses P) (c : Scalar) (k : wordBreak (c .code) ≡ true) where
     break-context : (a : List Scalar) → context P (c ∷ a) ≡ start
     unfolding context
@@ -88,14 +36,14 @@ module _ (P : Profile) where
 
     -- whitespace or a hyphen in front of a text
     break-clusters : (s : List Scalar) → clusters P (c ∷ s) ≡ addToCluster P (joinsNext P (c ∷ []) s) c (clusters P s)
-    unfolding clusters clustersAfter context
+    unfolding clusters
     break-clusters [] = refl
-    break-clusters (d ∷ s) = ap (addToCluster P (joinsNext P (c ∷ []) (d ∷ s)) c) (same-after s d (c ∷ []) [] (ap (λ (k : Context). after k (classOf P d)) (break-context [])))
+    break-clusters (d ∷ s) = ap (addToCluster P (joinsNext P (c ∷ []) (d ∷ s)) c) (same-after P s d (c ∷ []) [] (ap (λ (k : Context). after k (classOf P d)) (break-context [])))
 
     -- a text in front of whitespace or a hyphen
-    clusters-break : (a s : List Scalar) → clusters P (a ++ (c ∷ s)) ≡ meet (joins P (reverse a) c) (clusters P a) (clusters P (c ∷ s))
-    unfolding joinsNext clusters
-    clusters-break a s = clusters-meet a (c ∷ s) ∙ ap (meet (joins P (reverse a) c) (clusters P a)) (same-after s c (reverse a) [] (break-context (reverse a) ∙ sym (break-context [])))
+    clusters-break : (a s : List Scalar) → clusters P (a ++ (c ∷ s)) ≡ appendClusters (joins P (reverse a) c) (clusters P a) (clusters P (c ∷ s))
+    unfolding clusters
+    clusters-break a s = clusters-append P a (c ∷ s) ∙ ap (appendClusters (joins P (reverse a) c) (clusters P a)) (same-after P s c (reverse a) [] (break-context (reverse a) ∙ sym (break-context [])))
 
   unshared-rest : (u v : List Scalar) → Unshared P (u ++ v) → Unshared P v
   unshared-rest u v f x y c e k =
@@ -106,11 +54,11 @@ module _ (P : Profile) where
 
   module _ (F : ℕ → Type 0) where
     -- where F holds at the ends of clusters, and in front of a part of them, it holds at the ends of the clusters in front
-    meet-ends : (j : Bool) (xs ys : List (List Scalar)) (p : ℕ) → EachEnd F p (widths P (meet j xs ys)) → F (p + total (widths P xs)) → EachEnd F p (widths P xs)
-    unfolding meet total EachEnd
-    meet-ends j [] ys p e f = tt
-    meet-ends j (g ∷ []) ys p e f = (subst F (omega arith) f, tt)
-    meet-ends j (g ∷ h ∷ xs) ys p e f = (e .0, meet-ends j (h ∷ xs) ys (p + widthOf P g) (e .1) (subst F (omega arith) f))
+    append-ends : (j : Bool) (xs ys : List (List Scalar)) (p : ℕ) → EachEnd F p (widths P (appendClusters j xs ys)) → F (p + total (widths P xs)) → EachEnd F p (widths P xs)
+    unfolding EachEnd total appendClusters
+    append-ends j [] ys p e f = tt
+    append-ends j (g ∷ []) ys p e f = (subst F (omega arith) f, tt)
+    append-ends j (g ∷ h ∷ xs) ys p e f = (e .0, append-ends j (h ∷ xs) ys (p + widthOf P g) (e .1) (subst F (omega arith) f))
 
     -- unshared clusters from column p on, at whose ends F holds
     record Ending (p : ℕ) (gs : List (List Scalar)) : Type 0 where
@@ -130,16 +78,16 @@ module _ (P : Profile) where
     first-ending g gs t = let u = all-first (t .unshared) in (u .0, record { here = t .ends .0; ends = t .ends .1; unshared = u .1 })
 
     -- the clusters from whitespace or a hyphen on: if the last cluster before is joined to them, it has no width
-    meet-rest : (j : Bool) (c : Scalar) (v : List Scalar) (gs : List (List Scalar)) → wordBreak (c .code) ≡ true → (xs : List (List Scalar)) (p : ℕ) → Ending p (meet j xs ((c ∷ v) ∷ gs)) → Ending (p + total (widths P xs)) ((c ∷ v) ∷ gs)
-    unfolding meet total
-    meet-rest j c v gs k [] p t = moved (omega arith) t
-    meet-rest false c v gs k (g ∷ []) p t = moved (omega arith) (first-ending g ((c ∷ v) ∷ gs) t .1)
-    meet-rest true c v gs k (g ∷ []) p t =
+    append-rest : (j : Bool) (c : Scalar) (v : List Scalar) (gs : List (List Scalar)) → wordBreak (c .code) ≡ true → (xs : List (List Scalar)) (p : ℕ) → Ending p (appendClusters j xs ((c ∷ v) ∷ gs)) → Ending (p + total (widths P xs)) ((c ∷ v) ∷ gs)
+    unfolding total appendClusters
+    append-rest j c v gs k [] p t = moved (omega arith) t
+    append-rest false c v gs k (g ∷ []) p t = moved (omega arith) (first-ending g ((c ∷ v) ∷ gs) t .1)
+    append-rest true c v gs k (g ∷ []) p t =
         let f = first-ending (g ++ (c ∷ v)) gs t in
         let z = f .0 g v c refl k in
         let n = width-append P g v in
         with-first (c ∷ v) (subst F (omega arith) (t .here)) (unshared-rest g (c ∷ v) (f .0)) (moved (omega (arith, width-append P g (c ∷ v))) (f .1))
-    meet-rest j c v gs k (g ∷ h ∷ xs) p t = moved (omega arith) (meet-rest j c v gs k (h ∷ xs) (p + widthOf P g) (first-ending g _ t .1))
+    append-rest j c v gs k (g ∷ h ∷ xs) p t = moved (omega arith) (append-rest j c v gs k (h ∷ xs) (p + widthOf P g) (first-ending g _ t .1))
 
     -- the clusters behind whitespace or a hyphen: if the first is joined to it, it has no width
     add-rest : (j : Bool) (c : Scalar) (gs : List (List Scalar)) (p : ℕ) → wordBreak (c .code) ≡ true → Ending p (addToCluster P j c gs) → Ending (p + P .width (c .code)) gs
@@ -153,7 +101,7 @@ module _ (P : Profile) where
         with-first g (subst F (omega arith) (f .1 .here)) (unshared-rest (c ∷ []) g (f .0)) (moved (omega arith) (f .1))
 
     last-end : (ws : List ℕ) (p : ℕ) → F p → EachEnd F p ws → F (p + total ws)
-    unfolding EachEnd total
+    unfolding total EachEnd
     last-end [] p f e = subst F (omega arith) f
     last-end (w ∷ ws) p f e = subst F (omega arith) (last-end ws (p + w) (e .0) (e .1))
 
@@ -166,20 +114,20 @@ module _ (P : Profile) where
     TextEnd p s = EachEnd F p (widths P (clusters P s))
 
     front-ends : (a b : List Scalar) (p : ℕ) → TextEnd p (a ++ b) → F (p + widthOf P a) → TextEnd p a
-    front-ends a b p e f = meet-ends (joinsNext P (reverse a) b) (clusters P a) (clustersAfter P (reverse a) b) p (rw (clusters-meet a b) at e) (rw (widths-total P a) f)
+    front-ends a b p e f = append-ends (joinsNext P (reverse a) b) (clusters P a) (clustersAfter P (reverse a) b) p (rw (clusters-append P a b) at e) (rw (widths-total P a) f)
 
     module _ (classes : WordBreakClasses P) where
       before-break : (c : Scalar) → wordBreak (c .code) ≡ true → (a s : List Scalar) (p : ℕ) → EndingText p (a ++ (c ∷ s)) → EndingText (p + widthOf P a) (c ∷ s)
       before-break c k a s p t =
           let f = clusters-first P c s in
-          let r = meet-rest (joins P (reverse a) c) c _ _ k (clusters P a) p (subst (Ending p) (clusters-break classes c k a s ∙ ap (meet (joins P (reverse a) c) (clusters P a)) f) t) in
+          let r = append-rest (joins P (reverse a) c) c _ _ k (clusters P a) p (subst (Ending p) (clusters-break classes c k a s ∙ ap (appendClusters (joins P (reverse a) c) (clusters P a)) f) t) in
           rw f (rw (widths-total P a) at r)
 
       behind-break : (c : Scalar) → wordBreak (c .code) ≡ true → (s : List Scalar) (p : ℕ) → EndingText p (c ∷ s) → EndingText (p + P .width (c .code)) s
       behind-break c k s p t = add-rest (joinsNext P (c ∷ []) s) c (clusters P s) p k (rw (break-clusters classes c k s) at t)
 
       behind-spaces : (s : List Scalar) (p : ℕ) → EndingText p s → EndingText (p + widthOf P (leading true s)) (beyond true s)
-      unfolding leading beyond belongs
+      unfolding beyond leading
       behind-spaces [] p t = moved (omega (arith, width-nil P)) t
       behind-spaces (c ∷ s) p t =
           cases (whitespace (c .code))
@@ -198,7 +146,7 @@ module _ (P : Profile) where
       no-sep w r p e t = record { word = front-ends w r p e (t .here); sep = rw (clusters-nil P) tt; rest = moved (omega (arith, width-nil P)) t }
 
       parts-from : (w b : List Scalar) → ((c : Scalar) (s : List Scalar) → b ≡ c ∷ s → belongs false (c .code) ≡ false) → (p : ℕ) → EndingText p (w ++ b) → Parts p (wordFrom w b) (restFrom b)
-      unfolding wordFrom restFrom belongs EachEnd
+      unfolding EachEnd restFrom wordFrom
       parts-from w [] h p t =
           let u = rw (append-nil w) at t in
           no-sep w [] p (t .ends) (record { here = rw (widths-total P w) at (last-end (widths P (clusters P w)) p (u .here) (u .ends)); ends = rw (clusters-nil P) tt; unshared = rw (clusters-nil P) all-nil })
@@ -224,11 +172,11 @@ module _ (P : Profile) where
       beyond-head (d ∷ s) c t e = cases (belongs false (d .code)) (λ b. beyond-head s c t (rw b at e)) (λ b. let f : d ∷ s ≡ c ∷ t = rw b at e in let q : d ≡ c = cc in rw (← q) b)
 
       first-parts : (s : List Scalar) (p : ℕ) → EndingText p s → Parts p (firstWord s) (restWords s)
-      unfolding firstWord restWords
+      unfolding restWords firstWord
       first-parts s p t = parts-from (leading false s) (beyond false s) (beyond-head s) p (subst (EndingText p) (leading-beyond false s) t)
 
       word-ends : (vs : List Word) (s : List Scalar) → words s ≡ vs → (p : ℕ) → EndingText p s → WordEnds F P p vs
-      unfolding words WordEnds
+      unfolding WordEnds words
       word-ends [] s e p t = tt
       word-ends (v ∷ vs) [] e p t = absurd (let z : _≡_ {A = ℕ} 0 1 = cc in omega arith)
       word-ends (v ∷ vs) (c ∷ s) e p t =

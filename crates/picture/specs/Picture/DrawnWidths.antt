@@ -36,16 +36,16 @@ abbrev Composed : List Scalar → Type 0
 Composed s = All (λ (c : Scalar). inAny composed (c .code) ≡ true) s
 
 digit : (d : ℕ) → d < 16 → inAny composed (hexDigit d .code) ≡ true
-unfolding every inAny composed hexDigit
+unfolding hexDigit composed inAny every
 digit d h = every-one (λ d. inAny composed (hexDigit d .code)) 16 0 d tt (omega arith) (omega arith)
 
 spaces-composed : (n : ℕ) → Composed (spaces n)
-unfolding inAny composed
+unfolding composed inAny
 spaces-composed zero = all-nil
 spaces-composed (suc n) = all-cons refl (spaces-composed n)
 
 byte-composed : (b : ℕ) → b ≤ 0xFF → Composed (byteMark b)
-unfolding byteMark inAny composed
+unfolding composed inAny byteMark
 byte-composed b h = all-cons refl (all-cons (digit (b / 16) (omega arith)) (all-cons (digit (b % 16) (omega arith)) (all-cons refl all-nil)))
 
 upper-composed : (v : ℕ) → Composed (upperDigits v)
@@ -56,13 +56,13 @@ upper-composed v =
     (λ e. cases (ltb v 0x100000) (λ f. rw (e, f) (all-cons low all-nil)) (λ f. rw (e, f) (all-cons (digit (v / 0x100000 % 16) (omega arith)) (all-cons low all-nil))))
 
 scalar-composed : (v : ℕ) → Composed (scalarMark v)
-unfolding scalarMark inAny composed
+unfolding composed inAny scalarMark
 scalar-composed v =
     all-cons refl (all-cons refl (all-cons refl (all-append (upper-composed v)
     (all-cons (digit (v / 0x1000 % 16) (omega arith)) (all-cons (digit (v / 0x100 % 16) (omega arith)) (all-cons (digit (v / 0x10 % 16) (omega arith)) (all-cons (digit (v % 16) (omega arith)) (all-cons refl all-nil))))))))
 
 scalar-length : (v : ℕ) → length (scalarMark v) ≡ markColumns v
-unfolding scalarMark upperDigits markColumns
+unfolding markColumns scalarMark
 scalar-length v = cases (ltb v 0x10000) (λ e. rw e) (λ e. cases (ltb v 0x100000) (λ f. rw (e, f)) (λ f. rw (e, f)))
 
 module _ (P : Profile) (H : PlainComposed P) where
@@ -134,13 +134,13 @@ module _ (P : Profile) (H : PlainComposed P) where
   both-cells {xs = xs} {ys = ys} t u = record { wide = all-append (t .wide) (u .wide); columns = columns-append (cellWidth P) xs ys ∙ ap₂ (λ (m n : ℕ). m + n) (t .columns) (u .columns) }
 
   mark-cells : (a : Attributes) (s : List Scalar) → CellsTake (drawnColumns s) (markCells P a s)
-  unfolding markCells drawnColumns
+  unfolding drawnColumns markCells
   mark-cells a [] = no-cells
   mark-cells a (c ∷ s) = both-cells (text-cells a _ (scalarMark (c .code)) (rw (scalar-length (c .code)) at (composed-takes (scalar-composed (c .code))))) (mark-cells a s)
 
   module _ (current : Option ℕ) where
     span-cells : (r : Rendition) (p : ℕ) (c : Content) → Drawable P c → CellsTake (spanColumns P drawnColumns p c) (spanCells P current r p c)
-    unfolding spanCells spanColumns byteMark
+    unfolding byteMark spanColumns spanCells
     span-cells r p (text m s) d = text-cells (r .attrs) _ (cond (r .lineDrawing) (lineDrawn s) s) (text-takes (r .lineDrawing) s (d .wide m s refl))
     span-cells r p (control b) d = text-cells (r .attrs) _ (byteMark b) (composed-takes (byte-composed b (d .control b refl)))
     span-cells r p (invalid b) d = text-cells (r .attrs) _ (byteMark b) (composed-takes (byte-composed b (d .invalid b refl)))
@@ -159,7 +159,7 @@ module _ (P : Profile) (H : PlainComposed P) where
     line-wide (all-cons {a = s} d a) r p = all-append (span-cells r p (s .content) d .wide) (line-wide a (renditionAfter r (s .place) (s .content)) _)
 
     pub line-columns : {ss : List Span} → All (λ (s : Span). Drawable P (s .content)) ss → (r : Rendition) (p : ℕ) → p + columns (cellWidth P) (lineCells P current r p ss) ≡ lastColumnFrom P drawnColumns p ss
-    unfolding lineCells lastColumnFrom total
+    unfolding total lastColumnFrom lineCells
     line-columns all-nil r p = omega arith
     line-columns (all-cons {a = s} {s = ss} d a) r p =
         let xs : List Cell = spanCells P current r p (s .content) in
