@@ -110,10 +110,10 @@ module _ (P : Profile) where
     abbrev EndingText : ℕ → List Scalar → Type 0
     EndingText p s = Ending p (clusters P s)
 
-    abbrev TextEnd : ℕ → List Scalar → Type 0
-    TextEnd p s = EachEnd F p (widths P (clusters P s))
+    abbrev ClusterEnds : ℕ → List Scalar → Type 0
+    ClusterEnds p s = EachEnd F p (widths P (clusters P s))
 
-    front-ends : (a b : List Scalar) (p : ℕ) → TextEnd p (a ++ b) → F (p + widthOf P a) → TextEnd p a
+    front-ends : (a b : List Scalar) (p : ℕ) → ClusterEnds p (a ++ b) → F (p + widthOf P a) → ClusterEnds p a
     front-ends a b p e f = append-ends (joinsNext P (reverse a) b) (clusters P a) (clustersAfter P (reverse a) b) p (rw (clusters-append P a b) at e) (rw (widths-total P a) f)
 
     module _ (classes : WordBreakClasses P) where
@@ -137,11 +137,11 @@ module _ (P : Profile) where
       -- ---- the first word, its separator and the rest
 
       record Parts (p : ℕ) (v : Word) (r : List Scalar) : Type 0 where
-        word : TextEnd p (v .word)
-        sep : TextEnd (p + widthOf P (v .word)) (v .sep)
+        word : ClusterEnds p (v .word)
+        sep : ClusterEnds (p + widthOf P (v .word)) (v .sep)
         rest : EndingText (behind P p v) r
 
-      no-sep : (w r : List Scalar) (p : ℕ) → TextEnd p (w ++ r) → EndingText (p + widthOf P w) r → Parts p (aWord w []) r
+      no-sep : (w r : List Scalar) (p : ℕ) → ClusterEnds p (w ++ r) → EndingText (p + widthOf P w) r → Parts p (aWord w []) r
       unfolding EachEnd
       no-sep w r p e t = record { word = front-ends w r p e (t .here); sep = rw (clusters-nil P) tt; rest = moved (omega (arith, width-nil P)) t }
 
@@ -162,7 +162,7 @@ module _ (P : Profile) where
           let r = behind-spaces (c ∷ b) (p + widthOf P w) q in
           rw e (record {
             word = front-ends w (c ∷ b) p (t .ends) (q .here);
-            sep = front-ends (leading true (c ∷ b)) (beyond true (c ∷ b)) (p + widthOf P w) (subst (TextEnd (p + widthOf P w)) (leading-beyond true (c ∷ b)) (q .ends)) (r .here);
+            sep = front-ends (leading true (c ∷ b)) (beyond true (c ∷ b)) (p + widthOf P w) (subst (ClusterEnds (p + widthOf P w)) (leading-beyond true (c ∷ b)) (q .ends)) (r .here);
             rest = r;
           }))
 
