@@ -6,12 +6,10 @@ use mathlib.Core.List.{List, [], _∷_, _++_, map}
 use mathlib.Core.Option.{Option}
 use lib.Dec.{leb, ltb}
 use Rattle.text.specs.Tests.{cases}
-use Rattle.text.specs.Each.{all-nil, all-cons}
 use Rattle.text.specs.Utf8.{Scalar}
 use Rattle.text.specs.Class.{Profile}
 use Rattle.text.specs.Width.{widthOf}
 use Rattle.text.specs.Cluster.{clusters}
-use Rattle.text.specs.Cluster.Parts.{Wide}
 use Rattle.spans.specs.Sequence.{sgr, eraseToEnd, ignored, hyperlink, lineDrawing}
 use Rattle.spans.specs.Spans.{Content, text, control, invalid, unprintable, escape, tab, crlf, lf, Span}
 use Rattle.drawing.specs.declared.attributes.Attributes.{Attributes}
@@ -22,7 +20,7 @@ use Rattle.drawing.specs.Marks.{byteMark, scalarMark, lineDrawn}
 use Rattle.drawing.specs.Draw.{State, textStyle}
 use Rattle.picture.specs.Columns.Wrapping.{widths}
 use Rattle.picture.specs.Picture.{Cell, cell}
-use Rattle.picture.specs.Picture.Window.{columns, inside, SomeWidth}
+use Rattle.picture.specs.Picture.Window.{columns, inside}
 
 -- what sequences set: the attributes, and line drawing
 pub record Rendition : Type 0 where
@@ -92,11 +90,3 @@ module _ (P : Profile) where
     unfolding inside
     cells-inside o l c [] = refl
     cells-inside o l c (g ∷ gs) = let e = cells-inside o l (c + widthOf P g) gs in cases (leb o c && ltb c l) (λ t. rw (t, e)) (λ t. rw (t, e))
-
-    pub cells-wide : {gs : List (List Scalar)} → Wide P gs → SomeWidth cellWidth (map (cell a) gs)
-    cells-wide all-nil = all-nil
-    cells-wide (all-cons {a = g} w v) = all-cons {a = cell a g} w (cells-wide v)
-
-    pub wide-cells : (gs : List (List Scalar)) → SomeWidth cellWidth (map (cell a) gs) → Wide P gs
-    wide-cells [] v = all-nil
-    wide-cells (g ∷ gs) (all-cons w v) = all-cons {a = g} w (wide-cells gs v)

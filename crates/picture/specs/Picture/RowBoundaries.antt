@@ -51,7 +51,7 @@ module _ (P : Profile) where
     span-stops r p xs ys m s n e d =
         let x : List Scalar = cond (r .lineDrawing) (lineDrawn s) s in
         let now : List Cell = textCells P (r .attrs) (textStyle P 0 0 current m) x in
-        let w : map (cellWidth P) now ≡ widths P (clusters P s) = cells-widths P (styled (r .attrs) (textStyle P 0 0 current m)) (clusters P x) ∙ sym (text-widths P composed (r .lineDrawing) s .0) in
+        let w : map (cellWidth P) now ≡ widths P (clusters P s) = cells-widths P (styled (r .attrs) (textStyle P 0 0 current m)) (clusters P x) ∙ sym (text-widths P composed (r .lineDrawing) s) in
         text-ends P (Boundary P cells) classes b s p (rw n at (between cells xs (now ++ ys) e)) (rw (n, w) at (cells-end cells xs now ys e)) (d .unshared m s refl)
 
     -- counted : wrapping counts the columns that a span draws

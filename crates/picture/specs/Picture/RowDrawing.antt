@@ -3,7 +3,7 @@ use mathlib.Core.Path.{_≡_, refl, ap, ap₂, _∙_}
 use Prim.Native.Nat.{ℕ, zero, suc, _+_, _-_, _*_, _≤_}
 use native.Mathlib.Omega.{arith}
 use mathlib.Core.Bool.{Bool, true, false}
-use mathlib.Core.List.{List, [], _∷_, _++_, append-assoc, append-nil}
+use mathlib.Core.List.{List, [], _∷_, _++_, map, append-assoc, append-nil}
 use mathlib.Core.Option.{Option}
 use lib.ListN.{length, length-append}
 use lib.Dec.{ltb}
@@ -70,7 +70,7 @@ module _ (P : Profile) (current : Option ℕ) (ss : List Span) where
   unfolding styled initial
   begun e = refl
 
-  module _ (wide : SomeWidth (cellWidth P) cells) where
+  module _ (wide : SomeWidth (map (cellWidth P) cells)) where
     window : (start end : ℕ) (room : Bool) → start ≤ end → Boundary P cells start → Boundary P cells end
         → (shown P (renderSpans P start end current (closeRows room) initial ss) ≡ inside (cellWidth P) start end 0 cells) × (whole (renderSpans P start end current (closeRows room) initial ss) ≡ true)
     unfolding initial shown

@@ -7,7 +7,8 @@ use mathlib.Core.List.{List, [], _∷_, _++_, map}
 use lib.Dec.{leb, ltb}
 use borrow.Author.Tests.{leb-true, leb-false, le-leb, lt-leb, lt-ltb, le-ltb}
 use Rattle.text.specs.Tests.{cases}
-use Rattle.text.specs.Each.{All, all-nil, all-cons}
+use Rattle.text.specs.Each.{All, all-cons}
+use Rattle.spans.specs.Spans.Laws.{map-append}
 use Rattle.picture.specs.Columns.Wrapping.{total}
 
 within-window : (o l c : ℕ) → o ≤ c → c < l → leb o c && ltb c l ≡ true
@@ -19,6 +20,15 @@ left-of o l c h = rw (lt-leb o c h)
 right-of : (o l c : ℕ) → l ≤ c → leb o c && ltb c l ≡ false
 right-of o l c h = rw (le-ltb c l h, and-false (leb o c))
 
+-- widths above 0
+abbrev pub SomeWidth : List ℕ → Type 0
+SomeWidth ws = All (λ (w : ℕ). 1 ≤ w) ws
+
+pub total-append : (vs ws : List ℕ) → total (vs ++ ws) ≡ total vs + total ws
+unfolding total
+total-append [] ws = omega arith
+total-append (v ∷ vs) ws = omega (arith, total-append vs ws)
+
 module _ {A : Type 0} (wide : A → ℕ) where
   abbrev pub columns : List A → ℕ
   columns xs = total (map wide xs)
@@ -28,13 +38,8 @@ module _ {A : Type 0} (wide : A → ℕ) where
   inside o l c [] = []
   inside o l c (x ∷ xs) = let rest : List A = inside o l (c + wide x) xs in cond (leb o c && ltb c l) (x ∷ rest) rest
 
-  abbrev pub SomeWidth : List A → Type 0
-  SomeWidth xs = All (λ (x : A). 1 ≤ wide x) xs
-
   pub columns-append : (xs ys : List A) → columns (xs ++ ys) ≡ columns xs + columns ys
-  unfolding total
-  columns-append [] ys = omega arith
-  columns-append (x ∷ xs) ys = omega (arith, columns-append xs ys)
+  columns-append xs ys = ap total (map-append wide xs ys) ∙ total-append (map wide xs) (map wide ys)
 
   pub inside-append : (o l c : ℕ) (xs ys : List A) → inside o l c (xs ++ ys) ≡ inside o l c xs ++ inside o l (c + columns xs) ys
   unfolding total inside
@@ -50,16 +55,16 @@ module _ {A : Type 0} (wide : A → ℕ) where
   inside-right o l c [] h = refl
   inside-right o l c (x ∷ xs) h = rw (right-of o l c h) (inside-right o l (c + wide x) xs (omega arith))
 
-  pub inside-left : (o l c : ℕ) {xs : List A} → SomeWidth xs → c + columns xs ≤ o → inside o l c xs ≡ []
+  pub inside-left : (o l c : ℕ) (xs : List A) → SomeWidth (map wide xs) → c + columns xs ≤ o → inside o l c xs ≡ []
   unfolding total inside
-  inside-left o l c all-nil h = refl
-  inside-left o l c (all-cons {a = x} w a) h = rw (left-of o l c (omega arith)) (inside-left o l (c + wide x) a (omega arith))
+  inside-left o l c [] a h = refl
+  inside-left o l c (x ∷ xs) (all-cons w a) h = rw (left-of o l c (omega arith)) (inside-left o l (c + wide x) xs a (omega arith))
 
   -- all in a window that holds them
-  pub inside-all : (o l c : ℕ) {xs : List A} → SomeWidth xs → o ≤ c → c + columns xs ≤ l → inside o l c xs ≡ xs
+  pub inside-all : (o l c : ℕ) (xs : List A) → SomeWidth (map wide xs) → o ≤ c → c + columns xs ≤ l → inside o l c xs ≡ xs
   unfolding total inside
-  inside-all o l c all-nil h k = refl
-  inside-all o l c (all-cons {a = x} w a) h k = rw (within-window o l c h (omega arith), inside-all o l (c + wide x) a (omega arith) (omega arith))
+  inside-all o l c [] a h k = refl
+  inside-all o l c (x ∷ xs) (all-cons w a) h k = rw (within-window o l c h (omega arith), inside-all o l (c + wide x) xs a (omega arith) (omega arith))
 
   -- a window in two parts
   later : (a b l c : ℕ) (xs : List A) → a ≤ b → b ≤ c → inside b l c xs ≡ inside a l c xs

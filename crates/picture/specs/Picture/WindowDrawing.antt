@@ -13,7 +13,6 @@ use Rattle.text.specs.Utf8.{Scalar}
 use Rattle.text.specs.Class.{Profile}
 use Rattle.text.specs.Width.{widthOf}
 use Rattle.text.specs.Cluster.{clusters, joinAll}
-use Rattle.text.specs.Cluster.Parts.{Wide}
 use Rattle.spans.specs.Sequence.{Sequence, sgr, eraseToEnd, ignored, hyperlink, lineDrawing}
 use Rattle.spans.specs.Spans.{Content, text, control, invalid, unprintable, escape, tab, crlf, lf, Span}
 use Rattle.spans.specs.Spans.Laws.{map-append}
@@ -30,21 +29,24 @@ use Rattle.picture.specs.Picture.{Cell, cell, shownFrom}
 use Rattle.picture.specs.Picture.Window.{columns, inside, columns-append, inside-append, inside-right, inside-left, SomeWidth, Outside, outside-parts}
 use Rattle.picture.specs.Picture.Clipping.{clip-inside, inside-clusters}
 use Rattle.picture.specs.Picture.AttributesInForce.{inForce, force-append, shown-append, whole-append, InForce, style-sent}
-use Rattle.picture.specs.Picture.LineCells.{Rendition, renditionOf, renditionAfter, cellWidth, textCells, markCells, spanCells, lineCells, cells-widths, cells-inside, wide-cells}
+use Rattle.picture.specs.Picture.LineCells.{Rendition, renditionOf, renditionAfter, cellWidth, textCells, markCells, spanCells, lineCells, cells-widths, cells-inside}
 
 module _ (P : Profile) (start end : ℕ) (ordered : start ≤ end) where
-  -- cells from column p on, which the window's edges do not cut
-  pub record Uncut (p : ℕ) (xs : List Cell) : Type 0 where
-    pub wide : SomeWidth (cellWidth P) xs
-    pub starts : Outside start p (map (cellWidth P) xs)
-    pub ends : Outside end p (map (cellWidth P) xs)
+  -- the window's edges are within none of these widths, the first beginning at column p
+  pub record Uncut (p : ℕ) (ws : List ℕ) : Type 0 where
+    pub wide : SomeWidth ws
+    pub starts : Outside start p ws
+    pub ends : Outside end p ws
 
-  uncut-parts : (p : ℕ) (xs ys : List Cell) → Uncut p (xs ++ ys) → Uncut p xs × Uncut (p + columns (cellWidth P) xs) ys
-  uncut-parts p xs ys u =
-      let e = map-append (cellWidth P) xs ys in
-      let w = all-split xs (u .wide) in
-      let s = outside-parts start p (map (cellWidth P) xs) (map (cellWidth P) ys) (rw e at (u .starts)) in
-      let f = outside-parts end p (map (cellWidth P) xs) (map (cellWidth P) ys) (rw e at (u .ends)) in
+  abbrev pub UncutCells : ℕ → List Cell → Type 0
+  UncutCells p xs = Uncut p (map (cellWidth P) xs)
+
+  uncut-parts : (p : ℕ) (xs ys : List Cell) → UncutCells p (xs ++ ys) → UncutCells p xs × UncutCells (p + columns (cellWidth P) xs) ys
+  uncut-parts p xs ys t =
+      let u : Uncut p (map (cellWidth P) xs ++ map (cellWidth P) ys) = rw (map-append (cellWidth P) xs ys) at t in
+      let w = all-split (map (cellWidth P) xs) (u .wide) in
+      let s = outside-parts start p (map (cellWidth P) xs) (map (cellWidth P) ys) (u .starts) in
+      let f = outside-parts end p (map (cellWidth P) xs) (map (cellWidth P) ys) (u .ends) in
       (record { wide = w .0; starts = s .0; ends = f .0 }, record { wide = w .1; starts = s .1; ends = f .1 })
 
   -- what is sent from the state t shows those of the cells xs that are inside the window
@@ -73,22 +75,13 @@ module _ (P : Profile) (start end : ℕ) (ordered : start ≤ end) where
 
   -- ---- a text
 
-  module _ (t : State) (s : Style) (x : List Scalar) (u : Uncut (t .position) (textCells P (t .attrs) s x)) where
+  module _ (t : State) (s : Style) (x : List Scalar) (u : Uncut (t .position) (widths P (clusters P x))) where
     abbrev kept : List (List Scalar)
     kept = inside (widthOf P) start end (t .position) (clusters P x)
 
-    wide : Wide P (clusters P x)
-    wide = wide-cells P (styled (t .attrs) s) (clusters P x) (u .wide)
-
-    starts : Outside start (t .position) (widths P (clusters P x))
-    starts = rw (cells-widths P (styled (t .attrs) s) (clusters P x)) at (u .starts)
-
-    ends : Outside end (t .position) (widths P (clusters P x))
-    ends = rw (cells-widths P (styled (t .attrs) s) (clusters P x)) at (u .ends)
-
     window-is : t .position ≤ end → windowed P start end t x ≡ change.text (joinAll kept)
     unfolding clipped
-    window-is h = ap clipped (clip-inside P (t .position) start end ordered x h wide starts ends)
+    window-is h = ap clipped (clip-inside P (t .position) start end ordered x h (u .wide) (u .starts) (u .ends))
 
     -- the text isn't met: no cluster of it is inside
     none-kept : meets P start end t (widthOf P x) ≡ false → kept ≡ []
@@ -96,7 +89,7 @@ module _ (P : Profile) (start end : ℕ) (ordered : start ≤ end) where
         let n = widths-total P x in
         cases (ltb start (t .position + widthOf P x))
         (λ f. inside-right (widthOf P) start end (t .position) (clusters P x) (ltb-false (t .position) end (rw f at e)))
-        (λ f. inside-left (widthOf P) start end (t .position) wide (omega (arith, ltb-false start (t .position + widthOf P x) f)))
+        (λ f. inside-left (widthOf P) start end (t .position) (clusters P x) (u .wide) (omega (arith, ltb-false start (t .position + widthOf P x) f)))
 
     write-draws : (a : Attributes) → InForce t a → Draws t a (textCells P (t .attrs) s x) (renditionOf t) (writeTruncated P start end t s x)
     unfolding shownFrom whole inForce writeTruncated
@@ -122,11 +115,11 @@ module _ (P : Profile) (start end : ℕ) (ordered : start ≤ end) where
   -- ---- a span
 
   -- the same, the rendition being n
-  text-draws : (n : Rendition) (t : State) (a : Attributes) → InForce t a → renditionOf t ≡ n → (s : Style) (x : List Scalar) → Uncut (t .position) (textCells P (n .attrs) s x)
+  text-draws : (n : Rendition) (t : State) (a : Attributes) → InForce t a → renditionOf t ≡ n → (s : Style) (x : List Scalar) → UncutCells (t .position) (textCells P (n .attrs) s x)
       → Draws t a (textCells P (n .attrs) s x) n (writeTruncated P start end t s x)
-  text-draws n t a f e s x = subst (λ (n : Rendition). Uncut (t .position) (textCells P (n .attrs) s x) → Draws t a (textCells P (n .attrs) s x) n (writeTruncated P start end t s x)) e (λ u. write-draws t s x u a f)
+  text-draws n t a f e s x = subst (λ (n : Rendition). UncutCells (t .position) (textCells P (n .attrs) s x) → Draws t a (textCells P (n .attrs) s x) n (writeTruncated P start end t s x)) e (λ u. write-draws t s x (rw (cells-widths P (styled (t .attrs) s) (clusters P x)) at u) a f)
 
-  marks-draw : (s : List Scalar) (n : Rendition) (t : State) (a : Attributes) → InForce t a → renditionOf t ≡ n → Uncut (t .position) (markCells P (n .attrs) s)
+  marks-draw : (s : List Scalar) (n : Rendition) (t : State) (a : Attributes) → InForce t a → renditionOf t ≡ n → UncutCells (t .position) (markCells P (n .attrs) s)
       → Draws t a (markCells P (n .attrs) s) n (writeMarks P start end t s)
   unfolding writeMarks markCells
   marks-draw [] n t a f e u = subst (λ (n : Rendition). Draws t a [] n (sent [] t)) e (draws-nothing t t a f refl)
@@ -153,7 +146,7 @@ module _ (P : Profile) (start end : ℕ) (ordered : start ≤ end) where
     sequence-draws eraseToEnd place t a f = draws-nothing t _ a f refl
     sequence-draws ignored place t a f = draws-nothing t t a f refl
 
-    span-draws : (c : Content) (place : ℕ) (n : Rendition) (t : State) (a : Attributes) → InForce t a → renditionOf t ≡ n → Uncut (t .position) (spanCells P current n (t .position) c)
+    span-draws : (c : Content) (place : ℕ) (n : Rendition) (t : State) (a : Attributes) → InForce t a → renditionOf t ≡ n → UncutCells (t .position) (spanCells P current n (t .position) c)
         → Draws t a (spanCells P current n (t .position) c) (renditionAfter n place c) (renderSpan P start end current t place c)
     unfolding renditionAfter spanCells renderSpan
     span-draws (text m s) place n t a f e u =
@@ -171,7 +164,7 @@ module _ (P : Profile) (start end : ℕ) (ordered : start ≤ end) where
     -- ---- all spans
 
     module _ (close : State → List Change) (closed : (t : State) (a : Attributes) → (shownFrom P a (close t) ≡ []) × (whole (close t) ≡ true)) where
-      pub spans-draw : (ss : List Span) (n : Rendition) (t : State) (a : Attributes) → InForce t a → renditionOf t ≡ n → Uncut (t .position) (lineCells P current n (t .position) ss)
+      pub spans-draw : (ss : List Span) (n : Rendition) (t : State) (a : Attributes) → InForce t a → renditionOf t ≡ n → UncutCells (t .position) (lineCells P current n (t .position) ss)
           → (shownFrom P a (renderSpans P start end current close t ss) ≡ inside (cellWidth P) start end (t .position) (lineCells P current n (t .position) ss)) × (whole (renderSpans P start end current close t ss) ≡ true)
       unfolding inside lineCells renderSpans
       spans-draw [] n t a f e u = closed t a
