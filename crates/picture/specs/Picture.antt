@@ -34,7 +34,7 @@ pub mod AppendedClusters
 pub mod WordClusters
 pub mod RowBoundaries
 pub mod RowDrawing
-pub mod Proof
+pub mod AnyProfile
 pub mod TextSpans
 pub mod Lines
 pub mod UnsharedClusters

@@ -29,7 +29,7 @@ use Rattle.picture.specs.Columns.{spanColumns, lastColumnFrom}
 use Rattle.picture.specs.Conditions.{Unshared, UnsharedPiece, UnsharedLine, Drawable}
 use Rattle.picture.specs.Picture.{RowsShowLines}
 use Rattle.picture.specs.Picture.TextSpans.{plain-wide, TextClusters, run-texts}
-use Rattle.picture.specs.Picture.Proof.{rowPicture}
+use Rattle.picture.specs.Picture.AnyProfile.{rowPicture}
 
 -- ---- clusters
 
