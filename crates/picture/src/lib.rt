@@ -1,0 +1,1 @@
+// Rows together show the line.
