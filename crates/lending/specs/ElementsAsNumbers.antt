@@ -46,8 +46,9 @@ use Rattle.lending.specs.Locals.{Held, room, away, value, values, Inside
 use Rattle.lending.specs.Signatures.{Kind, number, shared, lent, last, signed, ended}
 use Rattle.lending.specs.Statements.{gives}
 use Rattle.lending.specs.Functions.{args, bound, promise, Owned, Lasting, Ensures, W, C, Λ, env, Fitting, asks, asks-whole, answers-whole, walks-whole}
-use Rattle.lending.specs.LocalArrays as Arrays
-use Rattle.lending.specs.LocalArrays.{slice-at, others, opens, shuts, lends, gets-back, shares, shared-back, room-less}
+use Rattle.lending.specs.LentPlaces as Places
+use Rattle.lending.specs.LentPlaces.{lends, gets-back, shares, shared-back, room-less}
+use Rattle.lending.specs.LocalArrays.{arr, slice-at, others, opens, shuts}
 use Rattle.lending.specs.ReplacedParameter.{lftWith, shareWith, shareAt, lft-with, asides, paramAt, param-is, replaced, lastAt, lastsWith, other-tokens, other-lasts, token-replaced, token-taken, token-in, part-replaced, last-out, last-in}
 
 pub record Numbering (X : Type 0) : Type 0 where
@@ -116,10 +117,10 @@ module _ {M : Type 1} (𝓤 : URA M) (H : Heap 𝓤) (𝓜 : Model 𝓤 H) (𝓖
       wrote : Meets both Unit′ Writing r → {s o i : ℕ} (ys : Xs) (l : ℕ) (x : RefT (List ℕ)) {κ : Lft} {p : Share} → Room R (length ys) → N .each * length ys ≤ length (now x) → valueAt E hs s ≡ some (sliceVal (l, 0) (length ys)) → valueAt E hs o ≡ some (sliceVal (x .ptr) (length (now x))) → T (takes E hs i vunit)
           → ((os : List ℕ) → os ≡ N .numbers (length (now x)) ys → Seq K G (Locals E (setAt i (value vunit) hs) ∷ ‵ (cells (mem R) ys l 0) ∷ ‵ (flft κ p) ∷ ‵ (last usize x os) ∷ Γ) (runs calls Λ E rest q))
           → Seq K G (Locals E hs ∷ ‵ (cells (mem R) ys l 0) ∷ ‵ (flft κ p) ∷ ‵ (MutSlice (named 1) κ usize .own x (sliceVal (x .ptr) (length (now x)) ∷ [])) ∷ Γ) (runs calls Λ E (seq (call f (copy (place s []) ∷ copy (place o []) ∷ []) (place i [])) rest) q)
-      wrote met ys l x {κ} {p} fit wide e e′ z k = move t (1 ∷ []) $ shares t R tt ys l (named 0) fit (λ ν δ. move t (0 ∷ 4 ∷ 1 ∷ 5 ∷ 3 ∷ []) $
+      wrote met ys l x {κ} {p} fit wide e e′ z k = move t (1 ∷ []) $ shares t R tt ys l 0 (named 0) fit (λ ν δ. move t (0 ∷ 4 ∷ 1 ∷ 5 ∷ 3 ∷ []) $
           asks 𝓤 H 𝓜 𝓖 𝓡 γ 2 both Unit′ Writing f r is met (ν ∷ [], (κ, tt)) (fullShare, (p, tt)) (slice-at R l δ ys, (x, tt)) t tt (factI 𝓤 (N .each * length ys ≤ length (now x)) (emp 𝓤) wide) (gives t e (gives t e′ (no-more t))) (nothing-more G) (λ u ty. (z, tt)) (λ u ok ws.
           -- [the tokens; what is left in the numbers; the locals; what is said; …; the lender's part; …]
-          move t (4 ∷ []) $ heard t (ws .1 .0 ≡ N .numbers (length (now x)) ys) (λ h. move t (0 ∷ 5 ∷ []) $ shared-back t R tt ys l $ move t (3 ∷ 0 ∷ 1 ∷ 2 ∷ 4 ∷ []) $ move t (4 ∷ []) $ drop t $ k (ws .1 .0) h)))
+          move t (4 ∷ []) $ heard t (ws .1 .0 ≡ N .numbers (length (now x)) ys) (λ h. move t (0 ∷ 5 ∷ []) $ shared-back t R tt ys l 0 $ move t (3 ∷ 0 ∷ 1 ∷ 2 ∷ 4 ∷ []) $ move t (4 ∷ []) $ drop t $ k (ws .1 .0) h)))
 
     -- ---- the function. It has the parameters pre, the numbers and post; its call has the array's places where it has the numbers
     module _ (fit : Room R (N .size)) {fm fp fw : Name} {rm rp rw : Routine} (is-m : γ fm ≡ rm) (met-m : Meets [] Made Making rm) (is-p : γ fp ≡ rp) (met-p : Meets (number ∷ []) Number Placing rp) (is-w : γ fw ≡ rw) (met-w : Meets both Unit′ Writing rw) (n : ℕ)
@@ -225,7 +226,7 @@ module _ {M : Type 1} (𝓤 : URA M) (H : Heap 𝓤) (𝓜 : Model 𝓤 H) (𝓖
               kept = ‵ (others R l (N .places (m κs a)) xs) ∷ token ∷ slice ∷ []
 
               abbrev Lent : List (Item 𝓤)
-              Lent = ‵ (Arrays.lent R ys l (ν ∷ []) δ) ∷ kept
+              Lent = ‵ (Places.lent R ys l 0 (ν ∷ []) δ) ∷ kept
 
               module _ (r : row D′ .Denot) (ws : After κs a (ν ∷ []) y) where
                 abbrev Left : List (Item 𝓤)
@@ -238,7 +239,7 @@ module _ {M : Type 1} (𝓤 : URA M) (H : Heap 𝓤) (𝓜 : Model 𝓤 H) (𝓖
                   pub write : {K : Type 0} → K → {hs : List Held} {p u i : ℕ} {rest : Body} → valueAt E hs p ≡ some (sliceVal (l, 0) (length ys)) → valueAt E hs u ≡ some (sliceVal (x κs a .ptr) (m κs a)) → T (takes E hs i vunit)
                       → ((os : List ℕ) → Seq K G (Written os) (prop (after (spelt .spell r))) → Runs K (setAt s room (setAt i (value vunit) hs)) (Written os) rest) → Runs K hs Left (seq (call fw (copy (place p []) ∷ copy (place u []) ∷ []) (place i [])) rest)
 
-                answered : Told → spotOf 𝓤 H E s .0 ≡ Arrays.arr R (N .size) → length xs ≡ N .size → Inside E s → length (zs κs a (ν ∷ []) y ws) ≡ length ys → Answered
+                answered : Told → spotOf 𝓤 H E s .0 ≡ arr R (N .size) → length xs ≡ N .size → Inside E s → length (zs κs a (ν ∷ []) y ws) ≡ length ys → Answered
                 answered told typ len in-E same =
                     let all : length (zs κs a (ν ∷ []) y ws) ≡ N .places (m κs a) = same ∙ many len in
                     record {
@@ -257,25 +258,25 @@ module _ {M : Type 1} (𝓤 : URA M) (H : Heap 𝓤) (𝓜 : Model 𝓤 H) (𝓖
                     → ((r : row D′ .Denot) → Typed (row D′ .mir) (spelt .spell r ∷ []) → T (takes E hs i (spelt .spell r)) × WT (spelt .spell r)) → ((r : row D′ .Denot) (ws : After κs a (ν ∷ []) y) → Answered r ws → Runs K (setAt i (value (spelt .spell r)) hs) (Left r ws) rest)
                     → Runs K hs (raw (toks 𝓤 (𝓖 .A) n ιs qs′) ∷ raw (Owned 𝓤 H 𝓜 𝓖 𝓡 γ n its answer c′ ιs qs′ b) ∷ Lent) (seq (call fc os (place i [])) rest)
 
-              places-lent : Told → spotOf 𝓤 H E s .0 ≡ Arrays.arr R (N .size) → length xs ≡ N .size → Inside E s → PlacesLent
+              places-lent : Told → spotOf 𝓤 H E s .0 ≡ arr R (N .size) → length xs ≡ N .size → Inside E s → PlacesLent
               places-lent told typ len in-E = record {
                 ask = λ t os fits f. move t (1 ∷ 2 ∷ []) $ asks-whole 𝓤 H 𝓜 𝓖 𝓡 γ n its answer c′ fc rc is-c met-c ιs qs′ b t (asked ιs b .0) (asked ιs b .1) os spelt fits (λ r is ws.
                     use1 G (‵ (flft (ν ∷ []) fullShare) ⊛ raw (other-tokens 𝓤 (𝓖 .A) n j ok κs qs)) (token-taken 𝓤 (𝓖 .A) (ν ∷ []) fullShare n j ok κs qs) $ split t $ move t (2 ∷ []) $
                     use1 G (‵ (last R y (zs κs a (ν ∷ []) y ws)) ⊛ ‵ (other-lasts n j ok (ν ∷ []) κs nums elems post y pre a ws)) (last-out n j ok (ν ∷ []) κs nums elems post y 𝓤 H (𝓖 .A) pre a ws) $ split t $
                     -- [what is left in the places; the other last values; the token; the other tokens; the locals; what is said; the answer; the lender's part; …]
-                    move t (2 ∷ 0 ∷ 7 ∷ []) $ gets-back t R tt ys l (zs κs a (ν ∷ []) y ws) (λ same. move t (3 ∷ []) $ f r ws (answered r ws told typ len in-E same)));
+                    move t (2 ∷ 0 ∷ 7 ∷ []) $ gets-back t R tt ys l 0 (zs κs a (ν ∷ []) y ws) (λ same. move t (3 ∷ []) $ f r ws (answered r ws told typ len in-E same)));
               }
 
             pub record ArrayMade : Type 2 where
               pub count : {K : Type 0} → K → {hs : List Held} {d i : ℕ} {rest : Body} → valueAt E hs d ≡ some (vint w64 (m κs a)) → ((k : ℕ) → T (takes E hs i (vint w64 k)))
                   → Step K G (Locals E (setAt i (value (vint w64 (length ys))) hs) ∷ Array-of ∷ Begun) (code rest) (Locals E hs ∷ Array-of ∷ Begun) (code (seq (call fp (copy (place d []) ∷ []) (place i [])) rest))
-              pub lend : {K : Type 0} → K → (s : ℕ) {hs : List Held} {rest : Body} → spotOf 𝓤 H E s .0 ≡ Arrays.arr R (N .size) → valueAt E hs s ≡ some (list .spell xs)
+              pub lend : {K : Type 0} → K → (s : ℕ) {hs : List Held} {rest : Body} → spotOf 𝓤 H E s .0 ≡ arr R (N .size) → valueAt E hs s ≡ some (list .spell xs)
                   → ((ν : ℕ) (δ : GName) → PlacesLent s ν δ → Runs K (setAt s away hs) (raw (toks 𝓤 (𝓖 .A) n (ιs s ν δ) qs′) ∷ raw (Owned 𝓤 H 𝓜 𝓖 𝓡 γ n its answer c′ (ιs s ν δ) qs′ (b s ν δ)) ∷ Lent s ν δ) rest) → Runs K hs (Array-of ∷ Begun) rest
 
             array-made : Told → m κs a < 2 ^ 64 → length xs ≡ N .size → ArrayMade
             array-made told small len = record {
               count = λ t e z. placed t is-p met-p (many len) small e z;
-              lend = λ t s typ e f. opens t R s (N .size) (N .places (m κs a)) xs typ tt e $ lends t R tt ys (spotOf 𝓤 H E s .1) (named j) (room-less R fit (subst (λ (d : ℕ). d ≤ N .size) (sym (many len)) (N .few (m κs a)))) (λ ν δ.
+              lend = λ t s typ e f. opens t R s (N .size) (N .places (m κs a)) xs typ tt e $ lends t R tt ys (spotOf 𝓤 H E s .1) 0 (named j) (room-less R fit (subst (λ (d : ℕ). d ≤ N .size) (sym (many len)) (N .few (m κs a)))) (λ ν δ.
                   -- [the token; the slice; the lender's part; the other places; the locals; the tokens; the parameters]
                   move t (0 ∷ 5 ∷ []) $ use2 G (token ⊛ raw (toks 𝓤 (𝓖 .A) n (ιs s ν δ) qs′)) (token-replaced 𝓤 (𝓖 .A) (ν ∷ []) fullShare n j ok κs qs) $ split t $ move t (2 ∷ 6 ∷ []) $
                   rewrite t 0 (λ (ι : Lft). ‵ (MutSlice (named j) ι R .own (y s ν δ) (sliceVal (l s ν δ, 0) (length ys) ∷ []))) (sym (lft-with n j ok (ν ∷ []) κs)) refl $

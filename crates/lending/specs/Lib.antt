@@ -6,6 +6,8 @@ pub mod Locals
 pub mod Statements
 pub mod Signatures
 pub mod Functions
+pub mod LentPlaces
+pub mod LentArrays
 pub mod LocalArrays
 pub mod ReplacedParameter
 pub mod ElementsAsNumbers

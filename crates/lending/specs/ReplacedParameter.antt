@@ -21,12 +21,13 @@ use ghost.Atoms.{Atoms, sem}
 use contract.Lifetimes.{Lfts, Shares, Within, lftAt, toks}
 use denote.RattleType.{Denots, owns}
 use denote.Laws.{Is, Ises, Are, valss}
+use denote.Ref.{MutRef, ptr-vals}
 use denote.Slice.{MutSlice, ShrSlice, slice-vals}
 use denote.Exit.{yes, Last, left}
 use denote.Signature.{typesAt}
 use denote.Triple.End.{all, Fins, lastsOf}
 use Rattle.lending.specs.Locals.{both}
-use Rattle.lending.specs.Signatures.{Kind, number, copied, shared, lent, slot, slots, spelled, spells}
+use Rattle.lending.specs.Signatures.{Kind, number, copied, shared, lent, lent-one, slot, slots, spelled, spells}
 
 -- ---- lifetimes and shares
 abbrev pub lftWith : (n j : ℕ) → Within n j → Lft → Lfts n → Lfts n
@@ -136,6 +137,7 @@ module _ (n j : ℕ) where
   aside (copied D L cs) = true
   aside (shared i ok R) = differ i j
   aside (lent i ok R) = differ i j
+  aside (lent-one i ok R) = differ i j
 
   abbrev pub asides : List (Kind n) → Bool
   asides [] = true
@@ -151,6 +153,7 @@ module _ (n j : ℕ) where
     again (copied D L cs) x = x
     again (shared i ok R) x = x
     again (lent i ok R) x = x
+    again (lent-one i ok R) x = x
 
     abbrev agains : (ks : List (Kind n)) → Denots (typesAt (slots ks) κs) → Denots (typesAt (slots ks) κs′)
     agains [] a = tt
@@ -161,6 +164,7 @@ module _ (n j : ℕ) where
     left-back (copied D L cs) x w = w
     left-back (shared i ok R) x w = w
     left-back (lent i ok R) x w = w
+    left-back (lent-one i ok R) x w = w
 
     abbrev lefts-back : (ks : List (Kind n)) (a : Denots (typesAt (slots ks) κs)) → LeftsIn κs′ ks (agains ks a) → LeftsIn κs ks a
     lefts-back [] a ws = tt
@@ -171,6 +175,7 @@ module _ (n j : ℕ) where
     own-same (copied D L cs) d x = refl
     own-same (shared i ok R) d x = ap (λ (ι : Lft). ShrSlice (named i) ι R .own x (slice-vals x)) (other-lft n i j ok oj κ κs d)
     own-same (lent i ok R) d x = ap (λ (ι : Lft). MutSlice (named i) ι R .own x (slice-vals x)) (other-lft n i j ok oj κ κs d)
+    own-same (lent-one i ok R) d x = ap (λ (ι : Lft). MutRef (named i) ι R .own x (ptr-vals x)) (other-lft n i j ok oj κ κs d)
 
     owns-same : (ks : List (Kind n)) → T (asides ks) → (a : Denots (typesAt (slots ks) κs)) → Owns κs ks a ≡ Owns κs′ ks (agains ks a)
     owns-same [] d a = refl
@@ -181,6 +186,7 @@ module _ (n j : ℕ) where
     left-same (copied D L cs) x w = refl
     left-same (shared i ok R) x w = refl
     left-same (lent i ok R) x w = refl
+    left-same (lent-one i ok R) x w = refl
 
     lefts-same : (ks : List (Kind n)) (a : Denots (typesAt (slots ks) κs)) (ws : LeftsIn κs′ ks (agains ks a)) → Lefts κs′ ks (agains ks a) ws ≡ Lefts κs ks a (lefts-back ks a ws)
     lefts-same [] a ws = refl

@@ -1,1 +1,1 @@
-// Laws for proofs: slices that are lent on, local memory, functions that only call others, and branches.
+// Laws for proofs: slices and arrays that are lent on, local memory, functions that only call others, and branches.
