@@ -62,6 +62,19 @@ pub fn copy_bytes(out: &mut [u8], at: usize, src: &[u8]) -> usize
     at + j
 }
 
+// The same of numbers.
+pub fn copy_numbers(out: &mut [usize], at: usize, src: &[usize]) -> usize
+    requires { ⌜ at + length (now src) ≤ length (now out) ⌝ }
+    ensures { λ r. ⌜ Copied (now (out .entry)) (now (out .exit)) at (now (src .entry)) r ⌝ }
+{
+    let mut j = 0;
+    while j < src.len() {
+        out[at + j] = src[j];
+        j += 1;
+    }
+    at + j
+}
+
 // The bytes one by one, where they may not fit.
 fn push_each(out: &mut [u8], at: usize, src: &[u8]) -> usize
     ensures { λ r. ⌜ sink (now (out .exit)) r ≡ emit (sink (now (out .entry)) at) (now (src .entry)) ⌝ }
