@@ -6,6 +6,7 @@ use Rattle.text.specs.declared.Answer.{Answer}
 use Rattle.spans.specs.Calls.{Read}
 use Rattle.spans.specs.Numbers.{ReadNumbers}
 use Rattle.rows.specs.Calls.{Wrapped}
+pub mod Laws
 
 -- what `rows` leaves besides the rows
 abbrev pub readOf : Wrapped → Read

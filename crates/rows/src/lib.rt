@@ -19,18 +19,20 @@ ghost use Rattle.spans.specs.Calls.{noRecord};
 ghost use Rattle.spans.specs.Calls.Contracts.{readAs};
 ghost use Rattle.rows.specs.Calls.{modeAndWidth, rowsCall, heightCall};
 ghost use Rattle.buffer.specs.Sink.{cleared};
-ghost use Rattle.rows.specs.Calls.Contracts.{wrappingOf, decided, outcomeOf, answerOf, wrappedAs, Called};
+ghost use Rattle.rows.specs.Calls.Contracts.{wrappingOf, spansWrapped, rowCount, numbersKept, decided, outcomeOf, answerOf, wrappedAs, answered};
 
 pub mod marks;
 pub mod numbers;
 pub mod words;
 pub mod wrap;
 
-// What a call asks: the width, the mode, and whether the rows are to be listed.
+// What a call asks: the width, the mode, whether the rows are to be listed, and how many they are where that is known, else 0. A line whose
+// rows are known is not wrapped, and they are left out of the list.
 pub struct Request {
     pub width: usize,
     pub mode: usize,
     pub listed: bool,
+    pub known: usize,
 }
 
 // An answer, and how much is kept: of the converted line and the spans, and of the row list's numbers.
@@ -67,6 +69,37 @@ pub fn mode_and_width(mode: usize, width: usize) -> bool
     (mode <= 4) & (width <= 65535)
 }
 
+// How many of a line's spans are wrapped.
+fn spans_wrapped(request: Request, count: usize) -> usize
+    ensures { λ r. ⌜ r ≡ spansWrapped request count ⌝ }
+{
+    if request.known == 0 { count } else { 0 }
+}
+
+// How many rows there are, so many being wrapped.
+fn row_count(request: Request, rows: usize) -> usize
+    ensures { λ r. ⌜ r ≡ rowCount request rows ⌝ }
+{
+    if request.known == 0 {
+        rows
+    } else {
+        request.known
+    }
+}
+
+// How many numbers of the row list are kept: the pairs of the rows, where all of them were wrapped and fit.
+fn numbers_kept(request: Request, rows: usize, numbers: usize) -> usize
+    ensures { λ r. ⌜ r ≡ numbersKept request rows numbers ⌝ }
+{
+    if request.known == 0 {
+        if rows <= numbers / 2 {
+            return 2 * rows;
+        }
+        return 0;
+    }
+    0
+}
+
 // The number: what `read` answered, then questions 5 and 6.
 fn decide(request: Request, read: usize, rows: usize, numbers: usize) -> usize
     ensures { λ r. ⌜ r ≡ decided request read rows numbers ⌝ }
@@ -85,15 +118,16 @@ fn decide(request: Request, read: usize, rows: usize, numbers: usize) -> usize
 
 // What is kept: all and the pairs of the rows, or nothing where the call is refused.
 fn outcome_of(request: Request, read: Answer, tally: RowCounts, numbers: usize) -> Outcome
-    ensures { λ r. ⌜ r ≡ outcomeOf (decided request (read .number) (tally .count) numbers) (tally .count) numbers ⌝ }
+    ensures { λ r. ⌜ r ≡ outcomeOf request (decided request (read .number) (rowCount request (tally .count)) numbers) (tally .count) numbers ⌝ }
 {
-    let number = decide(request, read.number, tally.count, numbers);
+    let rows = row_count(request, tally.count);
+    let number = decide(request, read.number, rows, numbers);
     if number == 0 {
         return Outcome {
             number: 0,
-            count: tally.count,
+            count: rows,
             kept: usize::MAX,
-            numbers: 2 * smaller(tally.count, numbers / 2),
+            numbers: numbers_kept(request, tally.count, numbers),
         };
     }
     Outcome {
@@ -113,7 +147,7 @@ fn answer_of(o: Outcome) -> Answer
     }
 }
 
-// Reads a line without matches and wraps its spans.
+// Reads a line without matches and wraps its spans, unless the rows are known.
 fn wrap_line(
     line: &[u8],
     conv: &mut [u8],
@@ -121,24 +155,25 @@ fn wrap_line(
     rows: &mut [usize],
     request: Request,
 ) -> Outcome
-    ensures { λ r. ⌜ Called request (length (now (conv .entry))) (length (now (spans .entry))) (length (now (rows .entry))) (now (line .entry)) (answerOf r) (cleared 0 (r .kept) (now (conv .exit))) (cleared noRecord (r .kept) (now (spans .exit))) (cleared 0 (r .numbers) (now (rows .exit))) ⌝ }
+    ensures { λ r. ⌜ wrappedAs (answerOf r) (cleared 0 (r .kept) (now (conv .exit))) (cleared noRecord (r .kept) (now (spans .exit))) (cleared 0 (r .numbers) (now (rows .exit))) ≡ answered request (length (now (conv .entry))) (length (now (spans .entry))) (length (now (rows .entry))) (now (line .entry)) ⌝ }
 {
     let read = spans::read(line, no_matches(rows), conv, spans);
     let wrapping = wrapping(request, conv.len());
     let state = begin(0, 0);
-    let tally = make_wrap(spans, conv, rows, wrapping, state, read.count);
+    let count = spans_wrapped(request, read.count);
+    let tally = make_wrap(spans, conv, rows, wrapping, state, count);
     outcome_of(request, read, tally, rows.len())
 }
 
 // The same, with zeros in all that is not kept.
-fn answer_line(
+pub fn answer_line(
     line: &[u8],
     conv: &mut [u8],
     spans: &mut [Span],
     rows: &mut [usize],
     request: Request,
 ) -> Answer
-    ensures { λ r. ⌜ Called request (length (now (conv .entry))) (length (now (spans .entry))) (length (now (rows .entry))) (now (line .entry)) r (now (conv .exit)) (now (spans .exit)) (now (rows .exit)) ⌝ }
+    ensures { λ r. ⌜ wrappedAs r (now (conv .exit)) (now (spans .exit)) (now (rows .exit)) ≡ answered request (length (now (conv .entry))) (length (now (spans .entry))) (length (now (rows .entry))) (now (line .entry)) ⌝ }
 {
     let outcome = wrap_line(line, conv, spans, rows, request);
     clear_bytes(conv, outcome.kept);
@@ -167,6 +202,7 @@ pub fn rows(
             width: width,
             mode: mode,
             listed: true,
+            known: 0,
         },
     )
 }
@@ -185,6 +221,7 @@ pub fn height(line: &[u8], width: usize, mode: usize, conv: &mut [u8], spans: &m
             width: width,
             mode: mode,
             listed: false,
+            known: 0,
         },
     )
 }

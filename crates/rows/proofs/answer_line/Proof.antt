@@ -32,6 +32,7 @@ use Rattle.rows.proofs.Request as Q
 use Rattle.rows.proofs.Request.Laws as Q′
 use Rattle.rows.proofs.Outcome as O
 use Rattle.rows.proofs.Outcome.Laws as O′
+use Rattle.rows.specs.Calls.Contracts.{answered}
 use Rattle.rows.proofs.RowsCall.{called-cleared}
 use Rattle.rows.proofs.wrap_line as line-of
 use Rattle.rows.proofs.wrap_line.Symbol as line-def
@@ -127,4 +128,4 @@ answer-line-spec 𝓤 H 𝓜 𝓖 𝓡 =
     move ! (11 ∷ 2 ∷ []) $ asks 𝓤 H 𝓜 𝓖 𝓡 code.env 0 of-outcome (plain (λ _. R.the-row)) (answer.clauses 𝓤 H (𝓖 .A) (𝓜 .mem) (𝓡 .run)) answer-def.name answer-def.routine code.calls-rows·answer-of (answer-thm.met 𝓤 H 𝓜 𝓖 𝓡) tt tt (c, tt) ! tt (id⊢ 𝓤 _)
     (gives ! refl (no-more !)) (a-struct (W 𝓤 H 𝓜 𝓖 𝓡 code.env) R.the-type R′.the-laws) (λ r t. t .0) (λ r is none. move ! (1 ∷ []) $ heard ! _ (λ r-of. ends ! refl tt $
     keep ! (10 ∷ 7 ∷ 4 ∷ 1 ∷ 8 ∷ 5 ∷ 2 ∷ 0 ∷ []) $ answers 𝓤 H 𝓜 𝓖 𝓡 code.env 4 own (plain (λ _. R.the-row)) (f.clauses 𝓤 H (𝓖 .A) (𝓜 .mem) (𝓡 .run)) κs qs a ! g _ r (tt, (zs′ .0, (ws′ .0, (us′ .0, (tt, tt)))))
-    (factI 𝓤 _ (emp 𝓤) (called-cleared p (length (now conv)) (length (now spans)) (length (now rows)) (now line) c zs ws us e r (zs′ .0) (ws′ .0) (us′ .0) r-of zs-is ws-is us-is)))))))))))))))))))
+    (factI 𝓤 _ (emp 𝓤) (called-cleared (answered p (length (now conv)) (length (now spans)) (length (now rows)) (now line)) c zs ws us e r (zs′ .0) (ws′ .0) (us′ .0) r-of zs-is ws-is us-is)))))))))))))))))))

@@ -1,5 +1,5 @@
 -- A walk of the code, by hand, with one call, to which the two lent lists go for good, and a row list of no places.
-use mathlib.Core.Path.{refl}
+use mathlib.Core.Path.{refl, ap, _∙_}
 use mathlib.Core.Bool.{false}
 use mathlib.Core.List.{List, [], _∷_}
 use lib.Dec.{lit<}
@@ -24,6 +24,8 @@ use Rattle.lending.specs.LocalArrays.{slice-at, lends-none}
 use Rattle.text.proofs.Answer as R
 use Rattle.text.proofs.Answer.Laws as R′
 use Rattle.spans.proofs.Span as T
+use Rattle.rows.specs.Numbers.{readOf}
+use Rattle.rows.specs.Calls.Contracts.Laws.{answered-height}
 use Rattle.rows.specs.declared.Request.{Request}
 use Rattle.rows.proofs.Request as Q
 use Rattle.rows.proofs.Request.Laws as Q′
@@ -47,17 +49,17 @@ unfolding code.routine
 height-spec 𝓤 H 𝓜 𝓖 𝓡 =
     walks 𝓤 H 𝓜 𝓖 𝓡 code.env code.function 3 own (plain (λ _. R.the-row)) (f.clauses 𝓤 H (𝓖 .A) (𝓜 .mem) (𝓡 .run)) key (code.unfolded 𝓤 H 𝓜 𝓡) (λ κs a bs t. t) (λ κs qs a g are bs.
     let W′ = W 𝓤 H 𝓜 𝓖 𝓡 code.env in
-    let p : Request = record { width = a .1 .0; mode = a .1 .1 .0; listed = false } in
-    let p-is = LL.owes Q.the-type Q′.the-laws p (are .1 .0, (are .1 .1 .0, (refl, tt))) in
+    let p : Request = record { width = a .1 .0; mode = a .1 .1 .0; listed = false; known = 0 } in
+    let p-is = LL.owes Q.the-type Q′.the-laws p (are .1 .0, (are .1 .1 .0, (refl, ((refl, lit< tt), tt)))) in
     let l₆ = bs .1 .1 .1 .1 .1 .1 .0 in
     -- [3 tokens; 5 parameters; the locals; …]
     move ! (8 ∷ []) $ assigns ! (agg ! (no-more !)) (from ! (stop !)) (stored ! 6 tt tt) $ lends-on ! refl refl tt refl tt $ lends-on ! refl refl tt refl tt $
     assigns ! (addr ! (from ! (stop !))) (from ! (stop !)) (stored ! 11 tt tt) $ assigns ! (agg ! (and-then ! (local ! 11 refl) (and-then ! (lit ! tt) (no-more !)))) (from ! (stop !)) (stored ! 12 tt (tt, (record { fits = lit< tt }, tt))) $
-    assigns ! (agg ! (and-then ! (local ! 2 refl) (and-then ! (local ! 3 refl) (and-then ! (false-lit !) (no-more !))))) (from ! (stop !)) (stored ! 13 tt (LL.lawful Q.the-type Q′.the-laws 𝓤 H (𝓖 .A) W′ .typed p _ p-is .0 .1)) $
+    assigns ! (agg ! (and-then ! (local ! 2 refl) (and-then ! (local ! 3 refl) (and-then ! (false-lit !) (and-then ! (lit ! tt) (no-more !)))))) (from ! (stop !)) (stored ! 13 tt (LL.lawful Q.the-type Q′.the-laws 𝓤 H (𝓖 .A) W′ .typed p _ p-is .0 .1)) $
     lends-none ! usize tt l₆ (named 3) (λ ν δ. owned ! Q.the-row (Is Q.the-row) (LL.makes Q.the-type Q′.the-plain 𝓤 H (𝓖 .A)) p _ p-is $ move ! (4 ∷ 5 ∷ 6 ∷ 1 ∷ 7 ∷ 10 ∷ 11 ∷ 2 ∷ 0 ∷ 3 ∷ []) $
     asks 𝓤 H 𝓜 𝓖 𝓡 code.env 4 its (plain (λ _. R.the-row)) (ans.clauses 𝓤 H (𝓖 .A) (𝓜 .mem) (𝓡 .run)) ans-def.name ans-def.routine code.calls-rows·answer-line (ans-thm.met 𝓤 H 𝓜 𝓖 𝓡)
     (κs .0, (κs .1 .0, (κs .1 .1 .0, (ν ∷ [], tt)))) (qs .0, (qs .1 .0, (qs .1 .1 .0, (fullShare, tt)))) (a .0, (a .1 .1 .1 .0, (a .1 .1 .1 .1 .0, (slice-at usize l₆ δ [], (p, tt))))) ! tt (id⊢ 𝓤 _)
     (gives ! refl (gives ! refl (gives ! refl (gives ! refl (gives ! refl (no-more !)))))) (a-struct W′ R.the-type R′.the-laws) (λ r t. t .0) (λ r is ws.
     -- [4 tokens; what is left in the lists; the locals; what is said; the answer; …]
     move ! (8 ∷ []) $ heard ! _ (λ called. move ! (7 ∷ []) $ ends ! refl tt $ keep ! (0 ∷ 1 ∷ 2 ∷ 4 ∷ 5 ∷ 7 ∷ []) $
-    answers 𝓤 H 𝓜 𝓖 𝓡 code.env 3 own (plain (λ _. R.the-row)) (f.clauses 𝓤 H (𝓖 .A) (𝓜 .mem) (𝓡 .run)) κs qs a ! g _ r (tt, (tt, (tt, (ws .1 .0, (ws .1 .1 .0, tt))))) (factI 𝓤 _ (emp 𝓤) (called .counted refl))))))
+    answers 𝓤 H 𝓜 𝓖 𝓡 code.env 3 own (plain (λ _. R.the-row)) (f.clauses 𝓤 H (𝓖 .A) (𝓜 .mem) (𝓡 .run)) κs qs a ! g _ r (tt, (tt, (tt, (ws .1 .0, (ws .1 .1 .0, tt))))) (factI 𝓤 _ (emp 𝓤) (ap readOf called ∙ answered-height p _ _ _ _ refl refl))))))

@@ -20,13 +20,13 @@ module _ (P : Profile) (conv places : ℕ) (line : List ℕ) where
   found = spans P (convert P line)
 
   -- questions 1, 2 and 4, and then others
-  abbrev first : List Question
+  abbrev pub first : List Question
   first = question1 line ∷ question2 conv line ∷ question4 places found ∷ []
 
-  refusing : (r : ℕ) (qs : List Question) → readCall P conv places [] line .number ≡ suc r → decide (first ++ qs) ≡ suc r
+  pub refusing : (r : ℕ) (qs : List Question) → readCall P conv places [] line .number ≡ suc r → decide (first ++ qs) ≡ suc r
   refusing r qs e = decided-before first qs r (sym (unmatched P conv places line) ∙ e)
 
-  accepting : (qs : List Question) → readCall P conv places [] line .number ≡ 0 → decide (first ++ qs) ≡ decide qs
+  pub accepting : (qs : List Question) → readCall P conv places [] line .number ≡ 0 → decide (first ++ qs) ≡ decide qs
   accepting qs e = decided-behind first qs tt (sym (unmatched P conv places line) ∙ e)
 
   module _ (width mode : ℕ) where

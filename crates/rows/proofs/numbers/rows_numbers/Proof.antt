@@ -1,7 +1,6 @@
 -- `rows` is lent a list of the function's own, and its records are given as numbers.
-use mathlib.Core.Path.{_≡_, refl, ap, _∙_}
-use Prim.Native.Nat.{ℕ}
-use mathlib.Core.List.{List, [], _∷_}
+use mathlib.Core.Path.{refl}
+use mathlib.Core.List.{[], _∷_}
 use lib.ListN.{length}
 use lib.Dec.{lit<}
 use base.Logic.{id⊢}
@@ -10,35 +9,27 @@ use types.Kit.{_$_, ! }
 use types.Run.{no-more}
 use denote.Builtin.{u8, usize}
 use denote.Ref.{now}
-use Rattle.buffer.specs.Sink.{writtenOrZero}
 use Rattle.lending.specs.Locals.{ends}
 use Rattle.lending.specs.Signatures.{number, shared, lent}
 use Rattle.lending.specs.Statements.{copies, counts, lends-on, lends-part, gives}
 use Rattle.lending.specs.ElementsAsNumbers.{as-numbers}
 use Rattle.text.specs.Width.{profile01}
-use Rattle.text.specs.declared.Answer.{Answer}
 use Rattle.text.proofs.Answer as R
 use Rattle.text.proofs.Answer.Laws as R′
-use Rattle.spans.specs.declared.Span.{Span}
-use Rattle.spans.specs.Numbers.{numbersOfAll, placesIn}
-use Rattle.spans.specs.Numbers.Laws.{spansAsNumbers, read-told}
+use Rattle.spans.specs.Numbers.Laws.{spansAsNumbers}
 use Rattle.spans.proofs.Span as S
 use Rattle.spans.proofs.Span.Laws as S′
 use Rattle.spans.proofs.numbers.no_spans.Met as no-spans
 use Rattle.spans.proofs.numbers.places_in.Met as places-in
 use Rattle.spans.proofs.numbers.write_numbers.Met as write-numbers
-use Rattle.rows.specs.Calls.{Wrapped, rowsCall}
-use Rattle.rows.specs.Calls.Contracts.{wrappedAs}
-use Rattle.rows.specs.Numbers.{readOf, RowsNumbers}
+use Rattle.rows.specs.Calls.{rowsCall}
+use Rattle.rows.specs.Numbers.Laws.{rows-told}
 use Rattle.rows.proofs.rows as callee
 use Rattle.rows.proofs.rows.Met as callee-thm
 use Rattle.rows.proofs.numbers.rows_numbers.Key.{name}
 use Rattle.rows.proofs.numbers.rows_numbers as f
 use Rattle.rows.proofs.numbers.rows_numbers.Statement as stated
 use Rattle.rows.proofs.numbers.rows_numbers.Code as code
-
-rows-told : (call : ℕ → Wrapped) {k m : ℕ} → k ≡ placesIn m → {r : Answer} {conv numbers rows : List ℕ} {zs : List Span} → wrappedAs r conv zs rows ≡ call k → numbers ≡ writtenOrZero m (numbersOfAll zs) → RowsNumbers (call (placesIn m)) m r conv numbers rows
-rows-told call h e f = record { read = read-told (λ k. readOf (call k)) h (ap readOf e) f; pairs = ap (λ (x : Wrapped). x .rows) (e ∙ ap call h) }
 
 pub rows-numbers-spec : {M : Type 1} → stated.statement M
 unfolding code.routine
