@@ -51,6 +51,16 @@ console_answer console_rows(const uint8_t *line, size_t line_len, size_t width, 
 /* As console_rows, with no row list and no question 6: the count is the rows. */
 console_answer console_height(const uint8_t *line, size_t line_len, size_t width, size_t mode, uint8_t *conv, size_t conv_len, console_span *spans, size_t spans_len);
 
+/* As console_rows and console_height, for a line that is asked again and again: up to
+ * four wraps of it, of at most 1,024 rows each, are kept in wraps, found by width and
+ * mode, the least recently used giving way. A kept wrap is answered as it is kept, and
+ * the line is not wrapped; it is still converted and read. Clear wraps (zeros: none
+ * kept) for a new line: what is kept is not compared with the line. A refused call
+ * leaves wraps as it was. Height with mode 0, always 1, is neither kept nor looked for. */
+#define CONSOLE_WRAPS 8212
+console_answer console_cached_rows(const uint8_t *line, size_t line_len, size_t width, size_t mode, size_t wraps[CONSOLE_WRAPS], uint8_t *conv, size_t conv_len, console_span *spans, size_t spans_len, size_t *rows, size_t rows_len);
+console_answer console_cached_height(const uint8_t *line, size_t line_len, size_t width, size_t mode, size_t wraps[CONSOLE_WRAPS], uint8_t *conv, size_t conv_len, console_span *spans, size_t spans_len);
+
 /* A drawing leaves the converted line, its spans and a change list; the count is the
  * list's bytes. A change is a 4-byte length of its body, a 2-byte kind and the body,
  * all little-endian:

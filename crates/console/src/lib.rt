@@ -8,6 +8,8 @@ ghost use Rattle.spans.specs.Calls.{readCall};
 ghost use Rattle.spans.specs.Calls.Contracts.{readAs};
 ghost use Rattle.rows.specs.Calls.{rowsCall, heightCall};
 ghost use Rattle.rows.specs.Calls.Contracts.{wrappedAs};
+ghost use Rattle.cache.specs.Calls.{cachedRowsCall, cachedHeightCall};
+ghost use Rattle.cache.specs.Calls.Contracts.{cachedRowsAs, cachedHeightAs};
 ghost use Rattle.screen.specs.Calls.{screenCall};
 ghost use Rattle.screen.specs.Calls.Code.{shown};
 ghost use Rattle.drawing.specs.Calls.{windowCall, rowCall};
@@ -60,6 +62,35 @@ pub extern "C" fn console_height(
     ensures { λ r. ⌜ readAs r (now (conv .exit)) (now (spans .exit)) ≡ heightCall profile01 (length (now (conv .entry))) (length (now (spans .entry))) width mode (now (line .entry)) ⌝ }
 {
     rows::height(line, width, mode, conv, spans)
+}
+
+#[no_mangle]
+pub extern "C" fn console_cached_rows(
+    line: &[u8],
+    width: usize,
+    mode: usize,
+    wraps: &mut [usize; 8212],
+    conv: &mut [u8],
+    spans: &mut [Span],
+    rows: &mut [usize],
+) -> Answer
+    ensures { λ r. ⌜ cachedRowsAs r (now (conv .exit)) (now (spans .exit)) (now (rows .exit)) (now (wraps .exit)) ≡ cachedRowsCall profile01 (now (wraps .entry)) (length (now (conv .entry))) (length (now (spans .entry))) (length (now (rows .entry))) width mode (now (line .entry)) ⌝ }
+{
+    cache::cached_rows(line, width, mode, wraps, conv, spans, rows)
+}
+
+#[no_mangle]
+pub extern "C" fn console_cached_height(
+    line: &[u8],
+    width: usize,
+    mode: usize,
+    wraps: &mut [usize; 8212],
+    conv: &mut [u8],
+    spans: &mut [Span],
+) -> Answer
+    ensures { λ r. ⌜ cachedHeightAs r (now (conv .exit)) (now (spans .exit)) (now (wraps .exit)) ≡ cachedHeightCall profile01 (now (wraps .entry)) (length (now (conv .entry))) (length (now (spans .entry))) width mode (now (line .entry)) ⌝ }
+{
+    cache::cached_height(line, width, mode, wraps, conv, spans)
 }
 
 #[no_mangle]
