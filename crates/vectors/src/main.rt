@@ -1,6 +1,7 @@
 // Answers recorded cases, one a line of standard input, and prints each with its answer: oracle/README.md has the form of a line. What
-// is printed is compared with the recorded answers of the Rust source and of the model of screen_row, published vectors and the rows
+// is printed is compared with the recorded answers of the Rust source and of the models of screen_row and of kept wraps, published vectors and the rows
 // program's stated answers.
+mod cached;
 mod fields;
 mod output;
 mod program;
@@ -57,6 +58,8 @@ fn answer(s: &[u8]) {
         published::answer(name, s);
     } else if same(name, b"screen_row") {
         recorded::screen_row(s);
+    } else if same(name, b"cached") {
+        cached::answer(s);
     } else {
         recorded::answer(name, s);
     }

@@ -63,7 +63,7 @@ fn print_list(numbers: &[usize], n: usize) {
 }
 
 // The same without the zeros at their end.
-pub(crate) fn print_numbers(numbers: &[usize; 4096], n: usize) {
+fn print_trimmed(numbers: &[usize], n: usize) {
     print(b" ");
     let mut end = n;
     while 0 < end {
@@ -73,6 +73,15 @@ pub(crate) fn print_numbers(numbers: &[usize; 4096], n: usize) {
         end -= 1;
     }
     print(b"-");
+}
+
+pub(crate) fn print_numbers(numbers: &[usize; 4096], n: usize) {
+    print_trimmed(numbers, n);
+}
+
+// The heads of kept wraps.
+pub(crate) fn print_heads(wraps: &[usize; 8212]) {
+    print_trimmed(wraps, 20);
 }
 
 // Number, count, and the converted bytes in the first n of `conv`.
