@@ -1,6 +1,7 @@
 //! Compares the static library with the oracle, case by case.
 
 mod alphabets;
+mod cache;
 mod calls;
 mod comparison;
 mod demand3;
@@ -48,6 +49,8 @@ fn main() -> ExitCode {
         demand3::run(&options)
     } else if options.picture {
         picture::run(&options)
+    } else if options.cache {
+        cache::run(&options)
     } else {
         compare_calls(&there, &options)
     };
@@ -74,8 +77,8 @@ fn plant_faults(calls: &[&'static str], options: &Options) -> bool {
     good
 }
 
-/// Compares the calls and, where none is singled out, runs demand 3 and the row picture;
-/// whether all is equal and both hold.
+/// Compares the calls and, where none is singled out, runs demand 3, the row picture and
+/// the calls with kept wraps; whether all is equal and holds.
 fn compare_calls(calls: &[&'static str], options: &Options) -> bool {
     let start = Instant::now();
     let mut total = Tally::default();
@@ -85,7 +88,9 @@ fn compare_calls(calls: &[&'static str], options: &Options) -> bool {
     let seconds = start.elapsed().as_secs_f64();
     println!("total: {total}, {seconds:.1} s");
     let equal = is_equal(&total);
-    let holds = !options.is_whole() || demand3::run(options) & picture::run(options);
+    let further: [fn(&Options) -> bool; 3] = [demand3::run, picture::run, cache::run];
+    let broken = further.iter().filter(|run| !run(options));
+    let holds = !options.is_whole() || broken.count() == 0;
     equal && holds
 }
 
