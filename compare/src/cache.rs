@@ -1,13 +1,18 @@
 //! Calls with kept wraps beside their model, and what document 02 says of them.
 
 mod check;
+mod faults;
+mod forged;
 mod line;
 mod model;
+mod sample;
 mod sequence;
 mod sets;
 mod stated;
 mod theorem;
+mod twists;
 
+pub use faults::try_faults;
 pub use sequence::{Sequence, NAME, RECORDED};
 
 use crate::comparison::Set;
@@ -45,6 +50,13 @@ pub fn run(options: &Options) -> bool {
         _ => println!("kept wraps are NOT EQUAL: {} differ", grouped(differ)),
     }
     differ == 0 && whole.calls > 0
+}
+
+/// Prints the sample, as lines for crates/vectors.
+pub fn print_sample() {
+    for sequence in sample::sequences() {
+        println!("{}", sample::answered(&sequence));
+    }
 }
 
 /// Whether the library has the calls; those that it has not are named.

@@ -42,7 +42,10 @@ fn main() -> ExitCode {
     }
     let good = if options.sample {
         screen::print_sample();
+        cache::print_sample();
         true
+    } else if options.faults && options.cache {
+        is_found(cache::try_faults(options.seed))
     } else if options.faults {
         plant_faults(&there, &options)
     } else if options.demand3 {
@@ -61,8 +64,8 @@ fn main() -> ExitCode {
     }
 }
 
-/// Plants faults behind the calls and, where none is singled out, in demand 3 and in the
-/// row picture; whether all are found.
+/// Plants faults behind the calls and, where none is singled out, in demand 3, in the row
+/// picture and behind the calls with kept wraps; whether all are found.
 fn plant_faults(calls: &[&'static str], options: &Options) -> bool {
     let missed = calls.iter().filter(|&&call| match call {
         screen::NAME => !screen::try_faults(),
@@ -72,9 +75,14 @@ fn plant_faults(calls: &[&'static str], options: &Options) -> bool {
     if options.is_whole() {
         good &= demand3::try_faults(options.seed);
         good &= picture::try_faults(options.seed);
+        good &= cache::try_faults(options.seed);
     }
-    println!("{}", if good { "all found" } else { "NOT ALL FOUND" });
-    good
+    is_found(good)
+}
+
+fn is_found(all: bool) -> bool {
+    println!("{}", if all { "all found" } else { "NOT ALL FOUND" });
+    all
 }
 
 /// Compares the calls and, where none is singled out, runs demand 3, the row picture and
