@@ -146,7 +146,7 @@ impl fmt::Display for Found {
         let differ = grouped(self.different.count);
         write!(
             f,
-            "{sequences} sequences, {differ} differ; {calls} calls; the theorem of {theorem}"
+            "{sequences} sequences, {theorem} of them the theorem's, {differ} differ; {calls} calls"
         )
     }
 }

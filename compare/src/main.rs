@@ -41,7 +41,9 @@ fn main() -> ExitCode {
         println!("not in the library: {}", missing.join(", "));
     }
     let good = if options.sample {
-        screen::print_sample();
+        if !options.cache {
+            screen::print_sample();
+        }
         cache::print_sample();
         true
     } else if options.faults && options.cache {

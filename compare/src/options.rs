@@ -11,7 +11,7 @@ pub const USAGE: &str = "usage: compare [--call NAME]... [--quick] [--jobs N] [-
        compare --cache [--quick] [--jobs N] [--seed N] [--trace]
        compare [--picture | --cache] --cases FILE [--trace]
        compare --faults [--cache | --call NAME]...
-       compare --sample";
+       compare --sample [--cache]";
 
 /// A quick run takes one case of so many.
 const QUICK_STEP: usize = 41;

@@ -27,13 +27,13 @@ impl Left<'_> {
     }
 
     /// The wrap that an accepted call keeps, where it was not.
-    fn new(&mut self) -> Option<Wrap> {
-        let wrap = self.anew()?;
+    fn newly_kept(&mut self) -> Option<Wrap> {
+        let wrap = self.not_kept()?;
         (self.is_accepted() && wrap.count() <= MOST_ROWS).then_some(wrap)
     }
 
     /// The wrap of a key that was not kept.
-    fn anew(&mut self) -> Option<Wrap> {
+    fn not_kept(&mut self) -> Option<Wrap> {
         let [_, width, mode] = self.ask.key();
         if self.ask.is_unwrapped_height() || self.kept().is_some() {
             return None;
@@ -115,7 +115,7 @@ pub const TWISTS: [Twist; 31] = [
     }),
     breaks("the last used gives way", |left| {
         let mut wraps = Wraps::of(&left.before);
-        if let (Some(wrap), MOST_KEPT) = (left.new(), wraps.0.len()) {
+        if let (Some(wrap), MOST_KEPT) = (left.newly_kept(), wraps.0.len()) {
             let block = wraps.0[0].block;
             wraps.0[0] = Wrap { block, ..wrap };
             left.keep(&wraps);
@@ -123,7 +123,7 @@ pub const TWISTS: [Twist; 31] = [
     }),
     breaks("the least recently used but one gives way", |left| {
         let mut wraps = Wraps::of(&left.before);
-        if let (Some(wrap), MOST_KEPT) = (left.new(), wraps.0.len()) {
+        if let (Some(wrap), MOST_KEPT) = (left.newly_kept(), wraps.0.len()) {
             wraps.0.swap(2, 3);
             let block = wraps.room();
             wraps.use_wrap(Wrap { block, ..wrap });
@@ -131,13 +131,13 @@ pub const TWISTS: [Twist; 31] = [
         }
     }),
     breaks("a fourth is not kept", |left| {
-        if left.new().is_some() && Wraps::of(&left.before).0.len() == 3 {
+        if left.newly_kept().is_some() && Wraps::of(&left.before).0.len() == 3 {
             left.leave_as_before();
         }
     }),
     breaks("a new wrap has the last block", |left| {
         let full = Wraps::of(&left.before).0.len() == MOST_KEPT;
-        if let (Some(wrap), true) = (left.new(), full) {
+        if let (Some(wrap), true) = (left.newly_kept(), full) {
             left.use_wrap(Wrap { block: 3, ..wrap });
         }
     }),
@@ -154,7 +154,7 @@ pub const TWISTS: [Twist; 31] = [
     }),
     breaks("a wrap refused by 6 is kept", |left| {
         if left.answer.number == 6 {
-            let wrap = left.anew().filter(|wrap| wrap.count() <= MOST_ROWS);
+            let wrap = left.not_kept().filter(|wrap| wrap.count() <= MOST_ROWS);
             wrap.into_iter().for_each(|wrap| left.use_wrap(wrap));
         }
     }),
@@ -172,7 +172,7 @@ pub const TWISTS: [Twist; 31] = [
     }),
     // many rows
     breaks("a wrap of 1,025 rows is kept", |left| {
-        let wrap = left.anew().filter(|wrap| wrap.count() == MOST_ROWS + 1);
+        let wrap = left.not_kept().filter(|wrap| wrap.count() == MOST_ROWS + 1);
         if let (Some(mut wrap), true) = (wrap, left.is_accepted()) {
             wrap.rows.truncate(BLOCK);
             left.use_wrap(wrap);
@@ -180,13 +180,16 @@ pub const TWISTS: [Twist; 31] = [
         }
     }),
     breaks("a wrap of 1,024 rows is not kept", |left| {
-        if left.new().is_some_and(|wrap| wrap.count() == MOST_ROWS) {
+        if left
+            .newly_kept()
+            .is_some_and(|wrap| wrap.count() == MOST_ROWS)
+        {
             left.leave_as_before();
         }
     }),
     breaks("a wrap above 1,024 rows lets one give way", |left| {
         let mut wraps = Wraps::of(&left.before);
-        let long = left.anew().is_some_and(|wrap| wrap.count() > MOST_ROWS);
+        let long = left.not_kept().is_some_and(|wrap| wrap.count() > MOST_ROWS);
         if long && left.is_accepted() && wraps.0.len() == MOST_KEPT {
             wraps.0.pop_back();
             left.keep(&wraps);
@@ -216,7 +219,7 @@ pub const TWISTS: [Twist; 31] = [
     }),
     // height
     breaks("height keeps nothing", |left| {
-        if !left.ask.rows && left.new().is_some() {
+        if !left.ask.rows && left.newly_kept().is_some() {
             left.leave_as_before();
         }
     }),
@@ -227,23 +230,23 @@ pub const TWISTS: [Twist; 31] = [
     }),
     // what is kept
     breaks("a kept row is altered", |left| {
-        if let Some(wrap) = left.new() {
+        if let Some(wrap) = left.newly_kept() {
             let last = block_start(wrap.block) + wrap.rows.len() - 1;
             left.array[last] ^= 1;
         }
     }),
     breaks("a kept row is left out", |left| {
-        if left.new().is_some_and(|wrap| wrap.count() > 1) {
+        if left.newly_kept().is_some_and(|wrap| wrap.count() > 1) {
             left.array[3] -= 1;
         }
     }),
     breaks("a head has version 1", |left| {
-        if left.new().is_some() {
+        if left.newly_kept().is_some() {
             left.array[0] = 1;
         }
     }),
     holds("a block is zeroed behind its rows", |left| {
-        if let Some(wrap) = left.new() {
+        if let Some(wrap) = left.newly_kept() {
             let start = block_start(wrap.block);
             left.array[start + wrap.rows.len()..start + BLOCK].fill(0);
         }
@@ -258,7 +261,7 @@ pub const TWISTS: [Twist; 31] = [
         let [_, width, _] = left.ask.key();
         let wraps = Wraps::of(&left.before);
         let alike = wraps.0.iter().find(|wrap| wrap.key[..2] == [0, width]);
-        if let (Some(_), Some(alike)) = (left.new(), alike) {
+        if let (Some(_), Some(alike)) = (left.newly_kept(), alike) {
             left.accept(alike);
             left.use_wrap(alike.clone());
         }
