@@ -1,5 +1,6 @@
 //! Measures the static library and the Rust source on the same lines.
 
+mod cache;
 mod calls;
 mod lines;
 mod memory;
@@ -56,7 +57,8 @@ impl Options {
                 _ => return None,
             }
         }
-        let known = |call: &String| Call::NAMES.contains(&call.as_str()) || call == screen::NAME;
+        let names = [&Call::NAMES[..], &[screen::NAME], &cache::NAMES].concat();
+        let known = |call: &String| names.contains(&call.as_str());
         options.calls.iter().all(known).then_some(options)
     }
 
@@ -75,6 +77,9 @@ fn once(arguments: &[String]) -> Option<()> {
     let (call, line, bytes) = (call?, line?, bytes?);
     if option == "--once" && name == screen::NAME {
         return screen::once(call, line, bytes);
+    }
+    if option == "--once" && cache::NAMES.contains(&name.as_str()) {
+        return cache::once(name, call, line, bytes);
     }
     let calls = calls::growing(Call::NAMES.into_iter().find(|known| known == name)?);
     let call = calls.get(call)?;
@@ -107,6 +112,12 @@ fn main() -> ExitCode {
     }
     if options.wants(screen::NAME) && exported.contains(&screen::NAME) {
         screen::print_times(options.effort);
+    }
+    let exported = |name: &&str| exported.contains(name);
+    if cache::NAMES.iter().all(exported) {
+        for name in cache::NAMES.iter().filter(|name| options.wants(name)) {
+            cache::print_times(name, options.effort, options.times);
+        }
     }
     ExitCode::SUCCESS
 }

@@ -1,6 +1,6 @@
 //! Memory that is lent to the library.
 
-use console_lines::{Answer, Lent, Span};
+use console_lines::{Answer, Lent, Span, Wraps};
 use oracle::{Call, Sizes};
 
 /// It is not cleared between calls.
@@ -22,14 +22,22 @@ impl Memory {
     }
 
     /// Makes a call of the library, lent so much of the memory.
-    pub fn call(&mut self, call: &Call, line: &[u8], [conv, spans, rows, list]: Sizes) -> Answer {
-        let lent = Lent {
+    pub fn call(&mut self, call: &Call, line: &[u8], sizes: Sizes) -> Answer {
+        console_lines::make(call, line, call.matches(), self.lend(sizes))
+    }
+
+    /// The same with kept wraps.
+    pub fn cached(&mut self, call: &Call, line: &[u8], sizes: Sizes, wraps: &mut Wraps) -> Answer {
+        console_lines::make_cached(call, line, wraps, self.lend(sizes))
+    }
+
+    fn lend(&mut self, [conv, spans, rows, list]: Sizes) -> Lent<'_> {
+        Lent {
             conv: &mut self.conv[..conv],
             spans: &mut self.spans[..spans],
             rows: &mut self.rows[..rows],
             list: &mut self.list[..list],
-        };
-        console_lines::make(call, line, call.matches(), lent)
+        }
     }
 
     /// Whether the library left what the oracle says.

@@ -5,7 +5,7 @@ use std::path::{Path, PathBuf};
 use std::process::Command;
 use std::{env, fs};
 
-const CALLS: [&str; 7] = [
+const CALLS: [&str; 9] = [
     "convert",
     "read",
     "rows",
@@ -13,6 +13,8 @@ const CALLS: [&str; 7] = [
     "draw_window",
     "draw_row",
     "screen_row",
+    "cached_rows",
+    "cached_height",
 ];
 
 fn main() {

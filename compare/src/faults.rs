@@ -24,7 +24,8 @@ impl fmt::Display for Fault {
     }
 }
 
-fn faults() -> Vec<Fault> {
+/// Each fault of a call's answer and memory.
+pub fn faults() -> Vec<Fault> {
     let mut faults = vec![Fault::Number, Fault::Count];
     for buffer in Buffer::ALL {
         faults.extend(Place::ALL.map(|place| Fault::Memory(buffer, place)));

@@ -68,6 +68,20 @@ impl<T: Copy + PartialEq + Default> Lent<T> {
         &self.memory[GUARD..GUARD + self.len]
     }
 
+    /// The same once more, as it is.
+    pub fn lent_again(&mut self) -> &mut [T] {
+        &mut self.memory[GUARD..GUARD + self.len]
+    }
+
+    /// Fills what was lent with `items` and zeros after them.
+    pub fn leave(&mut self, items: impl Iterator<Item = T>) {
+        let items = items.chain(std::iter::repeat(T::default()));
+        let lent = &mut self.memory[GUARD..GUARD + self.len];
+        lent.iter_mut()
+            .zip(items)
+            .for_each(|(place, item)| *place = item);
+    }
+
     /// Whether what was lent holds `items` and zeros after them.
     pub fn holds(&self, items: impl ExactSizeIterator<Item = T>) -> bool {
         if items.len() > self.len {

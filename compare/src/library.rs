@@ -6,12 +6,12 @@ use crate::lent::Lent;
 use console_lines::Span;
 use oracle::format::answer_text;
 use oracle::noise::Program;
-use oracle::{Answer, Case, Record};
+use oracle::{Answer, Call, Case, Record};
 use std::fmt;
 
 /// What lent bytes hold before a call.
 pub const BYTE: u8 = 0xA7;
-const NUMBER: usize = usize::from_ne_bytes([BYTE; 8]);
+pub const NUMBER: usize = usize::from_ne_bytes([BYTE; 8]);
 const SPAN: Span = Span {
     kind: NUMBER,
     place: NUMBER,
@@ -118,6 +118,15 @@ impl Library {
     }
 
     pub fn call(&mut self, case: &Case) -> console_lines::Answer {
+        self.call_by(case, console_lines::make)
+    }
+
+    /// Makes a call by another function than that of its name.
+    pub fn call_by(
+        &mut self,
+        case: &Case,
+        make: impl FnOnce(&Call, &[u8], &[usize], console_lines::Lent) -> console_lines::Answer,
+    ) -> console_lines::Answer {
         let [conv, spans, rows, list] = case.sizes();
         let line = self.line.lend_copy(&case.line);
         let matches = self.matches.lend_copy(case.call.matches());
@@ -127,7 +136,7 @@ impl Library {
             rows: self.rows.lend(rows),
             list: self.list.lend(list),
         };
-        console_lines::make(&case.call, line, matches, lent)
+        make(&case.call, line, matches, lent)
     }
 
     /// What a check says of the library's answers; it fails, too, where a call writes to
@@ -200,6 +209,14 @@ impl Library {
             Buffer::Rows => self.rows.damage(place),
             Buffer::List => self.list.damage(place),
         }
+    }
+
+    /// Leaves another answer in what was lent, as far as there is room.
+    pub fn leave(&mut self, answer: &Answer) {
+        self.conv.leave(answer.conv.iter().copied());
+        self.spans.leave(answer.records.iter().map(span));
+        self.rows.leave(answer.pairs.iter().copied());
+        self.list.leave(answer.list.iter().copied());
     }
 
     /// What the library returned and left, zeros included.

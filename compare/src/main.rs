@@ -1,6 +1,7 @@
 //! Compares the static library with the oracle, case by case.
 
 mod alphabets;
+mod cache;
 mod calls;
 mod comparison;
 mod demand3;
@@ -40,14 +41,21 @@ fn main() -> ExitCode {
         println!("not in the library: {}", missing.join(", "));
     }
     let good = if options.sample {
-        screen::print_sample();
+        if !options.cache {
+            screen::print_sample();
+        }
+        cache::print_sample();
         true
+    } else if options.faults && options.cache {
+        is_found(cache::try_faults(options.seed))
     } else if options.faults {
         plant_faults(&there, &options)
     } else if options.demand3 {
         demand3::run(&options)
     } else if options.picture {
         picture::run(&options)
+    } else if options.cache {
+        cache::run(&options)
     } else {
         compare_calls(&there, &options)
     };
@@ -58,8 +66,8 @@ fn main() -> ExitCode {
     }
 }
 
-/// Plants faults behind the calls and, where none is singled out, in demand 3 and in the
-/// row picture; whether all are found.
+/// Plants faults behind the calls and, where none is singled out, in demand 3, in the row
+/// picture and behind the calls with kept wraps; whether all are found.
 fn plant_faults(calls: &[&'static str], options: &Options) -> bool {
     let missed = calls.iter().filter(|&&call| match call {
         screen::NAME => !screen::try_faults(),
@@ -69,13 +77,18 @@ fn plant_faults(calls: &[&'static str], options: &Options) -> bool {
     if options.is_whole() {
         good &= demand3::try_faults(options.seed);
         good &= picture::try_faults(options.seed);
+        good &= cache::try_faults(options.seed);
     }
-    println!("{}", if good { "all found" } else { "NOT ALL FOUND" });
-    good
+    is_found(good)
 }
 
-/// Compares the calls and, where none is singled out, runs demand 3 and the row picture;
-/// whether all is equal and both hold.
+fn is_found(all: bool) -> bool {
+    println!("{}", if all { "all found" } else { "NOT ALL FOUND" });
+    all
+}
+
+/// Compares the calls and, where none is singled out, runs demand 3, the row picture and
+/// the calls with kept wraps; whether all is equal and holds.
 fn compare_calls(calls: &[&'static str], options: &Options) -> bool {
     let start = Instant::now();
     let mut total = Tally::default();
@@ -85,7 +98,9 @@ fn compare_calls(calls: &[&'static str], options: &Options) -> bool {
     let seconds = start.elapsed().as_secs_f64();
     println!("total: {total}, {seconds:.1} s");
     let equal = is_equal(&total);
-    let holds = !options.is_whole() || demand3::run(options) & picture::run(options);
+    let further: [fn(&Options) -> bool; 3] = [demand3::run, picture::run, cache::run];
+    let broken = further.iter().filter(|run| !run(options));
+    let holds = !options.is_whole() || broken.count() == 0;
     equal && holds
 }
 

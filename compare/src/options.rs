@@ -1,6 +1,6 @@
 //! The program's options.
 
-use crate::screen;
+use crate::{cache, screen};
 use oracle::{Call, Case};
 use std::fs;
 use std::str::FromStr;
@@ -8,9 +8,10 @@ use std::str::FromStr;
 pub const USAGE: &str = "usage: compare [--call NAME]... [--quick] [--jobs N] [--seed N] [--trace]
        compare --demand3 [--quick] [--jobs N] [--seed N]
        compare --picture [--quick] [--jobs N] [--seed N] [--trace]
-       compare [--picture] --cases FILE [--trace]
-       compare --faults [--call NAME]...
-       compare --sample";
+       compare --cache [--quick] [--jobs N] [--seed N] [--trace]
+       compare [--picture | --cache] --cases FILE [--trace]
+       compare --faults [--cache | --call NAME]...
+       compare --sample [--cache]";
 
 /// A quick run takes one case of so many.
 const QUICK_STEP: usize = 41;
@@ -30,7 +31,9 @@ pub struct Options {
     pub demand3: bool,
     /// Runs the row picture alone.
     pub picture: bool,
-    /// Prints the recorded sample of screen_row.
+    /// Runs the calls with kept wraps alone.
+    pub cache: bool,
+    /// Prints the samples of screen_row and of the calls with kept wraps.
     pub sample: bool,
     /// Cases to compare in place of the sets.
     pub cases: Option<Cases>,
@@ -40,6 +43,8 @@ pub struct Cases {
     /// Of the six calls of document 01.
     pub calls: Vec<Case>,
     pub screen_rows: Vec<screen::Case>,
+    /// Of calls with kept wraps.
+    pub sequences: Vec<cache::Sequence>,
 }
 
 /// The names of the calls that are compared.
@@ -58,6 +63,7 @@ impl Options {
             faults: false,
             demand3: false,
             picture: false,
+            cache: false,
             sample: false,
             cases: None,
         };
@@ -72,6 +78,7 @@ impl Options {
                 "--faults" => options.faults = true,
                 "--demand3" => options.demand3 = true,
                 "--picture" => options.picture = true,
+                "--cache" => options.cache = true,
                 "--sample" => options.sample = true,
                 "--cases" => options.cases = Some(cases(&value()?)?),
                 _ => return Err(format!("no option {argument}")),
@@ -116,11 +123,18 @@ fn cases(file: &str) -> Result<Cases, String> {
     let text = fs::read_to_string(file).map_err(|e| format!("{file}: {e}"))?;
     let lines = text.lines().filter(|line| !line.starts_with(['#', ' ']));
     let questions = lines.map(|line| line.split(" = ").next().unwrap_or(line));
-    let (screen_rows, calls): (Vec<&str>, Vec<&str>) =
-        questions.partition(|question| question.starts_with(screen::NAME));
+    let (mut calls, mut screen_rows, mut sequences) = (Vec::new(), Vec::new(), Vec::new());
+    for question in questions {
+        match question.split(' ').next() {
+            Some(screen::NAME) => screen_rows.push(question),
+            Some(cache::NAME | cache::RECORDED) => sequences.push(question),
+            _ => calls.push(question),
+        }
+    }
     Ok(Cases {
         calls: parsed(&calls)?,
         screen_rows: parsed(&screen_rows)?,
+        sequences: parsed(&sequences)?,
     })
 }
 

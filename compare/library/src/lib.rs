@@ -19,6 +19,9 @@ pub struct Span {
     pub matched: usize,
 }
 
+/// Kept wraps: heads and blocks of rows.
+pub type Wraps = [usize; 8_212];
+
 /// The calls that the library exports.
 pub fn exported() -> Vec<&'static str> {
     let calls = [
@@ -29,18 +32,21 @@ pub fn exported() -> Vec<&'static str> {
         ("draw_window", cfg!(has_draw_window)),
         ("draw_row", cfg!(has_draw_row)),
         ("screen_row", cfg!(has_screen_row)),
+        ("cached_rows", cfg!(has_cached_rows)),
+        ("cached_height", cfg!(has_cached_height)),
     ];
     let there = calls.into_iter().filter(|(_, there)| *there);
     there.map(|(name, _)| name).collect()
 }
 
-/// A call with the slices that it reads, its numbers, and the slices that it writes;
-/// the C function takes each slice as a pointer and a length. Where the library does
-/// not export it, the call panics.
+/// A call with the slices that it reads, its numbers, an array if it has one, and the
+/// slices that it writes; the C function takes each slice as a pointer and a length, the
+/// array as a pointer. Where the library does not export it, the call panics.
 macro_rules! declare {
     ($has:ident, $name:ident, $symbol:ident(
         $($read:ident: $read_item:ty),*;
         $($number:ident),*;
+        $([$array:ident: $array_type:ty])?
         $($written:ident: $written_item:ty),*
     )) => {
         #[cfg($has)]
@@ -48,6 +54,7 @@ macro_rules! declare {
             fn $symbol(
                 $(_: *const $read_item, _: usize,)*
                 $($number: usize,)*
+                $(_: *mut $array_type,)?
                 $(_: *mut $written_item, _: usize),*
             ) -> Answer;
         }
@@ -56,15 +63,17 @@ macro_rules! declare {
         pub fn $name(
             $($read: &[$read_item],)*
             $($number: usize,)*
+            $($array: &mut $array_type,)?
             $($written: &mut [$written_item]),*
         ) -> Answer {
-            // SAFETY: each pointer comes from a slice with its length, and the library
-            // keeps none of them.
+            // SAFETY: each pointer comes from a slice with its length, or from an array of
+            // the size that is declared, and the library keeps none of them.
             #[cfg($has)]
             unsafe {
                 $symbol(
                     $($read.as_ptr(), $read.len(),)*
                     $($number,)*
+                    $($array,)?
                     $($written.as_mut_ptr(), $written.len()),*
                 )
             }
@@ -85,6 +94,12 @@ declare!(has_draw_row, draw_row, console_draw_row(
     line: u8, matches: usize; current, first, count, width, mode; conv: u8, spans: Span, list: u8
 ));
 declare!(has_screen_row, screen_row, console_screen_row(list: u8; width; out: u8));
+declare!(has_cached_rows, cached_rows, console_cached_rows(
+    line: u8; width, mode; [wraps: Wraps] conv: u8, spans: Span, rows: usize
+));
+declare!(has_cached_height, cached_height, console_cached_height(
+    line: u8; width, mode; [wraps: Wraps] conv: u8, spans: Span
+));
 
 /// Memory lent to a call; what it is not lent is not looked at.
 pub struct Lent<'m> {
@@ -123,5 +138,17 @@ pub fn make(call: &Call, line: &[u8], matches: &[usize], lent: Lent) -> Answer {
         } => draw_row(
             line, matches, current, first, count, width, mode, conv, spans, list,
         ),
+    }
+}
+
+/// Makes a call for rows or height with kept wraps lent.
+pub fn make_cached(call: &Call, line: &[u8], wraps: &mut Wraps, lent: Lent) -> Answer {
+    let Lent {
+        conv, spans, rows, ..
+    } = lent;
+    match *call {
+        Call::Rows { width, mode } => cached_rows(line, width, mode, wraps, conv, spans, rows),
+        Call::Height { width, mode } => cached_height(line, width, mode, wraps, conv, spans),
+        _ => panic!("{} keeps no wraps", call.name()),
     }
 }
