@@ -20,15 +20,23 @@ const MOST_CALLS: usize = 21;
 const MOST_ROWS: usize = 2_048;
 const MOST_SPANS: usize = 1_024;
 
-/// A sequence with its answers: number and count of each call, and the heads at the end.
+/// A sequence with its answers: number and count of each call, of `rows` the pairs too, and the
+/// heads at the end; lists without the zeros behind them.
 pub fn answered(sequence: &Sequence) -> String {
     let (answers, array) = answers(sequence);
-    let counts = answers
-        .iter()
-        .flat_map(|answer| [answer.number, answer.count]);
-    let heads = array[..HEADS].iter().copied();
-    let (counts, heads) = (list(counts), list(heads));
-    format!("{} = {counts} {heads}", sequence.recorded())
+    let mut text = format!("{} =", sequence.recorded());
+    for (ask, answer) in sequence.calls().zip(&answers) {
+        text += &format!(" {} {}", answer.number, answer.count);
+        if ask.rows {
+            text += &format!(" {}", trimmed(&answer.pairs));
+        }
+    }
+    format!("{text} {}", trimmed(&array[..HEADS]))
+}
+
+fn trimmed(numbers: &[usize]) -> String {
+    let end = numbers.iter().rposition(|&number| number != 0);
+    list(numbers[..end.map_or(0, |last| last + 1)].iter().copied())
 }
 
 pub fn sequences() -> Vec<Sequence> {

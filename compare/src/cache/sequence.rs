@@ -121,9 +121,14 @@ impl Sequence {
 
     /// The text of a recorded one, which has calls only, each lent just enough.
     pub fn recorded(&self) -> String {
+        let name = |ask: &Ask| if ask.rows { "rows" } else { "height" };
         let calls = self.calls();
-        let numbers = calls.flat_map(|ask| [usize::from(!ask.rows), ask.width, ask.mode]);
-        format!("{RECORDED} {} {}", hex(&self.line), list(numbers))
+        let calls = calls.map(|ask| format!(" {} {} {}", name(ask), ask.width, ask.mode));
+        format!(
+            "{RECORDED} {}{}",
+            hex(&self.line),
+            calls.collect::<String>()
+        )
     }
 }
 
@@ -196,10 +201,10 @@ impl FromStr for Sequence {
                     steps: steps.collect::<Result<_, _>>()?,
                 })
             }
-            [RECORDED, line, calls] => {
-                let numbers = numbers(calls)?;
-                let calls = numbers.chunks(3).map(|call| match *call {
-                    [height, width, mode] if height < 2 => Ok(Ask::new(height == 0, width, mode)),
+            [RECORDED, line, ref calls @ ..] => {
+                let calls = calls.chunks(3).map(|call| match *call {
+                    ["rows", width, mode] => Ok(Ask::new(true, number(width)?, number(mode)?)),
+                    ["height", width, mode] => Ok(Ask::new(false, number(width)?, number(mode)?)),
                     _ => Err(format!("not a call: {call:?}")),
                 });
                 let calls: Vec<Ask> = calls.collect::<Result<_, _>>()?;
