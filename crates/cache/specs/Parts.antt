@@ -1,7 +1,7 @@
--- Lists element by element: parts of a list in its order, lists whose elements are apart, and what all elements have.
+-- Parts of a list in its order, and lists whose elements are apart.
 use Prim.Native.Nat.{ℕ, zero, suc}
 use mathlib.Core.List.{List, [], _∷_}
-use lib.ListN.{take, drop}
+use lib.ListN.{take}
 use Rattle.text.specs.Each.{All, all-nil, all-cons}
 
 pub data Part {A : Type 0} : List A → List A → Type 0 where
@@ -23,18 +23,6 @@ module _ {A : Type 0} {Q : A → Type 0} where
   part-all none e = all-nil
   part-all (with p) (all-cons q e) = all-cons q (part-all p e)
   part-all (less p) (all-cons q e) = part-all p e
-
-  pub all-drop : (n : ℕ) {s : List A} → All Q s → All Q (drop n s)
-  all-drop zero e = e
-  all-drop (suc n) all-nil = all-nil
-  all-drop (suc n) (all-cons q e) = all-drop n e
-
-  pub all-first : {a : A} {s : List A} → All Q (a ∷ s) → Q a
-  all-first (all-cons q e) = q
-
-  pub all-both : {R : A → Type 0} {s : List A} → All Q s → All R s → All (λ (a : A). Q a × R a) s
-  all-both all-nil all-nil = all-nil
-  all-both (all-cons q e) (all-cons r f) = all-cons (q, r) (all-both e f)
 
 pub part-apart : {A : Type 0} {R : A → A → Type 0} {s t : List A} → Part s t → Apart R t → Apart R s
 part-apart none e = nil

@@ -12,7 +12,6 @@ use Rattle.rows.specs.Calls.{Wrapped, rowsCall, heightCall}
 use Rattle.cache.specs.Wraps.{Key, key, sameKey, keyOf, kept}
 use Rattle.cache.specs.Calls.{CachedRows, CachedHeight, cachedRowsCall, cachedHeightCall}
 pub mod Keys
-pub mod Rows
 pub mod Proof
 pub mod Examples
 

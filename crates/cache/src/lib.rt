@@ -12,7 +12,7 @@ ghost use Rattle.cache.specs.Calls.{cachedRowsCall, cachedHeightCall};
 ghost use Rattle.cache.specs.Calls.Contracts.{rowsRequest, heightRequest, cachedRowsAs, cachedHeightAs, CachedLineReady, CachedLine};
 
 pub mod numbers;
-pub mod wraps;
+mod wraps;
 
 // What `cached_rows` asks.
 fn rows_request(wraps: &[usize], width: usize, mode: usize) -> Request

@@ -15,12 +15,12 @@ ghost use Rattle.cache.specs.Wraps.Contracts.{headAt, HeadAtReady, InHea
 ghost use Rattle.cache.specs.Calls.Contracts.{RememberReady, Remembered};
 
 // A head: the key of a wrap, the number of its rows and its block.
-pub struct Head {
-    pub version: usize,
-    pub width: usize,
-    pub mode: usize,
-    pub count: usize,
-    pub block: usize,
+pub(crate) struct Head {
+    pub(crate) version: usize,
+    pub(crate) width: usize,
+    pub(crate) mode: usize,
+    pub(crate) count: usize,
+    pub(crate) block: usize,
 }
 
 fn head_at(wraps: &[usize], i: usize) -> Head

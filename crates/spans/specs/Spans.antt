@@ -18,6 +18,7 @@ pub mod FirstSpan
 pub mod RecordSpans
 pub mod Inside
 pub mod SpanCount
+pub mod PlainClusters
 pub mod ContentKinds
 
 -- the source's Span: what a span holds; Text is `text none`, Match is `text (some k)`

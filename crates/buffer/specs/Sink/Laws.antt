@@ -1,13 +1,13 @@
 -- Writers one after the other, loops that write, and what a run of writes came to by its count.
 use mathlib.Core.Path.{_≡_, refl, sym, ap, ap₂, _∙_}
-use mathlib.Core.List.{List, [], _∷_, _++_, append-nil}
+use mathlib.Core.List.{List, [], _∷_, _++_, append-nil, append-assoc}
 use mathlib.Core.Logic.{_⊎_, inl, inr, ⊎-elim}
 use Prim.Native.Nat.{ℕ, zero, suc, _+_, _-_, _≤_, _<_}
 use native.Mathlib.Nat.{add-zero}
 use native.Mathlib.Numerals.{add-one}
 use native.Mathlib.Omega.{arith}
-use lib.ListN.{length, set, take, drop, getD, replicate, drop-of-length-le, length-set, length-replicate, getD-replicate}
-use lib.Seq.{take-at, set-out, drop-cons, sets, sets-eq, paste, paste-zero, paste-suc, take-all, take-length}
+use lib.ListN.{length, set, take, drop, getD, replicate, drop-of-length-le, length-set, length-replicate, getD-replicate, length-drop, take-append-drop}
+use lib.Seq.{take-at, set-out, drop-cons, sets, sets-eq, paste, paste-zero, paste-suc, take-all, take-length, length-take-le, length-paste, take-append-seam, take-append-le, drop-at, drop-drop, drop-paste, drop-append-le}
 use borrow.Author.Tests.{lt-ltb, le-ltb}
 use Rattle.buffer.specs.Sink.{Sink, sink, saturated, put, emit, written, cleared, Copied}
 
@@ -172,3 +172,39 @@ cleared-all blank l n h = let z : length l - n ≡ 0 = omega arith in rw (take-a
 
 pub cleared-behind : {A : Type 0} (blank : A) (l a b : List A) (m n : ℕ) → l ≡ a ++ b → length a ≡ n → length l ≡ m → cleared blank n l ≡ a ++ replicate (m - length a) blank
 cleared-behind blank l a b m n e h k = rw (k, ← h, e, take-at a b (length a) refl)
+
+-- ---- numbers written at a place
+
+module _ (l xs : List ℕ) (at : ℕ) (h : at + length xs ≤ length l) where
+  pasted : paste l at xs (length xs) ≡ written l at xs
+  pasted = ap (λ (ys : List ℕ). take at l ++ ys ++ drop (at + length xs) l) (take-length xs)
+
+  pub written-length : length (written l at xs) ≡ length l
+  written-length = rw pasted at (length-paste l at xs (length xs) h (omega arith))
+
+  -- they stand there
+  pub written-here : take (length xs) (drop at (written l at xs)) ≡ xs
+  written-here =
+      ap (λ (ys : List ℕ). take (length xs) (drop at ys)) (append-assoc (take at l) xs (drop (at + length xs) l))
+      ∙ ap (take (length xs)) (drop-at (take at l) (xs ++ drop (at + length xs) l) at (length-take-le at l (omega arith)))
+      ∙ take-append-seam xs (drop (at + length xs) l)
+
+  -- what stands behind them stays
+  pub written-behind : (p : ℕ) → at + length xs ≤ p → drop p (written l at xs) ≡ drop p l
+  written-behind p k =
+      let e : p ≡ at + length xs + (p - (at + length xs)) = omega arith in
+      let n : ℕ = p - (at + length xs) in
+      rw e (sym (drop-drop n (at + length xs) (written l at xs)) ∙ ap (drop n) (rw pasted at (drop-paste l at xs (length xs) (omega arith) (omega arith))) ∙ drop-drop n (at + length xs) l)
+
+  front : (ys : List ℕ) (p m : ℕ) → p + m ≤ at → take m (drop p (take at l ++ ys)) ≡ take m (drop p (take at l))
+  front ys p m k =
+      let n : length (take at l) ≡ at = length-take-le at l (omega arith) in
+      ap (take m) (drop-append-le p (take at l) ys (omega arith)) ∙ take-append-le m (drop p (take at l)) ys (rw length-drop (omega arith))
+
+  -- what stands before them stays
+  pub written-before : (p m : ℕ) → p + m ≤ at → take m (drop p (written l at xs)) ≡ take m (drop p l)
+  written-before p m k =
+      ap (λ (z : List ℕ). take m (drop p z)) (append-assoc (take at l) xs (drop (at + length xs) l))
+      ∙ front (xs ++ drop (at + length xs) l) p m k
+      ∙ sym (front (drop at l) p m k)
+      ∙ ap (λ (z : List ℕ). take m (drop p z)) (take-append-drop at l)

@@ -10,7 +10,7 @@ use lib.Dec.{eqb, leb, eqb·suc-zero}
 use borrow.Author.Tests.{leb-true, le-leb}
 use Rattle.buffer.specs.Sink.{written}
 use Rattle.text.specs.Tests.{cases}
-use Rattle.text.specs.Each.{All, all-nil, all-cons, all-map}
+use Rattle.text.specs.Each.{All, all-nil, all-cons, all-map, all-both}
 use Rattle.text.specs.Class.{Profile}
 use Rattle.text.specs.Overstrike.{convert}
 use Rattle.text.specs.Calls.{counted}
@@ -18,7 +18,6 @@ use Rattle.spans.specs.Spans.{spans}
 use Rattle.rows.specs.Rows.{Row, rows}
 use Rattle.rows.specs.Calls.{modeOf, numbersOf, rowsCall, heightCall}
 use Rattle.rows.specs.Wrap.Laws.{numbersOf-length}
-use Rattle.cache.specs.Parts.{all-both}
 use Rattle.cache.specs.Wraps.{Key, key, head, keyOf, kept, find, without, blockAt, keptNumbers, withHeads, newBlock, afterUse, withWrap}
 use Rattle.cache.specs.declared.wraps.Head.{Head}
 use Rattle.cache.specs.Wraps.Contracts.{Within}
@@ -27,7 +26,7 @@ use Rattle.cache.specs.Wraps.Blocks.{block-length, block-here, block-oth
 use Rattle.cache.specs.Wraps.Use.{found-has, Free, behind, part-behind, kept-after, free-found, free-new}
 use Rattle.cache.specs.Calls.{Wrap, wrapFor, wrapsAfter, unlessRefused, cachedRowsCall, cachedHeightCall}
 use Rattle.cache.specs.Remembers.{Call, different, keyUsed, unwrappedHeight, noneKept, answer, cached, isUse, usedFrom, wrapsFrom, Remembers}
-use Rattle.cache.specs.Remembers.Rows.{rows-some}
+use Rattle.rows.specs.Rows.Laws.{rows-some}
 use Rattle.cache.specs.Remembers.Keys.{last-four, keys-without, keys-take, heads-apart}
 
 module _ (P : Profile) (line : List ℕ) where

@@ -1,54 +1,19 @@
 -- Numbers written to a block, and heads over them: what they leave of the other blocks.
-use Prim.Native.Nat.{ℕ, _+_, _-_, _*_, _≤_, _<_}
+use Prim.Native.Nat.{ℕ, _+_, _*_, _≤_, _<_}
 use native.Mathlib.Omega.{arith}
-use mathlib.Core.List.{List, [], _∷_, _++_, append-assoc}
+use mathlib.Core.List.{List, [], _∷_}
 use mathlib.Core.Path.{_≡_, refl, sym, ap, _∙_}
-use lib.ListN.{take, drop, length, take-append-drop, length-drop, length-append, length-replicate}
+use lib.ListN.{take, drop, length, length-drop, length-append, length-replicate}
 use lib.Dec.{ltb}
-use lib.Seq.{paste, drop-at, length-take-le, length-paste, take-append-seam, take-length, drop-drop, drop-paste, drop-append-le, take-append-le}
+use lib.Seq.{drop-at, drop-drop}
 use borrow.Author.Tests.{ltb-true, ltb-false}
 use Rattle.buffer.specs.Sink.{written}
+use Rattle.buffer.specs.Sink.Laws.{written-length, written-here, written-behind, written-before}
 use Rattle.text.specs.Tests.{cases}
 use Rattle.text.specs.Calls.{lent}
 use Rattle.text.specs.Calls.Laws.{lent-accepted}
 use Rattle.cache.specs.Wraps.{blockAt, keptNumbers, headNumbers, withHeads}
 use Rattle.cache.specs.declared.wraps.Head.{Head}
-
--- ---- numbers written at a place
-
-module _ (l xs : List ℕ) (at : ℕ) (h : at + length xs ≤ length l) where
-  pasted : paste l at xs (length xs) ≡ written l at xs
-  pasted = ap (λ (ys : List ℕ). take at l ++ ys ++ drop (at + length xs) l) (take-length xs)
-
-  written-length : length (written l at xs) ≡ length l
-  written-length = rw pasted at (length-paste l at xs (length xs) h (omega arith))
-
-  -- they stand there
-  written-here : take (length xs) (drop at (written l at xs)) ≡ xs
-  written-here =
-      ap (λ (ys : List ℕ). take (length xs) (drop at ys)) (append-assoc (take at l) xs (drop (at + length xs) l))
-      ∙ ap (take (length xs)) (drop-at (take at l) (xs ++ drop (at + length xs) l) at (length-take-le at l (omega arith)))
-      ∙ take-append-seam xs (drop (at + length xs) l)
-
-  -- what stands behind them stays
-  written-behind : (p : ℕ) → at + length xs ≤ p → drop p (written l at xs) ≡ drop p l
-  written-behind p k =
-      let e : p ≡ at + length xs + (p - (at + length xs)) = omega arith in
-      let n : ℕ = p - (at + length xs) in
-      rw e (sym (drop-drop n (at + length xs) (written l at xs)) ∙ ap (drop n) (rw pasted at (drop-paste l at xs (length xs) (omega arith) (omega arith))) ∙ drop-drop n (at + length xs) l)
-
-  front : (ys : List ℕ) (p m : ℕ) → p + m ≤ at → take m (drop p (take at l ++ ys)) ≡ take m (drop p (take at l))
-  front ys p m k =
-      let n : length (take at l) ≡ at = length-take-le at l (omega arith) in
-      ap (take m) (drop-append-le p (take at l) ys (omega arith)) ∙ take-append-le m (drop p (take at l)) ys (rw length-drop (omega arith))
-
-  -- what stands before them stays
-  written-before : (p m : ℕ) → p + m ≤ at → take m (drop p (written l at xs)) ≡ take m (drop p l)
-  written-before p m k =
-      ap (λ (z : List ℕ). take m (drop p z)) (append-assoc (take at l) xs (drop (at + length xs) l))
-      ∙ front (xs ++ drop (at + length xs) l) p m k
-      ∙ sym (front (drop at l) p m k)
-      ∙ ap (λ (z : List ℕ). take m (drop p z)) (take-append-drop at l)
 
 -- ---- numbers written to a block
 

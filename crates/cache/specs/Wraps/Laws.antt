@@ -11,8 +11,8 @@ use lib.Seq.{drop-nil, getD-drop}
 use lib.Dec.{T, T-not, eqb, leb, ltb, eqb→eq, leb→le, ltb→lt}
 use borrow.Author.Tests.{eqb-true, eqb-false, ltb-true, ltb-false}
 use Rattle.text.specs.Tests.{and-T, or-false, is-false, true-T, cases, both, by-case}
-use Rattle.text.specs.Each.{All, all-nil, all-cons}
-use Rattle.cache.specs.Parts.{Apart, nil, cons, all-drop, all-first}
+use Rattle.text.specs.Each.{All, all-nil, all-cons, all-drop, all-first}
+use Rattle.cache.specs.Parts.{Apart, nil, cons}
 use Rattle.cache.specs.Wraps.{Key, sameKey, keyOf, headsIn, hasBlock, wellKept, kept, find, without, headNumbers, lastBlock, newBlock}
 use Rattle.cache.specs.declared.wraps.Head.{Head}
 use Rattle.cache.specs.Wraps.Contracts.{headAt, Within}

@@ -9,9 +9,9 @@ use lib.ListN.{length, take, drop, length-take}
 use lib.Dec.{eqb, ltb}
 use borrow.Author.Tests.{ltb-true, ltb-false, le-leb, lt-ltb, ne-eqb}
 use Rattle.text.specs.Tests.{cases, both, by-case}
-use Rattle.text.specs.Each.{All, all-nil, all-cons, all-map}
+use Rattle.text.specs.Each.{All, all-nil, all-cons, all-map, all-drop, all-first}
 use Rattle.text.specs.Calls.{lent}
-use Rattle.cache.specs.Parts.{Part, Apart, part-take, part-all, part-apart, all-drop, all-first}
+use Rattle.cache.specs.Parts.{Part, Apart, part-take, part-all, part-apart}
 use Rattle.cache.specs.Wraps.{Key, sameKey, keyOf, headsIn, hasBlock, wellKept, kept, find, without, headNumbers, withHeads, newBlock}
 use Rattle.cache.specs.declared.wraps.Head.{Head}
 use Rattle.cache.specs.Wraps.Contracts.{headAt, Within}

@@ -1,6 +1,6 @@
 -- The row picture of every accepted line: its spans are as the row picture asks, and its columns fit mode 0's row.
 use mathlib.Core.Path.{_≡_, refl, sym, ap, _∙_}
-use Prim.Native.Nat.{ℕ, zero, suc, _+_, _*_, _≤_}
+use Prim.Native.Nat.{ℕ, suc, _+_, _*_, _≤_}
 use native.Mathlib.Omega.{arith}
 use mathlib.Core.List.{List, [], _∷_}
 use mathlib.Core.Option.{Option, none, some}
@@ -15,9 +15,10 @@ use Rattle.text.specs.Class.{Profile}
 use Rattle.text.specs.Width.{widthOf}
 use Rattle.text.specs.Width.Laws.{width-cons, width-nil}
 use Rattle.text.specs.Overstrike.{convert}
-use Rattle.text.specs.Overstrike.Bytes.{Byte, converted-bytes}
+use Rattle.text.specs.Overstrike.Bytes.{Byte, converted-bytes, byte-at}
 use Rattle.text.specs.Overstrike.Length.{convert-size}
 use Rattle.spans.specs.Spans.{Content, text, control, invalid, unprintable, escape, tab, crlf, lf, Span, span, readPieces, spans, kindOf, recordOf}
+use Rattle.spans.specs.Spans.PlainClusters.{plain-wide}
 use Rattle.spans.specs.Spans.ContentLaw.{contentOf, content}
 use Rattle.spans.specs.Spans.ContentKinds.{scalarsOf, text-content, match-content, control-content, invalid-content, unprintable-content}
 use Rattle.spans.specs.Spans.SpanCount.{few}
@@ -28,7 +29,7 @@ use Rattle.rows.specs.Calls.Reading.{unmatched-spans}
 use Rattle.picture.specs.Columns.{spanColumns, lastColumnFrom}
 use Rattle.picture.specs.Conditions.{Unshared, UnsharedPiece, UnsharedLine, Drawable}
 use Rattle.picture.specs.Picture.{RowsShowLines}
-use Rattle.picture.specs.Picture.TextSpans.{plain-wide, TextClusters, run-texts}
+use Rattle.picture.specs.Picture.TextSpans.{TextClusters, run-texts}
 use Rattle.picture.specs.Picture.AnyProfile.{rowPicture}
 
 -- ---- clusters
@@ -50,11 +51,6 @@ module _ (P : Profile) where
   spans-good s u = pieces-good none 0 u
 
 -- ---- bytes
-
-byte-at : {s : List ℕ} → All Byte s → (i : ℕ) → Byte (getD s i 0)
-byte-at all-nil i = omega arith
-byte-at (all-cons h a) zero = h
-byte-at (all-cons h a) (suc i) = byte-at a i
 
 module _ (P : Profile) (line : List ℕ) (bytes : All Byte line) (x : Span) (held : contentOf line (recordOf x) ≡ x .content) where
   drawable : TextClusters P (Good P) x → Drawable P (x .content)

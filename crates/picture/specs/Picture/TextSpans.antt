@@ -1,46 +1,21 @@
 -- The clusters of a text span are plain clusters of the line, and each has a width.
 use mathlib.Core.Path.{_≡_, refl, sym, ap, _∙_, subst}
-use Prim.Native.Nat.{ℕ, zero, suc, _+_, _-_, _≤_}
+use Prim.Native.Nat.{ℕ, zero, suc, _+_, _-_}
 use native.Mathlib.Omega.{arith}
-use mathlib.Core.Bool.{true, false, true≢false, _||_}
+use mathlib.Core.Bool.{true}
 use mathlib.Core.List.{List, [], _∷_, _++_, append-nil}
 use mathlib.Core.Option.{Option}
 use lib.ListN.{length}
-use lib.Dec.{eqb, leb}
-use borrow.Author.Tests.{eqb-false}
-use Rattle.text.specs.Tests.{cases, both}
 use Rattle.text.specs.Each.{All, all-nil, all-cons}
-use Rattle.text.specs.Utf8.{Scalar, bytesOf, reads}
+use Rattle.text.specs.Utf8.{Scalar, bytesOf}
 use Rattle.text.specs.Class.{Profile}
-use Rattle.text.specs.Width.{widthOf}
 use Rattle.text.specs.Cluster.{clusters, joinAll}
 use Rattle.text.specs.Cluster.Laws.{clusters-nil, further}
 use Rattle.text.specs.Cluster.Parts.{Ends, ends-none, ends-same, Clustered, none, more, clustered, first-before}
-use Rattle.spans.specs.Sequence.{parse}
-use Rattle.spans.specs.Spans.{Content, text, control, invalid, unprintable, escape, tab, crlf, lf, Span, span, ClusterKind, plain, special, controlKind, clusterKind, joinText, addText, addCluster, readFrom}
-use Rattle.spans.specs.Spans.FirstSpan.{isPlain, NoText, escape-special, kind-noText, plainCluster, plain-same}
-
--- ---- a cluster of no width is part of no text
-
-abbrev Special : ClusterKind → Type 0
-Special w = isPlain w ≡ false
-
-control-special : (g : List ℕ) (w : ClusterKind) → Special w → Special (controlKind g w)
-unfolding isPlain controlKind
-control-special [] w h = h
-control-special (b ∷ []) w h = both Special (leb b 0x1F || eqb b 0x7F) refl h
-control-special (b ∷ c ∷ g) w h = h
+use Rattle.spans.specs.Spans.{Content, text, control, invalid, unprintable, escape, tab, crlf, lf, Span, span, ClusterKind, plain, special, clusterKind, joinText, addText, addCluster, readFrom}
+use Rattle.spans.specs.Spans.FirstSpan.{isPlain, NoText, kind-noText, plainCluster, plain-same}
 
 module _ (P : Profile) where
-  flat-special : (g : List Scalar) → eqb (widthOf P g) 0 ≡ true → plainCluster P g ≡ false
-  unfolding plainCluster
-  flat-special g e =
-      both Special (reads g (0x1B ∷ [])) (escape-special (parse []))
-      (both Special (reads g (0x0D ∷ 0x0A ∷ [])) refl (both Special (reads g (0x0A ∷ [])) refl (both Special (reads g (0x09 ∷ [])) refl (control-special (bytesOf g) _ (rw e refl)))))
-
-  pub plain-wide : (g : List Scalar) → plainCluster P g ≡ true → 1 ≤ widthOf P g
-  plain-wide g q = cases (eqb (widthOf P g) 0) (λ e. absurd (true≢false (sym q ∙ flat-special g e))) (λ e. omega (arith, eqb-false (widthOf P g) 0 e))
-
   module _ (Q : List Scalar → Type 0) where
     -- a span that is a text has clusters with Q
     abbrev pub TextClusters : Span → Type 0

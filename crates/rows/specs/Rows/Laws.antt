@@ -1,15 +1,20 @@
--- Rows pushed before do not matter to what follows them.
+-- Rows pushed before do not matter to what follows them; a wrap has one row or more.
 use mathlib.Core.Path.{_≡_, refl, ap, _∙_}
-use Prim.Native.Nat.{ℕ, _+_, _%_, _-_}
+use Prim.Native.Nat.{ℕ, _+_, _%_, _-_, _≤_}
+use native.Mathlib.Omega.{arith}
 use mathlib.Core.Bool.{Bool, true, false, cond}
 use mathlib.Core.List.{List, [], _∷_, _++_}
-use lib.Dec.{eqb}
+use lib.ListN.{length, length-reverse}
+use lib.Dec.{eqb, ltb}
+use Rattle.text.specs.Tests.{both}
 use Rattle.text.specs.Utf8.{Scalar}
 use Rattle.text.specs.Class.{Profile}
 use Rattle.text.specs.Width.{widthOf}
 use Rattle.text.specs.Cluster.{clusters}
 use Rattle.rows.specs.Words.{Word, words}
-use Rattle.rows.specs.Rows.{Row, Wrap, wrap, fitsRow, unbroken, tabbed, pushed, byClusters, wordEnd, longWord, oneWord, byWords, splitText}
+use Rattle.spans.specs.Spans.{Span}
+use Rattle.rows.specs.Marks.{drawnColumns}
+use Rattle.rows.specs.Rows.{Row, Wrap, wrap, fitsRow, unbroken, tabbed, pushed, byClusters, wordEnd, longWord, oneWord, byWords, splitText, splits, lastRow, Mode, unwrapped, graphemeBoundary, wordBoundary, drawnGraphemeBoundary, drawnWordBoundary, eight, wrapped, rows}
 
 -- rows pushed before
 unfoldable pub over : List Row → Wrap → Wrap
@@ -65,3 +70,22 @@ module _ (P : Profile) (width : ℕ) where
   unfolding splitText
   splitText-over true s rs t = byWords-over (words s) rs t
   splitText-over false s rs t = byClusters-over (clusters P s) rs t
+
+-- ---- a wrap has one row or more
+
+last-some : (s p : ℕ) (rs : List Row) → 1 ≤ length (lastRow s p rs)
+unfolding lastRow
+last-some s p [] = omega arith
+last-some s p (r ∷ rs) = both (λ (x : List Row). 1 ≤ length x) (ltb s p) (omega arith) (omega arith)
+
+wrapped-some : (P : Profile) (count : List Scalar → ℕ) (width : ℕ) (w : Bool) (ss : List Span) → 1 ≤ length (wrapped P count width w ss)
+unfolding wrapped
+wrapped-some P count width w ss = let t : Wrap = splits P count width w (wrap [] 0 0) ss in rw length-reverse (last-some (t .start) (t .position) (t .rows))
+
+pub rows-some : (P : Profile) (width : ℕ) (mode : Mode) (ss : List Span) → 1 ≤ length (rows P width mode ss)
+unfolding rows
+rows-some P width unwrapped ss = omega arith
+rows-some P width graphemeBoundary ss = wrapped-some P eight width false ss
+rows-some P width wordBoundary ss = wrapped-some P eight width true ss
+rows-some P width drawnGraphemeBoundary ss = wrapped-some P drawnColumns width false ss
+rows-some P width drawnWordBoundary ss = wrapped-some P drawnColumns width true ss

@@ -2,59 +2,37 @@
 use mathlib.Core.Path.{_≡_, refl, sym, ap, subst, _∙_}
 use Prim.Native.Nat.{ℕ, zero, suc, _+_, _-_, _≤_}
 use native.Mathlib.Omega.{arith}
-use mathlib.Core.Bool.{true, false, true≢false, _||_}
+use mathlib.Core.Bool.{true}
 use mathlib.Core.List.{List, [], _∷_, _++_}
 use mathlib.Core.Option.{Option, none, some}
 use lib.ListN.{length, take, drop, getD, length-append, length-drop, take-append-drop}
 use lib.Seq.{getD-drop}
-use lib.Dec.{eqb, leb}
-use borrow.Author.Tests.{eqb-false}
-use Rattle.text.specs.Tests.{cases, both}
+use Rattle.text.specs.Tests.{cases}
 use Rattle.text.specs.Each.{All, all-nil, all-cons, all-append}
-use Rattle.text.specs.Utf8.{Scalar, decode, runOf, bytesOf, reads}
+use Rattle.text.specs.Utf8.{Scalar, decode, runOf, bytesOf}
 use Rattle.text.specs.Utf8.Runs.{run-valid, run-fits}
 use Rattle.text.specs.Utf8.Valid.{Valid}
 use Rattle.text.specs.Class.{Profile}
-use Rattle.text.specs.Width.{widthOf}
 use Rattle.text.specs.Cluster.{clusters, joinAll}
 use Rattle.text.specs.Cluster.Laws.{clusters-nil, clusters-none}
 use Rattle.text.specs.Cluster.Walk.{cluster-some}
-use Rattle.spans.specs.Sequence.{sgr, parse}
+use Rattle.spans.specs.Sequence.{sgr}
 use Rattle.spans.specs.declared.sgr.Sgr.{Sgr}
 use Rattle.spans.specs.Sgr.{parameters}
 use Rattle.spans.specs.Search.{EscapeRange, offsetFrom, escapes, readPart, readMatches, read}
-use Rattle.spans.specs.Spans.{Content, text, control, invalid, escape, Span, ClusterKind, plain, special, controlKind, clusterKind, spansAt, spans, aRecord, kindOf, matchOf, recordOf}
+use Rattle.spans.specs.Spans.{Content, text, control, invalid, escape, Span, ClusterKind, plain, special, clusterKind, spansAt, spans, aRecord, kindOf, matchOf, recordOf}
 use Rattle.spans.specs.Spans.Laws.{no-spans}
-use Rattle.spans.specs.Spans.FirstSpan.{isPlain, NoText, escape-special, kind-noText, plainCluster, plain-same, plainSize, plainText, skipped, step-text, step-special, step-invalid}
+use Rattle.spans.specs.Spans.FirstSpan.{isPlain, NoText, kind-noText, plainCluster, plain-same, plainSize, plainText, skipped, step-text, step-special, step-invalid}
+use Rattle.spans.specs.Spans.PlainClusters.{plain-wide}
 use Rattle.spans.specs.Spans.ContentLaw.{textIn, contentIn, contentOf, content}
 use Rattle.spans.specs.Spans.ContentKinds.{style-content, style-orders}
 use Rattle.text.specs.Cluster.Parts.{Wide, Ends, ends-none, ends-same, Clustered, more, clustered, first-before}
-use Rattle.text.specs.Overstrike.Bytes.{Byte}
+use Rattle.text.specs.Overstrike.Bytes.{Byte, byte-at}
 use Rattle.screen.specs.Drawn.{Line}
 use Rattle.screen.specs.Drawn.Texts.{Text}
 use Rattle.screen.specs.Drawn.Attributes.{KnownValue, orders-known}
 
--- ---- a cluster of no width is part of no text
-
-abbrev Special : ClusterKind → Type 0
-Special w = isPlain w ≡ false
-
-control-special : (g : List ℕ) (w : ClusterKind) → Special w → Special (controlKind g w)
-unfolding controlKind isPlain
-control-special [] w h = h
-control-special (b ∷ []) w h = both Special (leb b 0x1F || eqb b 0x7F) refl h
-control-special (b ∷ c ∷ g) w h = h
-
 module _ (P : Profile) where
-  flat-special : (g : List Scalar) → eqb (widthOf P g) 0 ≡ true → plainCluster P g ≡ false
-  unfolding plainCluster clusterKind isPlain
-  flat-special g e =
-      both Special (reads g (0x1B ∷ [])) (escape-special (parse []))
-      (both Special (reads g (0x0D ∷ 0x0A ∷ [])) refl (both Special (reads g (0x0A ∷ [])) refl (both Special (reads g (0x09 ∷ [])) refl (control-special (bytesOf g) _ (rw e refl)))))
-
-  plain-wide : (g : List Scalar) → plainCluster P g ≡ true → 1 ≤ widthOf P g
-  plain-wide g q = cases (eqb (widthOf P g) 0) (λ e. absurd (true≢false (sym q ∙ flat-special g e))) (λ e. omega (arith, eqb-false (widthOf P g) 0 e))
-
   -- a span that is a text has clusters that all have a width
   abbrev WideText : Content → Type 0
   WideText c = (m : Option ℕ) (s : List Scalar) → c ≡ text m s → Wide P (clusters P s)
@@ -74,7 +52,7 @@ module _ (P : Profile) where
   front (more {c = c} {x = x} {rest = rest} {gs = gs} e k) =
       let f = front k in
       cases (plainCluster P (c ∷ x))
-      (λ q. rw q (record { wide = rw (first-before P c x rest (plainText P gs) e (f .ends)) (all-cons (plain-wide (c ∷ x) q) (f .wide)); ends = ends-same P c (x ++ rest) (x ++ plainText P gs) }))
+      (λ q. rw q (record { wide = rw (first-before P c x rest (plainText P gs) e (f .ends)) (all-cons (plain-wide P (c ∷ x) q) (f .wide)); ends = ends-same P c (x ++ rest) (x ++ plainText P gs) }))
       (λ q. rw q (record { wide = rw (clusters-nil P) all-nil; ends = ends-none P (c ∷ (x ++ rest)) }))
 
   -- ---- spans, one after the other
@@ -137,11 +115,6 @@ module _ (P : Profile) where
 
   abbrev pub FitSpans : List Span → Type 0
   FitSpans ss = All (λ (x : Span). Fit (x .content)) ss
-
-  byte-at : {s : List ℕ} → All Byte s → (i : ℕ) → Byte (getD s i 0)
-  byte-at all-nil i = omega arith
-  byte-at (all-cons h a) zero = h
-  byte-at (all-cons h a) (suc i) = byte-at a i
 
   module _ (line : List ℕ) (l : Line line) (p n : ℕ) where
     -- the content c is what its record says of the line

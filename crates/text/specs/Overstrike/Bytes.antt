@@ -1,8 +1,9 @@
 -- A converted line of bytes is a line of bytes.
-use Prim.Native.Nat.{ℕ, _≤_}
+use Prim.Native.Nat.{ℕ, zero, suc, _≤_}
 use native.Mathlib.Omega.{arith}
 use mathlib.Core.Bool.{Bool, true, _&&_}
 use mathlib.Core.List.{List, [], _∷_, _++_, reverseAux}
+use lib.ListN.{getD}
 use lib.Dec.{T, leb, leb→le}
 use Rattle.text.specs.Tests.{and-T}
 use Rattle.text.specs.Each.{All, all-nil, all-cons, all-append, all-split}
@@ -17,6 +18,11 @@ use Rattle.text.specs.Tests.{both}
 
 abbrev pub Byte : ℕ → Type 0
 Byte b = b ≤ 0xFF
+
+pub byte-at : {s : List ℕ} → All Byte s → (i : ℕ) → Byte (getD s i 0)
+byte-at all-nil i = omega arith
+byte-at (all-cons h a) zero = h
+byte-at (all-cons h a) (suc i) = byte-at a i
 
 -- ---- scalars of bytes
 
