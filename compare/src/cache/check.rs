@@ -190,7 +190,7 @@ fn same_numbers(left: &[usize], expected: &[usize]) -> Result<(), String> {
     let places: Vec<usize> = (0..NUMBERS).filter(differs).collect();
     let first = places[0];
     Err(format!(
-        "kept wraps: number {first} is {}, not {}; {} numbers differ",
+        "kept wraps: number {first} is {}, not {}; {} of {NUMBERS} differ",
         left[first],
         expected[first],
         places.len()
