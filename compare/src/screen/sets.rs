@@ -2,7 +2,7 @@
 
 use super::changes::{attributes, change, clear, cursor_right, text, with_length};
 use super::lists::{altered, any_case, any_list, around_need, drawn_case, AnyCall, WIDTHS};
-use super::model::{BODY, CELL};
+use super::model::{BODY, CELL, LARGEST_WIDTH};
 use super::{sample, stated, Case};
 use crate::alphabets::{CLASSES, DRAWN, SHIFTED};
 use crate::calls;
@@ -158,9 +158,10 @@ fn few() -> Vec<Vec<u8>> {
 /// Each limit of the width, with nothing lent, a cell, and much.
 fn widths() -> Vec<Case> {
     let mut cases = Vec::new();
+    let most = CELL * LARGEST_WIDTH;
     for list in few() {
         for width in WIDTHS {
-            for size in [0, CELL, 4_000, CELL * 4_096 - 1, CELL * 4_096, CELL * 4_096 + 400] {
+            for size in [0, CELL, 4_000, most - 1, most, most + 400] {
                 cases.push(Case::new(&list, width, size));
             }
         }
