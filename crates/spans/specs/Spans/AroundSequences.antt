@@ -1,10 +1,10 @@
 -- Reading around a sequence: clusters inside it are dropped, and clusters before `ESC ]` are read alike, whatever stands behind it.
-use mathlib.Core.Path.{_≡_, refl, sym, ap, ap₂, _∙_}
+use mathlib.Core.Path.{_≡_, sym, ap, ap₂, _∙_}
 use Prim.Native.Nat.{ℕ, zero, suc, _+_, _-_, _≤_}
 use native.Mathlib.Nat.{add-zero}
 use native.Mathlib.Omega.{arith}
 use mathlib.Core.List.{List, [], _∷_, _++_}
-use mathlib.Core.Option.{Option}
+use mathlib.Core.Option.{Option, none}
 use lib.ListN.{length}
 use Rattle.text.specs.Utf8.{Scalar, ascii, decode, Piece, run, runs, bytesOf, reads}
 use Rattle.text.specs.Utf8.Laws.{pieceBytes}
@@ -12,7 +12,7 @@ use Rattle.text.specs.Class.{Profile}
 use Rattle.text.specs.Cluster.{clusters, joinAll}
 use Rattle.text.specs.Cluster.Laws.{join-append, join-length}
 use Rattle.spans.specs.Sequence.{Sequence, found, parse}
-use Rattle.spans.specs.Spans.{escape, Span, span, ClusterKind, plain, special, escapeKind, addText, addCluster, clusterKind, readFrom, readPieces, spansAt}
+use Rattle.spans.specs.Spans.{escape, Span, span, ClusterKind, plain, special, escapeKind, addText, addCluster, clusterKind, readFrom, readPieces, spansAt, spans}
 use Rattle.spans.specs.Sequence.Until.{parse-until}
 use Rattle.spans.specs.Spans.Inside.{AtMost, kind-most}
 use Rattle.spans.specs.Spans.Laws.{readPieces-append}
@@ -67,12 +67,12 @@ module _ (P : Profile) (m : Option ℕ) where
         let l = join-length g gs in
         read-before gs (p + length (bytesOf g)) (suc k - length (bytesOf g)) (omega arith)
 
-  -- lines that differ in one run, of as many bytes and read alike
-  pub spans-alike : (l k : List ℕ) (before after : List Piece) (s t : List Scalar) → runs (decode l) ≡ before ++ run s ∷ after → runs (decode k) ≡ before ++ run t ∷ after → length (bytesOf s) ≡ length (bytesOf t)
-      → ((p : ℕ) → readFrom P m p 0 (clusters P s) ≡ readFrom P m p 0 (clusters P t)) → spansAt P m 0 l ≡ spansAt P m 0 k
-  unfolding spansAt readPieces
-  spans-alike l k before after s t e f n g =
-      let p : ℕ = 0 + length (pieceBytes before) in
-      ap (readPieces P m 0) e ∙ readPieces-append P m 0 before (run s ∷ after)
-      ∙ ap (λ (x : List Span). readPieces P m 0 before ++ x) (ap₂ (λ (x : List Span) (j : ℕ). x ++ readPieces P m (p + j) after) (g p) n)
-      ∙ sym (ap (readPieces P m 0) f ∙ readPieces-append P m 0 before (run t ∷ after))
+-- lines that differ in one run, of as many bytes and read alike
+pub spans-alike : (P : Profile) (l m : List ℕ) (before after : List Piece) (s t : List Scalar) → runs (decode l) ≡ before ++ run s ∷ after → runs (decode m) ≡ before ++ run t ∷ after → length (bytesOf s) ≡ length (bytesOf t)
+    → ((p : ℕ) → readFrom P none p 0 (clusters P s) ≡ readFrom P none p 0 (clusters P t)) → spans P l ≡ spans P m
+unfolding spans spansAt readPieces
+spans-alike P l m before after s t e f n g =
+    let p : ℕ = 0 + length (pieceBytes before) in
+    ap (readPieces P none 0) e ∙ readPieces-append P none 0 before (run s ∷ after)
+    ∙ ap (λ (x : List Span). readPieces P none 0 before ++ x) (ap₂ (λ (x : List Span) (j : ℕ). x ++ readPieces P none (p + j) after) (g p) n)
+    ∙ sym (ap (readPieces P none 0) f ∙ readPieces-append P none 0 before (run t ∷ after))
