@@ -13,6 +13,7 @@ mod lines;
 mod options;
 mod orders;
 mod picture;
+mod readers;
 mod screen;
 mod sets;
 mod tally;
@@ -43,11 +44,14 @@ fn main() -> ExitCode {
     let good = if options.sample {
         if !options.cache {
             screen::print_sample();
+            readers::print_sample();
         }
         cache::print_sample();
         true
     } else if options.faults && options.cache {
         is_found(cache::try_faults(options.seed))
+    } else if options.faults && options.readers {
+        is_found(readers::try_faults(options.seed))
     } else if options.faults {
         plant_faults(&there, &options)
     } else if options.demand3 {
@@ -56,6 +60,8 @@ fn main() -> ExitCode {
         picture::run(&options)
     } else if options.cache {
         cache::run(&options)
+    } else if options.readers {
+        readers::run(&options)
     } else {
         compare_calls(&there, &options)
     };
@@ -67,7 +73,7 @@ fn main() -> ExitCode {
 }
 
 /// Plants faults behind the calls and, where none is singled out, in demand 3, in the row
-/// picture and behind the calls with kept wraps; whether all are found.
+/// picture, behind the calls with kept wraps and in the crew's view; whether all are found.
 fn plant_faults(calls: &[&'static str], options: &Options) -> bool {
     let missed = calls.iter().filter(|&&call| match call {
         screen::NAME => !screen::try_faults(),
@@ -78,6 +84,7 @@ fn plant_faults(calls: &[&'static str], options: &Options) -> bool {
         good &= demand3::try_faults(options.seed);
         good &= picture::try_faults(options.seed);
         good &= cache::try_faults(options.seed);
+        good &= readers::try_faults(options.seed);
     }
     is_found(good)
 }
@@ -87,8 +94,8 @@ fn is_found(all: bool) -> bool {
     all
 }
 
-/// Compares the calls and, where none is singled out, runs demand 3, the row picture and
-/// the calls with kept wraps; whether all is equal and holds.
+/// Compares the calls and, where none is singled out, runs demand 3, the row picture, the
+/// calls with kept wraps and the crew's view; whether all is equal and holds.
 fn compare_calls(calls: &[&'static str], options: &Options) -> bool {
     let start = Instant::now();
     let mut total = Tally::default();
@@ -98,7 +105,7 @@ fn compare_calls(calls: &[&'static str], options: &Options) -> bool {
     let seconds = start.elapsed().as_secs_f64();
     println!("total: {total}, {seconds:.1} s");
     let equal = is_equal(&total);
-    let further: [fn(&Options) -> bool; 3] = [demand3::run, picture::run, cache::run];
+    let further: [fn(&Options) -> bool; 4] = [demand3::run, picture::run, cache::run, readers::run];
     let broken = further.iter().filter(|run| !run(options));
     let holds = !options.is_whole() || broken.count() == 0;
     equal && holds

@@ -1,6 +1,6 @@
 //! The program's options.
 
-use crate::{cache, screen};
+use crate::{cache, readers, screen};
 use oracle::{Call, Case};
 use std::fs;
 use std::str::FromStr;
@@ -9,8 +9,9 @@ pub const USAGE: &str = "usage: compare [--call NAME]... [--quick] [--jobs N] [-
        compare --demand3 [--quick] [--jobs N] [--seed N]
        compare --picture [--quick] [--jobs N] [--seed N] [--trace]
        compare --cache [--quick] [--jobs N] [--seed N] [--trace]
-       compare [--picture | --cache] --cases FILE [--trace]
-       compare --faults [--cache | --call NAME]...
+       compare --readers [--quick] [--jobs N] [--seed N] [--trace]
+       compare [--picture | --cache | --readers] --cases FILE [--trace]
+       compare --faults [--cache | --readers | --call NAME]...
        compare --sample [--cache]";
 
 /// A quick run takes one case of so many.
@@ -33,7 +34,10 @@ pub struct Options {
     pub picture: bool,
     /// Runs the calls with kept wraps alone.
     pub cache: bool,
-    /// Prints the samples of screen_row and of the calls with kept wraps.
+    /// Runs the crew's view alone.
+    pub readers: bool,
+    /// Prints the samples of screen_row, of drawings for readers and of the calls with kept
+    /// wraps.
     pub sample: bool,
     /// Cases to compare in place of the sets.
     pub cases: Option<Cases>,
@@ -45,6 +49,8 @@ pub struct Cases {
     pub screen_rows: Vec<screen::Case>,
     /// Of calls with kept wraps.
     pub sequences: Vec<cache::Sequence>,
+    /// Drawings that name their reader.
+    pub views: Vec<readers::View>,
 }
 
 /// The names of the calls that are compared.
@@ -64,6 +70,7 @@ impl Options {
             demand3: false,
             picture: false,
             cache: false,
+            readers: false,
             sample: false,
             cases: None,
         };
@@ -79,6 +86,7 @@ impl Options {
                 "--demand3" => options.demand3 = true,
                 "--picture" => options.picture = true,
                 "--cache" => options.cache = true,
+                "--readers" => options.readers = true,
                 "--sample" => options.sample = true,
                 "--cases" => options.cases = Some(cases(&value()?)?),
                 _ => return Err(format!("no option {argument}")),
@@ -123,11 +131,13 @@ fn cases(file: &str) -> Result<Cases, String> {
     let text = fs::read_to_string(file).map_err(|e| format!("{file}: {e}"))?;
     let lines = text.lines().filter(|line| !line.starts_with(['#', ' ']));
     let questions = lines.map(|line| line.split(" = ").next().unwrap_or(line));
-    let (mut calls, mut screen_rows, mut sequences) = (Vec::new(), Vec::new(), Vec::new());
+    let (mut calls, mut screen_rows) = (Vec::new(), Vec::new());
+    let (mut sequences, mut views) = (Vec::new(), Vec::new());
     for question in questions {
         match question.split(' ').next() {
             Some(screen::NAME) => screen_rows.push(question),
             Some(cache::NAME | cache::RECORDED) => sequences.push(question),
+            Some(name) if readers::NAMES.contains(&name) => views.push(question),
             _ => calls.push(question),
         }
     }
@@ -135,6 +145,7 @@ fn cases(file: &str) -> Result<Cases, String> {
         calls: parsed(&calls)?,
         screen_rows: parsed(&screen_rows)?,
         sequences: parsed(&sequences)?,
+        views: parsed(&views)?,
     })
 }
 

@@ -38,7 +38,7 @@ impl Differences {
 pub struct Tally {
     pub cases: usize,
     /// How many were accepted, and how many refused by each question.
-    by_number: [usize; 12],
+    by_number: [usize; 19],
     pub differences: Differences,
 }
 
