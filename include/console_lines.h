@@ -74,20 +74,24 @@ console_answer console_cached_height(const uint8_t *line, size_t line_len, size_
  *   4  cursor right by one, no body
  * A colour is 4 bytes: 0 default; 1 and an index; 2, red, green and blue. matches is as
  * in console_read; current is the number of the match that is drawn as the current
- * one, CONSOLE_NO_MATCH for none. Both are refused by 1 to 4, by 8 where a cluster
- * begins left of the window and ends right of it, and by 9 where the list has fewer
- * bytes than the changes take. */
+ * one, CONSOLE_NO_MATCH for none. reader is CONSOLE_BENCH, or CONSOLE_CREW, to whom no
+ * link is named: place and length of the URI are 0 in every attribute body, and nothing
+ * else differs. Both are refused by 18 for another reader, then by 1 to 4, by 8 where a
+ * cluster begins left of the window and ends right of it, and by 9 where the list has
+ * fewer bytes than the changes take. */
 #define CONSOLE_NO_MATCH SIZE_MAX
+#define CONSOLE_BENCH 0
+#define CONSOLE_CREW 1
 
 /* The columns from start up to end; where start is above 0, its column has an arrow and
  * the window begins behind it. Refused by 5 where start or end is above 1,048,576, by 7
  * where start is above 0 and not below end. */
-console_answer console_draw_window(const uint8_t *line, size_t line_len, const size_t *matches, size_t matches_len, size_t current, size_t start, size_t end, uint8_t *conv, size_t conv_len, console_span *spans, size_t spans_len, uint8_t *list, size_t list_len);
+console_answer console_draw_window(size_t reader, const uint8_t *line, size_t line_len, const size_t *matches, size_t matches_len, size_t current, size_t start, size_t end, uint8_t *conv, size_t conv_len, console_span *spans, size_t spans_len, uint8_t *list, size_t list_len);
 
 /* count rows of the line from row first on, wrapped as by console_rows but with the
  * matches. Refused by 5 where the mode is above 4, first, count or width above 65,535,
  * or count 0. */
-console_answer console_draw_row(const uint8_t *line, size_t line_len, const size_t *matches, size_t matches_len, size_t current, size_t first, size_t count, size_t width, size_t mode, uint8_t *conv, size_t conv_len, console_span *spans, size_t spans_len, uint8_t *list, size_t list_len);
+console_answer console_draw_row(size_t reader, const uint8_t *line, size_t line_len, const size_t *matches, size_t matches_len, size_t current, size_t first, size_t count, size_t width, size_t mode, uint8_t *conv, size_t conv_len, console_span *spans, size_t spans_len, uint8_t *list, size_t list_len);
 
 /* The receiving side: a row of `width` columns, 1 to 4,096, blank at first, after the
  * changes of a list such as a drawing leaves. out holds, for each cell, a 4-byte

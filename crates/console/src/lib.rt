@@ -95,6 +95,7 @@ pub extern "C" fn console_cached_height(
 
 #[no_mangle]
 pub extern "C" fn console_draw_window(
+    reader: usize,
     line: &[u8],
     matches: &[usize],
     current: usize,
@@ -104,13 +105,24 @@ pub extern "C" fn console_draw_window(
     spans: &mut [Span],
     list: &mut [u8],
 ) -> Answer
-    ensures { λ r. ⌜ drawnAs r (now (conv .exit)) (now (spans .exit)) (now (list .exit)) ≡ windowCall profile01 (length (now (conv .entry))) (length (now (spans .entry))) (length (now (list .entry))) start end (currentOf current) (now (matches .entry)) (now (line .entry)) ⌝ }
+    ensures { λ r. ⌜ drawnAs r (now (conv .exit)) (now (spans .exit)) (now (list .exit)) ≡ windowCall profile01 reader (length (now (conv .entry))) (length (now (spans .entry))) (length (now (list .entry))) start end (currentOf current) (now (matches .entry)) (now (line .entry)) ⌝ }
 {
-    drawing::draw_window(line, matches, current, start, end, conv, spans, list)
+    drawing::draw_window(
+        reader,
+        line,
+        matches,
+        current,
+        start,
+        end,
+        conv,
+        spans,
+        list,
+    )
 }
 
 #[no_mangle]
 pub extern "C" fn console_draw_row(
+    reader: usize,
     line: &[u8],
     matches: &[usize],
     current: usize,
@@ -122,9 +134,10 @@ pub extern "C" fn console_draw_row(
     spans: &mut [Span],
     list: &mut [u8],
 ) -> Answer
-    ensures { λ r. ⌜ drawnAs r (now (conv .exit)) (now (spans .exit)) (now (list .exit)) ≡ rowCall profile01 (length (now (conv .entry))) (length (now (spans .entry))) (length (now (list .entry))) first count width mode (currentOf current) (now (matches .entry)) (now (line .entry)) ⌝ }
+    ensures { λ r. ⌜ drawnAs r (now (conv .exit)) (now (spans .exit)) (now (list .exit)) ≡ rowCall profile01 reader (length (now (conv .entry))) (length (now (spans .entry))) (length (now (list .entry))) first count width mode (currentOf current) (now (matches .entry)) (now (line .entry)) ⌝ }
 {
     drawing::draw_row(
+        reader,
         line,
         matches,
         current,
