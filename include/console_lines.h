@@ -1,9 +1,10 @@
 /* Console lines: the calls of the static library libconsole.a.
  *
- * Each call starts from the raw line and is lent its memory. It returns 0 and a
- * count, or the number of the question that refuses it and 0. Every byte lent
- * for writing is written: what the call has for it and zeros after it, or zeros
- * throughout where it is refused. */
+ * Each call starts from the raw line (console_screen_row from a change list,
+ * console_write_cells from cells) and is lent its memory. It returns 0 and a count, or
+ * the number of the question that refuses it and 0. Every byte lent for writing is
+ * written: what the call has for it and zeros after it, or zeros throughout where it
+ * is refused. */
 #ifndef CONSOLE_LINES_H
 #define CONSOLE_LINES_H
 
@@ -97,6 +98,15 @@ console_answer console_draw_row(const uint8_t *line, size_t line_len, const size
  * where a text would pass the last column; by 9 where out is too short. A drawing's list
  * is never refused by 10, and never by 11 in the columns that it was drawn into. */
 console_answer console_screen_row(const uint8_t *list, size_t list_len, size_t width, uint8_t *out, size_t out_len);
+
+/* A report for printers that take overstrike. A cell is two bytes: one 20 to 7E except
+ * 5F, then 0 normal, 1 bold, 2 underline or 3 both, the number and not its digit. Bold
+ * is written as the byte, 08, the byte; underline as 5F, 08, the byte; both as 5F, 08,
+ * the byte, 08, the byte. The count is the written bytes. Refused by 16 where any cell
+ * has another byte or style, or the last is half a cell; by 1 where more than 4,096
+ * bytes would be written; by 17 where out is too short. console_convert turns what was
+ * written into the cells' bytes with style orders between them, ending in normal. */
+console_answer console_write_cells(const uint8_t *cells, size_t cells_len, uint8_t *out, size_t out_len);
 
 #ifdef __cplusplus
 }

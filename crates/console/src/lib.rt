@@ -2,8 +2,8 @@
 ghost use mathlib.Core.Path.{_≡_};
 ghost use lib.ListN.{length};
 ghost use Rattle.text.specs.Width.{profile01};
-ghost use Rattle.text.specs.Calls.{convertCall};
-ghost use Rattle.text.specs.Calls.Code.{converted};
+ghost use Rattle.text.specs.Calls.{convertCall, writeCellsCall};
+ghost use Rattle.text.specs.Calls.Code.{converted, written};
 ghost use Rattle.spans.specs.Calls.{readCall};
 ghost use Rattle.spans.specs.Calls.Contracts.{readAs};
 ghost use Rattle.rows.specs.Calls.{rowsCall, heightCall};
@@ -143,4 +143,11 @@ pub extern "C" fn console_screen_row(list: &[u8], width: usize, out: &mut [u8]) 
     ensures { λ r. ⌜ shown r (now (out .exit)) ≡ screenCall profile01 width (length (now (out .entry))) (now (list .entry)) ⌝ }
 {
     screen::screen_row(list, width, out)
+}
+
+#[no_mangle]
+pub extern "C" fn console_write_cells(cells: &[u8], out: &mut [u8]) -> Answer
+    ensures { λ r. ⌜ written r (now (out .exit)) ≡ writeCellsCall (length (now (out .entry))) (now (cells .entry)) ⌝ }
+{
+    text::write_cells(cells, out)
 }
