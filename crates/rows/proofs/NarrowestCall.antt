@@ -30,7 +30,7 @@ use Rattle.rows.specs.Wrap.{rowsOf}
 use Rattle.rows.specs.Wrap.Laws.{rows-of-spans}
 use Rattle.rows.specs.Narrowest.{firstFrom, triedOf, modeRowsAndWidth, Narrowed, takesAtMost, narrowest, narrowestCall}
 use Rattle.rows.specs.Narrowest.Laws.{nothing, narrowest-refused, narrowest-five, narrowest-accepted, first-alike}
-use Rattle.rows.specs.Widths.{narrowedAs, refusal, planOf, widths, triedFrom, fitsAt, WidthsRoom}
+use Rattle.rows.specs.Widths.{narrowedAs, decided, planOf, widths, triedFrom, fitsAt, WidthsRoom}
 use Rattle.rows.specs.Widths.Laws.{tried-first}
 use Rattle.rows.specs.declared.WidthAnswer.{WidthAnswer}
 use Rattle.rows.specs.declared.widths.WidthRequest.{WidthRequest}
@@ -52,7 +52,7 @@ module _ (size places mode wanted greatest : ℕ) (line : List ℕ) (a : Answer)
   ss = spans profile01 s
 
   abbrev number : ℕ
-  number = refusal (a .number) mode wanted greatest
+  number = decided (a .number) mode wanted greatest
 
   abbrev plan : WidthPlan
   plan = planOf number mode wanted greatest size
@@ -61,15 +61,15 @@ module _ (size places mode wanted greatest : ℕ) (line : List ℕ) (a : Answer)
   asked = modeRowsAndWidth mode wanted greatest
 
   refused-first : (r : ℕ) → a .number ≡ suc r → number ≡ suc r
-  unfolding refusal
+  unfolding decided
   refused-first r e = rw (e, lt-ltb 0 (suc r) (omega arith))
 
   refused-five : a .number ≡ 0 → asked ≡ false → number ≡ 5
-  unfolding refusal
+  unfolding decided
   refused-five e f = rw (e, f)
 
   not-refused : a .number ≡ 0 → asked ≡ true → number ≡ 0
-  unfolding refusal
+  unfolding decided
   not-refused e f = rw (e, f)
 
   few-widths : (m : ℕ) → a .number ≡ m → counted greatest number ≤ 65535

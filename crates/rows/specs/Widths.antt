@@ -22,8 +22,8 @@ abbrev pub narrowedAs : WidthAnswer → List ℕ → List Record → Narrowed
 narrowedAs a conv spans = record { number = a .number; count = a .count; tried = a .tried; conv = conv; spans = spans }
 
 -- the number that `read` decides, or else question 5
-unfoldable pub refusal : (read mode wanted greatest : ℕ) → ℕ
-refusal read mode wanted greatest = cond (ltb 0 read) read (cond (modeRowsAndWidth mode wanted greatest) 0 5)
+unfoldable pub decided : (read mode wanted greatest : ℕ) → ℕ
+decided read mode wanted greatest = cond (ltb 0 read) read (cond (modeRowsAndWidth mode wanted greatest) 0 5)
 
 unfoldable pub planOf : (number mode wanted greatest conv : ℕ) → WidthPlan
 unfolding counted

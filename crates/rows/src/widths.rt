@@ -11,7 +11,7 @@ ghost use Prim.Native.Nat.{_<_};
 ghost use lib.ListN.{take};
 ghost use Rattle.text.specs.Calls.{counted};
 ghost use Rattle.rows.specs.Narrowest.{modeRowsAndWidth};
-ghost use Rattle.rows.specs.Widths.{refusal, planOf, nextWrapping, WidthLeft, widthTried, WidthsRoom, fitsAt, triedFrom};
+ghost use Rattle.rows.specs.Widths.{decided, planOf, nextWrapping, WidthLeft, widthTried, WidthsRoom, fitsAt, triedFrom};
 
 // How to wrap, how many rows are wanted, and the greatest width to try.
 pub struct WidthRequest {
@@ -43,8 +43,8 @@ fn mode_rows_and_width(mode: usize, wanted: usize, greatest: usize) -> bool
 }
 
 // The number: what `read` answered, then question 5.
-fn refuse(read: usize, mode: usize, wanted: usize, greatest: usize) -> usize
-    ensures { λ r. ⌜ r ≡ refusal read mode wanted greatest ⌝ }
+fn decide(read: usize, mode: usize, wanted: usize, greatest: usize) -> usize
+    ensures { λ r. ⌜ r ≡ decided read mode wanted greatest ⌝ }
 {
     if 0 < read {
         return read;
@@ -70,9 +70,9 @@ pub(crate) fn plan(
     greatest: usize,
     conv: usize,
 ) -> WidthPlan
-    ensures { λ r. ⌜ r ≡ planOf (refusal read mode wanted greatest) mode wanted greatest conv ⌝ }
+    ensures { λ r. ⌜ r ≡ planOf (decided read mode wanted greatest) mode wanted greatest conv ⌝ }
 {
-    let number = refuse(read, mode, wanted, greatest);
+    let number = decide(read, mode, wanted, greatest);
     let kept = counted(usize::MAX, number);
     let widths = counted(greatest, number);
     let len = smaller(conv, 32768);

@@ -3,8 +3,8 @@ use Rattle.rows.proofs.TriedWidths.{plan-is}
 use Rattle.rows.proofs.widths.plan.Statement.{statement}
 use Rattle.rows.proofs.widths.plan.Tie as tie
 
-refuse-requires : tie.Need-refuse-requires
-refuse-requires c κs = search needs
+decide-requires : tie.Need-decide-requires
+decide-requires c κs = search needs
 
 counted-requires : tie.Need-counted-requires
 counted-requires c κs = search needs
@@ -20,4 +20,4 @@ returns c = search plan-is
 
 pub plan-spec : {M : Type 1} → statement M
 plan-spec =
-    tie.close (tie.spec refuse-requires counted-requires counted-requires-2 smaller-requires returns)
+    tie.close (tie.spec decide-requires counted-requires counted-requires-2 smaller-requires returns)
