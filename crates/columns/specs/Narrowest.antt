@@ -5,9 +5,11 @@ use Prim.Native.Nat.{ℕ, _≤_, _<_, max}
 use mathlib.Core.List.{List}
 use lib.ListN.{length}
 use Rattle.text.specs.Class.{Profile}
-use Rattle.spans.specs.Spans.{Span}
+use Rattle.text.specs.Overstrike.{convert}
+use Rattle.spans.specs.Spans.{Span, spans}
 use Rattle.rows.specs.Rows.{Mode, graphemeBoundary, wordBoundary, eight, rows}
-use Rattle.rows.specs.Narrowest.{triedOf, narrowest}
+use Rattle.rows.specs.Calls.{modeOf}
+use Rattle.rows.specs.Narrowest.{triedOf, narrowest, narrowestCall}
 use Rattle.columns.specs.Columns.{lastColumn}
 pub mod Proof
 pub mod Examples
@@ -33,3 +35,10 @@ abbrev pub NarrowestWidth : Profile → Type 0
 NarrowestWidth P =
     (mode : Mode) → (mode ≡ graphemeBoundary) ⊎ (mode ≡ wordBoundary) → (wanted greatest : ℕ) → 1 ≤ wanted → 1 ≤ greatest
     → (ss : List Span) → Narrowest P mode wanted greatest ss (narrowest P mode wanted greatest ss)
+
+-- an accepted call `narrowest`: its count is such a width of the line's spans, and so many widths were tried
+abbrev pub NarrowestAnswer : Profile → Type 0
+NarrowestAnswer P =
+    (conv places mode wanted greatest : ℕ) (line : List ℕ) → narrowestCall P conv places mode wanted greatest line .number ≡ 0
+    → Narrowest P (modeOf mode) wanted greatest (spans P (convert P line)) (narrowestCall P conv places mode wanted greatest line .count)
+    × (narrowestCall P conv places mode wanted greatest line .tried ≡ triedOf greatest (narrowestCall P conv places mode wanted greatest line .count))

@@ -5,7 +5,7 @@ use mathlib.Core.List.{List, [], _∷_}
 use Rattle.text.specs.Width.{profile01}
 use Rattle.text.specs.Overstrike.{convert}
 use Rattle.spans.specs.Spans.{Span, spans}
-use Rattle.rows.specs.Rows.{Row, row, Mode, graphemeBoundary, wordBoundary, eight, rows}
+use Rattle.rows.specs.Rows.{row, graphemeBoundary, wordBoundary, eight, rows}
 use Rattle.columns.specs.Fewest.{units}
 
 abbrev read : List ℕ → List Span

@@ -1,11 +1,11 @@
 -- Units taken one after the other, each into the present row where it fits: no list of rows cut between them is shorter.
-use mathlib.Core.Path.{_≡_, refl, sym, subst}
+use mathlib.Core.Path.{_≡_, refl, subst}
 use Prim.Native.Nat.{ℕ, suc, _+_, _-_, _≤_, _<_}
 use native.Mathlib.Omega.{arith}
 use mathlib.Core.List.{List, [], _∷_}
 use lib.ListN.{length}
 use lib.Dec.{leb, ltb}
-use borrow.Author.Tests.{leb-true, leb-false, le-leb, lt-leb}
+use borrow.Author.Tests.{leb-true, leb-false}
 use Rattle.text.specs.Tests.{cases, both}
 use Rattle.text.specs.Each.{All, all-cons, all-map}
 use Rattle.rows.specs.Rows.{Row, row, Wrap, wrap, unbroken, lastRow}

@@ -1,22 +1,26 @@
 -- U13's laws, proved for any profile.
-use mathlib.Core.Path.{_≡_, refl, ap, _∙_, subst}
+use mathlib.Core.Path.{_≡_, refl, sym, ap, subst}
 use mathlib.Core.Logic.{_⊎_, inl, inr}
 use Prim.Native.Nat.{ℕ, zero, suc, _+_, _≤_, _<_, max}
 use native.Mathlib.Omega.{arith}
-use mathlib.Core.Bool.{Bool, true, false}
-use mathlib.Core.List.{List}
+use mathlib.Core.Bool.{Bool, true, false, _&&_}
+use mathlib.Core.List.{List, []}
 use lib.ListN.{length}
 use lib.Dec.{eqb, leb}
-use borrow.Author.Tests.{eqb-true, eqb-false, leb-true, leb-false, le-leb}
-use Rattle.text.specs.Tests.{cases}
+use borrow.Author.Tests.{eqb-true, eqb-false, leb-true, leb-false}
+use Rattle.text.specs.Tests.{cases, and-T, true-T, is-true, in-range}
 use Rattle.text.specs.Class.{Profile}
 use Rattle.text.specs.Width.{profile01}
-use Rattle.spans.specs.Spans.{Span}
+use Rattle.text.specs.Overstrike.{convert}
+use Rattle.spans.specs.Spans.{Span, spans}
+use Rattle.spans.specs.Calls.{readCall}
 use Rattle.rows.specs.Rows.{Row, Mode, graphemeBoundary, wordBoundary, eight, rows}
-use Rattle.rows.specs.Narrowest.{firstFrom, triedOf, takesAtMost, narrowest}
+use Rattle.rows.specs.Calls.{modeOf}
+use Rattle.rows.specs.Narrowest.{firstFrom, triedOf, modeRowsAndWidth, Narrowed, takesAtMost, narrowest, narrowestCall}
+use Rattle.rows.specs.Narrowest.Laws.{narrowest-refused, narrowest-five, narrowest-accepted}
 use Rattle.columns.specs.Columns.{lastColumn}
 use Rattle.columns.specs.Columns.OneRow.{one-row}
-use Rattle.columns.specs.Narrowest.{Narrowest, NarrowestWidth}
+use Rattle.columns.specs.Narrowest.{Narrowest, NarrowestWidth, NarrowestAnswer}
 
 -- ---- the first number that passes
 
@@ -93,5 +97,41 @@ unfolding narrowest
 narrowestWidth P mode m wanted greatest h k ss =
     let e = one P mode m (most P mode wanted greatest ss) ss (omega arith) in laws P mode wanted greatest ss (omega arith) k (first (takesAtMost P wanted mode ss) greatest 1)
 
-pub narrowestWidth01 : NarrowestWidth profile01
-narrowestWidth01 = narrowestWidth profile01
+-- ---- of an accepted call
+
+mode-wraps : (mode : ℕ) → 1 ≤ mode → mode ≤ 2 → (modeOf mode ≡ graphemeBoundary) ⊎ (modeOf mode ≡ wordBoundary)
+unfolding modeOf
+mode-wraps zero h k = absurd (omega arith)
+mode-wraps (suc zero) h k = inl refl
+mode-wraps (suc (suc zero)) h k = inr refl
+mode-wraps (suc (suc (suc n))) h k = absurd (omega arith)
+
+module _ (P : Profile) (conv places mode wanted greatest : ℕ) (line : List ℕ) where
+  abbrev call : Narrowed
+  call = narrowestCall P conv places mode wanted greatest line
+
+  abbrev ss : List Span
+  ss = spans P (convert P line)
+
+  abbrev Said : Narrowed → Type 0
+  Said c = Narrowest P (modeOf mode) wanted greatest ss (c .count) × (c .tried ≡ triedOf greatest (c .count))
+
+  asked : modeRowsAndWidth mode wanted greatest ≡ true → Narrowest P (modeOf mode) wanted greatest ss (narrowest P (modeOf mode) wanted greatest ss)
+  asked e =
+      let t = and-T (leb 1 mode && leb mode 2) ((leb 1 wanted && leb wanted 65535) && (leb 1 greatest && leb greatest 65535)) (true-T e) in
+      let u = and-T (leb 1 wanted && leb wanted 65535) (leb 1 greatest && leb greatest 65535) (t .1) in
+      let m = in-range 1 2 mode (is-true _ (t .0)) in
+      narrowestWidth P (modeOf mode) (mode-wraps mode (m .0) (m .1)) wanted greatest (in-range 1 65535 wanted (is-true _ (u .0)) .0) (in-range 1 65535 greatest (is-true _ (u .1)) .0) ss
+
+  said : (n : ℕ) → readCall P conv places [] line .number ≡ n → call .number ≡ 0 → Said call
+  said (suc r) e z = absurd (let k = ap (λ (c : Narrowed). c .number) (narrowest-refused P conv places mode wanted greatest line r e) in omega arith)
+  said zero e z =
+      cases (modeRowsAndWidth mode wanted greatest)
+      (λ a. subst Said (sym (narrowest-accepted P conv places mode wanted greatest line e a)) (asked a, refl))
+      (λ a. absurd (let k = ap (λ (c : Narrowed). c .number) (narrowest-five P conv places mode wanted greatest line e a) in omega arith))
+
+pub narrowestAnswer : (P : Profile) → NarrowestAnswer P
+narrowestAnswer P conv places mode wanted greatest line z = said P conv places mode wanted greatest line (readCall P conv places [] line .number) refl z
+
+pub narrowestAnswer01 : NarrowestAnswer profile01
+narrowestAnswer01 = narrowestAnswer profile01
