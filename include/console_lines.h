@@ -52,6 +52,20 @@ console_answer console_rows(const uint8_t *line, size_t line_len, size_t width, 
 /* As console_rows, with no row list and no question 6: the count is the rows. */
 console_answer console_height(const uint8_t *line, size_t line_len, size_t width, size_t mode, uint8_t *conv, size_t conv_len, console_span *spans, size_t spans_len);
 
+/* The narrowest screen that will do: the least width from 1 up to greatest at which the
+ * line takes at most `wanted` rows, found by trying one width after the other; conv and
+ * spans are left as by console_height. The count is the width, 0 where there is none;
+ * tried is how many widths were tried: the width found, or greatest. Refused by 1, 2 and
+ * 4, by 5 where the mode is not 1 or 2, or wanted or greatest not 1 to 65,535; tried is
+ * then 0. */
+typedef struct console_width_answer {
+    size_t number;
+    size_t count;
+    size_t tried;
+} console_width_answer;
+
+console_width_answer console_narrowest(const uint8_t *line, size_t line_len, size_t mode, size_t wanted, size_t greatest, uint8_t *conv, size_t conv_len, console_span *spans, size_t spans_len);
+
 /* As console_rows and console_height, for a line that is asked again and again: up to
  * four wraps of it, of at most 1,024 rows each, are kept in wraps, found by width and
  * mode, the least recently used giving way. A kept wrap is answered as it is kept, and

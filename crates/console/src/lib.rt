@@ -8,6 +8,8 @@ ghost use Rattle.spans.specs.Calls.{readCall};
 ghost use Rattle.spans.specs.Calls.Contracts.{readAs};
 ghost use Rattle.rows.specs.Calls.{rowsCall, heightCall};
 ghost use Rattle.rows.specs.Calls.Contracts.{wrappedAs};
+ghost use Rattle.rows.specs.Narrowest.{narrowestCall};
+ghost use Rattle.rows.specs.Widths.{narrowedAs};
 ghost use Rattle.cache.specs.Calls.{cachedRowsCall, cachedHeightCall};
 ghost use Rattle.cache.specs.Calls.Contracts.{cachedRowsAs, cachedHeightAs};
 ghost use Rattle.screen.specs.Calls.{screenCall};
@@ -15,6 +17,7 @@ ghost use Rattle.screen.specs.Calls.Code.{shown};
 ghost use Rattle.drawing.specs.Calls.{windowCall, rowCall};
 ghost use Rattle.drawing.specs.Rendering.{currentOf};
 ghost use Rattle.drawing.specs.Requests.{drawnAs};
+use rows::WidthAnswer;
 use spans::Span;
 use text::Answer;
 
@@ -62,6 +65,20 @@ pub extern "C" fn console_height(
     ensures { λ r. ⌜ readAs r (now (conv .exit)) (now (spans .exit)) ≡ heightCall profile01 (length (now (conv .entry))) (length (now (spans .entry))) width mode (now (line .entry)) ⌝ }
 {
     rows::height(line, width, mode, conv, spans)
+}
+
+#[no_mangle]
+pub extern "C" fn console_narrowest(
+    line: &[u8],
+    mode: usize,
+    wanted: usize,
+    greatest: usize,
+    conv: &mut [u8],
+    spans: &mut [Span],
+) -> WidthAnswer
+    ensures { λ r. ⌜ narrowedAs r (now (conv .exit)) (now (spans .exit)) ≡ narrowestCall profile01 (length (now (conv .entry))) (length (now (spans .entry))) mode wanted greatest (now (line .entry)) ⌝ }
+{
+    rows::narrowest(line, mode, wanted, greatest, conv, spans)
 }
 
 #[no_mangle]

@@ -7,6 +7,7 @@ use Rattle.text.specs.Width.{widthOf}
 use Rattle.spans.specs.Spans.{Content, text, control, invalid, unprintable, escape, tab, crlf, lf, Span}
 use Rattle.rows.specs.Rows.{Row, row}
 pub mod Wrapping
+pub mod OneRow
 
 -- an Unprintable span takes `count` columns
 module _ (P : Profile) (count : List Scalar → ℕ) where

@@ -19,7 +19,7 @@ use Rattle.spans.specs.Spans.{Content, text, control, invalid, unprintable, esc
 use Rattle.rows.specs.Words.{Word, words}
 use Rattle.rows.specs.Words.Laws.{firstWord, restWords, first-word-all, words-first}
 use Rattle.rows.specs.Rows.{Row, row, Wrap, wrap, fitsRow, unbroken, tabbed, pushed, byClusters, wordEnd, longWord, oneWord, byWords, splitText, split, splits, lastRow, wrapped}
-use Rattle.picture.specs.Columns.{spanColumns, lastColumnFrom, lastColumn, EndToEnd}
+use Rattle.columns.specs.Columns.{spanColumns, lastColumnFrom, lastColumn, EndToEnd}
 
 -- ---- widths side by side
 
@@ -50,7 +50,7 @@ module _ (P : Profile) where
   abbrev pub behind : ℕ → Word → ℕ
   behind p v = p + widthOf P (v .word) + widthOf P (v .sep)
 
-  unfoldable wordsWidth : List Word → ℕ
+  unfoldable pub wordsWidth : List Word → ℕ
   wordsWidth [] = 0
   wordsWidth (v ∷ vs) = widthOf P (v .word) + widthOf P (v .sep) + wordsWidth vs
 
@@ -68,7 +68,7 @@ module _ (P : Profile) where
       rw (← i) (omega (arith, words-sum vs r (cc), ap (widthOf P) (first-word-all (c ∷ s)), width-append P (w ++ t) r, width-append P w t))
 
   -- words and their separators are as wide as their text
-  words-width : (s : List Scalar) → wordsWidth (words s) ≡ widthOf P s
+  pub words-width : (s : List Scalar) → wordsWidth (words s) ≡ widthOf P s
   words-width s = words-sum (words s) s refl
 
 module _ (F : ℕ → Type 0) where
