@@ -21,5 +21,6 @@ pub(crate) fn are_fields(body: &[u8]) -> bool
     let flags = byte_at(body, 3) <= 31;
     let font = (byte_at(body, 0) <= 2)
         & ((byte_at(body, 1) <= 2) & ((byte_at(body, 2) <= 2) & flags));
-    font & (is_color(body, 4) & (is_color(body, 8) & is_color(body, 12)))
+    let alignment = byte_at(body, 24) <= 2;
+    font & (is_color(body, 4) & (is_color(body, 8) & (is_color(body, 12) & alignment)))
 }
