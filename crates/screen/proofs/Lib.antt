@@ -10,4 +10,5 @@ pub mod Texts
 pub mod Changes
 pub mod Drawing
 pub mod Bytes
+pub mod Answers
 pub mod RowCall

@@ -23,7 +23,7 @@ use Rattle.drawing.specs.Attributes.{plain, arrows}
 use Rattle.drawing.specs.Change as change
 use Rattle.drawing.specs.Change.{Change, allAttributes, clearToEnd, cursorRight, colorBytes, flag, flagByte, attributeBytes, kindOf, body, encode}
 use Rattle.screen.specs.Records.{records}
-use Rattle.screen.specs.Records.Laws.{Short, recordOf, records-encode}
+use Rattle.screen.specs.Records.Laws.{Short, recordOf, records-changes}
 use Rattle.screen.specs.WellFormed.{color, fields, utf8, ofKind, wellFormed, clustersIn, isBackspace, wide, wideTexts}
 use Rattle.screen.specs.Row.{bodySize}
 use Rattle.text.specs.Cluster.Parts.{Wide}
@@ -141,7 +141,7 @@ module _ (P : Profile) where
         (all-cons (sendable-formed (arrow-sendable 0x3E refl)) (all-cons (sendable-formed (attributes plain-limits)) all-nil))))
 
     pub list-records : {cs : List Change} → DrawnList cs → records 4 (encode cs) ≡ map recordOf cs
-    list-records d = records-encode (all-map (λ c w. w .short) (list-formed d))
+    list-records d = records-changes (all-map (λ c w. w .short) (list-formed d))
 
     formed : {cs : List Change} → All WellFormedChange cs → (wellFormed (λ n. eqb n bodySize) (map recordOf cs) ≡ true) × (wideTexts P (map recordOf cs) ≡ true)
     unfolding wellFormed wideTexts

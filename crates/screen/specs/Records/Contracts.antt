@@ -5,7 +5,7 @@ use Prim.Native.Nat.{ℕ, _+_, _<_, _≤_}
 use mathlib.Core.List.{List}
 use lib.ListN.{length, take, drop}
 use lib.Dec.{leb}
-use Rattle.screen.specs.Records.{littleEndian}
+use Rattle.screen.specs.Records.{littleEndian, Record}
 use Rattle.screen.specs.declared.records.Head.{Head}
 
 -- a length of n bytes and a kind of 2
@@ -14,6 +14,10 @@ unfolding littleEndian
 headAt n list at =
     let size : ℕ = littleEndian (take n (drop at list)) in
     record { kind = littleEndian (take 2 (drop (at + n) list)); start = at + n + 2; len = size; whole = leb (at + n + 2 + size) (length list) }
+
+-- the record that a head begins
+abbrev pub recordOf : List ℕ → Head → Record
+recordOf list h = record { whole = h .whole; kind = h .kind; body = take (h .len) (drop (h .start) list) }
 
 -- a place in the list, and a length of 2 or 4 bytes
 pub record HeadReady (list : List ℕ) (at size : ℕ) : Type 0 where
