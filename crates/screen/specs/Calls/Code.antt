@@ -16,13 +16,21 @@ written r l = record { number = r .number; count = r .count; out = l }
 abbrev pub refusal : ℕ → ℕ → Written
 refusal r room = record { number = r; count = 0; out = replicate room 0 }
 
+-- bytes, and zeros after them
+abbrev pub accepted : List ℕ → ℕ → Written
+accepted bytes room = record { number = 0; count = length bytes; out = bytes ++ replicate (room - length bytes) 0 }
+
+-- bytes, where there is room for them
+abbrev pub inRoom : List ℕ → ℕ → Written
+inRoom bytes room = cond (leb (length bytes) room) (accepted bytes room) (refusal 9 room)
+
 -- the first n bytes of a buffer, where it has them all
 abbrev pub kept : List ℕ → ℕ → Written
 kept l n = cond (leb n (length l)) (record { number = 0; count = n; out = take n l ++ replicate (length l - n) 0 }) (refusal 9 (length l))
 
--- bytes, where there is room for them
-abbrev pub inRoom : List ℕ → ℕ → Written
-inRoom bytes room = cond (leb (length bytes) room) (record { number = 0; count = length bytes; out = bytes ++ replicate (room - length bytes) 0 }) (refusal 9 room)
+-- what an accepted call leaves
+abbrev pub leftBy : Written → List ℕ
+leftBy w = take (w .count) (w .out)
 
 unfoldable pub shownOf : Option Screen → ℕ → Written
 unfolding rowBytes

@@ -1,11 +1,14 @@
 -- A call's answer, by its questions; that of `screen_row`, by the screen that its list leaves.
 use mathlib.Core.Path.{_≡_, refl, sym, ap, _∙_}
-use Prim.Native.Nat.{ℕ, suc}
+use Prim.Native.Nat.{ℕ, zero, suc, _-_, _≤_}
+use native.Mathlib.Omega.{arith}
 use mathlib.Core.Bool.{Bool, true, false, not, _&&_}
 use mathlib.Core.Option.{some}
 use mathlib.Core.List.{List, [], _∷_, _++_}
-use lib.ListN.{length}
+use lib.ListN.{length, replicate}
+use lib.Seq.{take-append-seam}
 use lib.Dec.{T, leb}
+use borrow.Author.Tests.{le-leb}
 use Rattle.text.specs.Tests.{cases}
 use Rattle.text.specs.Class.{Profile}
 use Rattle.text.specs.Calls.{Question, ask, decide, lent, counted}
@@ -14,7 +17,7 @@ use Rattle.screen.specs.Records.{Record, records}
 use Rattle.screen.specs.WellFormed.{wellFormed, wideTexts}
 use Rattle.screen.specs.Row.{Screen, blankScreen, rowBytes}
 use Rattle.screen.specs.Calls.{Written, writing, screenOf, screenCall}
-use Rattle.screen.specs.Calls.Code.{refusal, inRoom, shownOf}
+use Rattle.screen.specs.Calls.Code.{refusal, accepted, inRoom, leftBy, shownOf}
 use Rattle.screen.specs.Screen.{formed, ofBodies, recordsOn}
 
 module _ (room : ℕ) (bytes : List ℕ) (qs : List Question) where
@@ -43,6 +46,22 @@ module _ (room : ℕ) (bytes : List ℕ) (qs : List Question) where
   pub writing-accepted : T (numbered qs) → decide qs ≡ 0 → writing room bytes qs ≡ inRoom bytes room
   writing-accepted t e = by-questions ∙ ap by (decided-behind qs last t e) ∙ by-last
 
+  -- an accepted call: its questions, and what it leaves
+  pub writing-yes : writing room bytes qs .number ≡ 0 → decide qs ≡ 0
+  unfolding writing
+  writing-yes e = yes (decide qs) refl
+    where
+      yes : (n : ℕ) → decide qs ≡ n → decide qs ≡ 0
+      yes zero d = d
+      yes (suc r) d = absurd (omega (arith, decided-before qs last r d, e))
+
+  pub writing-left : writing room bytes qs .number ≡ 0 → leftBy (writing room bytes qs) ≡ bytes
+  unfolding writing
+  writing-left e = rw (e, counted-accepted (length bytes), lent-accepted 0 room bytes) (take-append-seam bytes (replicate (room - length bytes) 0))
+
+  pub writing-whole : T (numbered qs) → decide qs ≡ 0 → length bytes ≤ room → writing room bytes qs ≡ accepted bytes room
+  writing-whole t e h = writing-accepted t e ∙ rw (le-leb (length bytes) room h) refl
+
 module _ (P : Profile) (width room : ℕ) (list : List ℕ) where
   abbrev rs : List Record
   rs = records 4 list
@@ -64,9 +83,9 @@ module _ (P : Profile) (width room : ℕ) (list : List ℕ) where
   unfolding screenCall
   decided r e = sym (writing-refused room (rowBytes (t .cells)) all r e)
 
-  accepted : decide all ≡ 0 → inRoom (rowBytes (t .cells)) room ≡ screenCall P width room list
+  answered : decide all ≡ 0 → inRoom (rowBytes (t .cells)) room ≡ screenCall P width room list
   unfolding screenCall
-  accepted e = sym (writing-accepted room (rowBytes (t .cells)) all tt e)
+  answered e = sym (writing-accepted room (rowBytes (t .cells)) all tt e)
 
   pub width-refused : (leb 1 width && leb width 4096) ≡ false → refusal 5 room ≡ screenCall P width room list
   width-refused e = decided 4 (decide-no (ask 5 (leb 1 width && leb width 4096)) later e)
@@ -84,4 +103,4 @@ module _ (P : Profile) (width room : ℕ) (list : List ℕ) where
             let second : decide all ≡ decide (ask 11 (not (t .passed)) ∷ []) = first ∙ decide-yes (ask 10 formedList) _ e in
             rw e (cases (t .passed)
             (λ p. rw p (decided 10 (second ∙ decide-no (ask 11 (not (t .passed))) _ (ap not p))))
-            (λ p. rw p (accepted (second ∙ decide-yes (ask 11 (not (t .passed))) _ (ap not p) ∙ decide-nil))))
+            (λ p. rw p (answered (second ∙ decide-yes (ask 11 (not (t .passed))) _ (ap not p) ∙ decide-nil))))
