@@ -1,6 +1,6 @@
 -- Little-endian numbers by their bytes, the head of a record, and the records from a place on.
 use mathlib.Core.Path.{_≡_, refl, sym, ap, _∙_}
-use mathlib.Core.Logic.{_⊎_, ⊎-elim, _≢_}
+use mathlib.Core.Logic.{inl, inr, ⊎-elim, _≢_}
 use Prim.Native.Nat.{ℕ, _+_, _-_, _*_, _≤_, _<_}
 use native.Mathlib.Omega.{arith}
 use mathlib.Core.List.{List, [], _∷_}
@@ -12,7 +12,7 @@ use borrow.Author.Tests.{le-leb, lt-leb, leb-true, leb-false}
 use Rattle.text.specs.Tests.{cases}
 use Rattle.screen.specs.Records.{littleEndian, Record, recordAt, records}
 use Rattle.screen.specs.Records.Laws.{records-first, records-nil, same-record}
-use Rattle.screen.specs.Records.Contracts.{HeadReady, headAt, recordOf}
+use Rattle.screen.specs.Records.Contracts.{LengthSize, HeadReady, headAt, recordOf}
 use Rattle.screen.specs.declared.records.Head.{Head}
 
 two-bytes : (s : List ℕ) → littleEndian (take 2 s) ≡ getD s 0 0 + 256 * getD s 1 0
@@ -51,6 +51,10 @@ pub head-is : (list : List ℕ) (at size n k : ℕ) → n ≡ littleEndian (take
 unfolding headAt
 head-is list at size n k e f = rw (e, f) refl
 
+pub size-small : {n : ℕ} → LengthSize n → n ≤ 4
+size-small (inl e) = omega arith
+size-small (inr e) = omega arith
+
 -- ---- the records from a place on
 
 behind-le : (at n m : ℕ) → at ≤ m → leb n (m - at) ≡ leb (at + n) m
@@ -70,6 +74,10 @@ module _ (n : ℕ) (list : List ℕ) (at : ℕ) (less : at < length list) (h : H
       (ap (leb (n + 2 + size)) (length-drop at list) ∙ behind-le at (n + 2 + size) (length list) (omega arith) ∙ ap (λ (x : ℕ). leb x (length list)) k)
       (ap (λ (l : List ℕ). littleEndian (take 2 l)) (drop-drop n at list))
       (ap (take size) (drop-drop (n + 2) at list ∙ ap (λ (x : ℕ). drop x list) j)))
+
+  pub head-whole : h .whole ≡ leb (h .start + h .len) (length list)
+  unfolding headAt
+  head-whole = rw is refl
 
   abbrev pub behind : List Record
   behind = records n (drop (n + 2 + length (recordOf list h .body)) (drop at list))

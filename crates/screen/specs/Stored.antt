@@ -10,6 +10,7 @@ use Rattle.screen.specs.WellFormed.{bodySizes, wellFormed}
 use Rattle.screen.specs.Calls.{Written, writing}
 pub mod Laws
 pub mod Examples
+pub mod Contracts
 
 -- an old attribute body, of 24 bytes, gets baseline alignment
 unfoldable pub lengthened : Record → Record

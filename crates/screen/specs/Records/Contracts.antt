@@ -19,8 +19,12 @@ headAt n list at =
 abbrev pub recordOf : List ℕ → Head → Record
 recordOf list h = record { whole = h .whole; kind = h .kind; body = take (h .len) (drop (h .start) list) }
 
--- a place in the list, and a length of 2 or 4 bytes
+-- a length has 2 bytes or 4
+abbrev pub LengthSize : ℕ → Type 0
+LengthSize n = (n ≡ 2) ⊎ (n ≡ 4)
+
+-- a place in the list, and the size of a length
 pub record HeadReady (list : List ℕ) (at size : ℕ) : Type 0 where
   pub inside : at < length list
-  pub sizes : (size ≡ 2) ⊎ (size ≡ 4)
+  pub sizes : LengthSize size
   pub small : size ≤ 4
