@@ -20,9 +20,7 @@ use Rattle.screen.specs.Screen.{withAt, withAttributesAt, withRefusal, r
 use Rattle.screen.specs.Screen.Laws.{text-record, attributes-record, clear-record, other-record}
 use Rattle.screen.specs.declared.records.Head.{Head}
 use Rattle.screen.specs.declared.screen.Screen as code
-
-body-is : (list : List ℕ) (start len : ℕ) → take (start + len - start) (drop start list) ≡ part list start len
-body-is list start len = ap (part list start) (let e : start + len - start ≡ len = omega arith in e)
+use Rattle.screen.proofs.Heads.{body-is}
 
 -- ---- on_attributes
 

@@ -51,6 +51,9 @@ pub head-is : (list : List ℕ) (at size n k : ℕ) → n ≡ littleEndian (take
 unfolding headAt
 head-is list at size n k e f = rw (e, f) refl
 
+pub body-is : (list : List ℕ) (start len : ℕ) → take (start + len - start) (drop start list) ≡ take len (drop start list)
+body-is list start len = ap (λ (n : ℕ). take n (drop start list)) (let e : start + len - start ≡ len = omega arith in e)
+
 pub size-small : {n : ℕ} → LengthSize n → n ≤ 4
 size-small (inl e) = omega arith
 size-small (inr e) = omega arith

@@ -1,19 +1,16 @@
 -- The call `screen_row`: refusals, and what an accepted call leaves.
 use mathlib.Core.Path.{_≡_, refl, sym, ap, _∙_}
-use Prim.Native.Nat.{ℕ, _+_, _-_, _<_, _≤_}
-use native.Mathlib.Nat.{sub-zero}
+use Prim.Native.Nat.{ℕ}
 use native.Mathlib.Omega.{arith}
 use mathlib.Core.Bool.{true, false, _&&_}
 use mathlib.Core.Logic.{_≢_}
 use mathlib.Core.Option.{Option, some}
-use mathlib.Core.List.{List, _++_}
-use lib.ListN.{length, take, drop, replicate}
-use lib.Seq.{take-at}
+use mathlib.Core.List.{List}
+use lib.ListN.{length}
 use lib.Dec.{leb}
-use borrow.Author.Tests.{eq-eqb, ne-eqb, leb-true, leb-false}
-use Rattle.text.specs.Tests.{cases, in-range}
+use borrow.Author.Tests.{eq-eqb, ne-eqb}
+use Rattle.text.specs.Tests.{in-range}
 use Rattle.text.specs.Class.{Profile}
-use Rattle.text.specs.Calls.{Converted}
 use Rattle.text.specs.Calls.Code as text
 use Rattle.text.specs.Calls.Code.{converted}
 use Rattle.text.specs.declared.Answer.{Answer}

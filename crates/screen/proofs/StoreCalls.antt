@@ -4,11 +4,11 @@ use mathlib.Core.Logic.{_≢_, inl, inr}
 use Prim.Native.Nat.{ℕ, zero, suc}
 use native.Mathlib.Omega.{arith}
 use mathlib.Core.Bool.{Bool, true, false}
-use mathlib.Core.List.{List, [], _∷_, map}
+use mathlib.Core.List.{List, [], map}
 use lib.ListN.{length, replicate}
 use Rattle.text.specs.Tests.{cases}
-use Rattle.text.specs.Each.{All, all-map}
-use Rattle.text.specs.Calls.{Question, ask, decide}
+use Rattle.text.specs.Each.{all-map}
+use Rattle.text.specs.Calls.{ask, decide}
 use Rattle.text.specs.Calls.Laws.{decide-yes, decide-no, decide-nil}
 use Rattle.text.specs.Calls.Code as text
 use Rattle.text.specs.Calls.Code.{converted}
@@ -20,7 +20,7 @@ use Rattle.screen.specs.WellFormed.{bodySizes, wellFormed}
 use Rattle.screen.specs.Calls.{Written}
 use Rattle.screen.specs.Calls.Code.{written, kept, inRoom}
 use Rattle.screen.specs.Calls.Code.Laws.{writing-refused, writing-accepted}
-use Rattle.screen.specs.Stored.{lengthened, short, storeCall, restoreCall}
+use Rattle.screen.specs.Stored.{lengthened, short, storeQuestions, restoreQuestions, storeCall, restoreCall}
 use Rattle.screen.specs.Stored.Laws.{all-formed, same-lengthened}
 use Rattle.screen.specs.Stored.Contracts.{refusalOf, WriteRecordsReady}
 use Rattle.screen.proofs.Answers.{refused, kept-bytes}
@@ -45,16 +45,13 @@ module _ (list : List ℕ) (n : ℕ) (is : n ≡ refusalOf true (records 4 list)
   abbrev there : List Record
   there = records 4 list
 
-  abbrev questions : List Question
-  questions = ask 10 (wellFormed (bodySizes true) there) ∷ ask 12 (short there) ∷ []
-
-  decided : decide questions ≡ n
+  decided : decide (storeQuestions there) ≡ n
   unfolding decide
   decided = sym is
 
   pub store-written : (room : ℕ) (w : Written) → n ≡ 0 → w ≡ inRoom (encode 2 (map lengthened there)) room → w ≡ storeCall room list
   unfolding storeCall
-  store-written room w z e = e ∙ sym (writing-accepted room (encode 2 (map lengthened there)) questions tt (decided ∙ z))
+  store-written room w z e = e ∙ sym (writing-accepted room (encode 2 (map lengthened there)) (storeQuestions there) tt (decided ∙ z))
 
   pub store-refused : (room : ℕ) (r : Answer) (l : List ℕ) → (n ≢ 0) → converted r l ≡ text.refusal n room → written r l ≡ storeCall room list
   unfolding storeCall
@@ -62,7 +59,7 @@ module _ (list : List ℕ) (n : ℕ) (is : n ≡ refusalOf true (records 4 list)
     where
       by : (m : ℕ) → n ≡ m → record { number = n; count = 0; out = replicate room 0 } ≡ storeCall room list
       by zero q = absurd (z q)
-      by (suc m) q = rw q (sym (writing-refused room (encode 2 (map lengthened there)) questions m (decided ∙ q)))
+      by (suc m) q = rw q (sym (writing-refused room (encode 2 (map lengthened there)) (storeQuestions there) m (decided ∙ q)))
 
 -- ---- restore
 
@@ -73,12 +70,9 @@ module _ (stored : List ℕ) (n : ℕ) (is : n ≡ refusalOf false (records 2 st
   abbrev back : List Record
   back = records 2 stored
 
-  abbrev formed : Question
-  formed = ask 10 (wellFormed (bodySizes false) back)
-
   pub restore-refused : (room : ℕ) (r : Answer) (l : List ℕ) → n ≡ 10 → converted r l ≡ text.refusal 10 room → written r l ≡ restoreCall room stored
   unfolding restoreCall
-  restore-refused room r l z e = refused r l 10 room e ∙ sym (writing-refused room (encode 4 back) (formed ∷ []) 9 (decide-no formed [] malformed))
+  restore-refused room r l z e = refused r l 10 room e ∙ sym (writing-refused room (encode 4 back) (restoreQuestions back) 9 (decide-no (ask 10 (wellFormed (bodySizes false) back)) [] malformed))
     where
       malformed : wellFormed (bodySizes false) back ≡ false
       malformed = cases (wellFormed (bodySizes false) back) (λ f. absurd (cases (short back) (λ g. omega (arith, z, rw (f, g) at is)) (λ g. omega (arith, z, rw (f, g) at is)))) (λ f. f)
@@ -87,4 +81,4 @@ module _ (stored : List ℕ) (n : ℕ) (is : n ≡ refusalOf false (records 2 st
   unfolding restoreCall
   restore-written room w z e =
       let f = well false back n is z in
-      e ∙ ap (λ (rs : List Record). inRoom (encode 4 rs) room) (same-lengthened (all-formed false back f)) ∙ sym (writing-accepted room (encode 4 back) (formed ∷ []) tt (decide-yes formed [] f ∙ decide-nil))
+      e ∙ ap (λ (rs : List Record). inRoom (encode 4 rs) room) (same-lengthened (all-formed false back f)) ∙ sym (writing-accepted room (encode 4 back) (restoreQuestions back) tt (decide-yes (ask 10 (wellFormed (bodySizes false) back)) [] f ∙ decide-nil))

@@ -3,13 +3,12 @@ use mathlib.Core.Path.{_≡_, refl, sym, ap, _∙_}
 use Prim.Native.Nat.{ℕ, _+_, _-_, _≤_, _<_}
 use native.Mathlib.Omega.{arith}
 use mathlib.Core.Logic.{_≢_}
-use mathlib.Core.Bool.{Bool, true, false, cond, true≢false, _&&_, and-assoc, and-true}
+use mathlib.Core.Bool.{Bool, true, false, cond, _&&_, and-assoc, and-true}
 use mathlib.Core.List.{List, [], _∷_, _++_, map, append-assoc}
 use lib.ListN.{length, take, drop, length-append, length-drop}
 use lib.Seq.{length-take-le}
 use lib.Dec.{eqb, leb}
 use borrow.Author.Tests.{eq-eqb, ne-eqb, eqb-true, leb-true}
-use Rattle.text.specs.Tests.{cases}
 use Rattle.text.specs.Each.{All, all-first, all-drop}
 use Rattle.buffer.specs.Numbers.{le2, le4}
 use Rattle.buffer.specs.Sink.{Sink, sink, put, emit}
@@ -19,12 +18,10 @@ use Rattle.screen.specs.Records.Laws.{same-record}
 use Rattle.screen.specs.Records.Contracts.{LengthSize, HeadReady, headAt, recordOf}
 use Rattle.screen.specs.WellFormed.{bodySizes, ofKind, wellFormed}
 use Rattle.screen.specs.Stored.{lengthened, short}
+use Rattle.screen.specs.Stored.Laws.{both-true}
 use Rattle.screen.specs.Stored.Contracts.{wholeRecord, isFormed, refusalOf, WriteRecordsReady}
 use Rattle.screen.specs.declared.records.Head.{Head}
-use Rattle.screen.proofs.Heads.{size-small, records-end, behind, records-from, head-inside, head-start, head-whole, records-next}
-
-body-is : (list : List ℕ) (start len : ℕ) → take (start + len - start) (drop start list) ≡ take len (drop start list)
-body-is list start len = ap (λ (n : ℕ). take n (drop start list)) (let e : start + len - start ≡ len = omega arith in e)
+use Rattle.screen.proofs.Heads.{body-is, size-small, records-end, behind, records-from, head-inside, head-start, head-whole, records-next}
 
 -- ---- is_formed
 
@@ -97,11 +94,7 @@ module _ (old : Bool) (size : ℕ) (list : List ℕ) (b : Bool) (at : ℕ) (k : 
           formed = sym test ∙ t
 
           whole : h .whole ≡ true
-          whole = first-true (h .whole) _ formed
-            where
-              first-true : (x y : Bool) → (x && y) ≡ true → x ≡ true
-              first-true true y e = refl
-              first-true false y e = e
+          whole = both-true (h .whole) _ formed .0
 
           pub check-inside : h .start + h .len ≤ length list
           check-inside = head-inside size list at less h is whole
@@ -132,25 +125,21 @@ module _ (size len kind : ℕ) (s a b : Sink) where
 
 -- ---- write_record
 
-one-bytes : (n : ℕ) (r : Record) → encodeOne n r ≡ (lengthBytes n (length (r .body)) ++ le2 (r .kind)) ++ r .body
+record-bytes : (n : ℕ) (r : Record) → encodeOne n r ≡ (lengthBytes n (length (r .body)) ++ le2 (r .kind)) ++ r .body
 unfolding encodeOne
-one-bytes n r = sym (append-assoc (lengthBytes n (length (r .body))) (le2 (r .kind)) (r .body))
+record-bytes n r = sym (append-assoc (lengthBytes n (length (r .body))) (le2 (r .kind)) (r .body))
 
 module _ (kind : ℕ) (body : List ℕ) (size : ℕ) (s a b : Sink) where
   pub record-same : (eqb kind 2 && eqb (length body) 24) ≡ false → a ≡ emit s (lengthBytes size (length body) ++ le2 kind) → b ≡ emit a body → b ≡ emit s (encodeOne size (lengthened (wholeRecord kind body)))
   unfolding lengthened
-  record-same z e f = rw z (then-emit s a b (lengthBytes size (length body) ++ le2 kind) body e f ∙ ap (emit s) (sym (one-bytes size (wholeRecord kind body))))
+  record-same z e f = rw z (then-emit s a b (lengthBytes size (length body) ++ le2 kind) body e f ∙ ap (emit s) (sym (record-bytes size (wholeRecord kind body))))
 
   pub record-lengthened : (c : Sink) → (eqb kind 2 && eqb (length body) 24) ≡ true → a ≡ emit s (lengthBytes size 25 ++ le2 kind) → b ≡ emit a body → c ≡ put b 0 → c ≡ emit s (encodeOne size (lengthened (wholeRecord kind body)))
   unfolding lengthened
   record-lengthened c z e f g =
-      let n : length (body ++ 0 ∷ []) ≡ 25 = length-append body (0 ∷ []) ∙ omega (arith, eqb-true (length body) 24 (second-true (eqb kind 2) _ z)) in
+      let n : length (body ++ 0 ∷ []) ≡ 25 = length-append body (0 ∷ []) ∙ omega (arith, eqb-true (length body) 24 (both-true (eqb kind 2) (eqb (length body) 24) z .1)) in
       rw z (then-emit s a c (lengthBytes size 25 ++ le2 kind) (body ++ 0 ∷ []) e (then-put a b c body 0 f g)
-      ∙ ap (emit s) (sym (one-bytes size (wholeRecord kind (body ++ 0 ∷ [])) ∙ ap (λ (i : ℕ). (lengthBytes size i ++ le2 kind) ++ (body ++ 0 ∷ [])) n)))
-    where
-      second-true : (x y : Bool) → (x && y) ≡ true → y ≡ true
-      second-true true y e = e
-      second-true false y e = absurd (true≢false (sym e))
+      ∙ ap (emit s) (sym (record-bytes size (wholeRecord kind (body ++ 0 ∷ [])) ∙ ap (λ (i : ℕ). (lengthBytes size i ++ le2 kind) ++ (body ++ 0 ∷ [])) n)))
 
 -- ---- write_records
 

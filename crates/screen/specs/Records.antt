@@ -5,6 +5,7 @@ use mathlib.Core.List.{List, [], _∷_, _++_}
 use lib.ListN.{length, take, drop}
 use lib.Dec.{leb, eqb}
 use Rattle.buffer.specs.Numbers.{le2, le4}
+pub mod Lengths
 pub mod Laws
 pub mod Contracts
 

@@ -12,7 +12,7 @@ use Rattle.text.specs.Class.{Profile}
 use Rattle.screen.specs.Records.{Record, records}
 use Rattle.screen.specs.WellFormed.{ofKind, utf8, wide, clustersIn, wellFormed, wideTexts}
 use Rattle.screen.specs.Row.{Cell, bodySize, Screen, screen, isLater, back, passes, write, blankScreen, onClusters, onRecord, onRecords}
-use Rattle.screen.specs.Row.Contracts.{part, bodyAt, blankAt, cellsIn, cellIn, firstColumn, laters, sameNumbers}
+use Rattle.screen.specs.Row.Contracts.{bodyAt, blankAt, cellsIn, cellIn, firstColumn, laters, sameNumbers}
 use Rattle.screen.specs.declared.screen.Screen as code
 pub mod Laws
 

@@ -1,21 +1,20 @@
 -- Records read where they were written, and written again where they were read; the records of a drawing's change list are its changes.
 use mathlib.Core.Path.{_≡_, refl, sym, ap, ap₂, _∙_}
-use Prim.Native.Nat.{ℕ, zero, suc, _+_, _*_, _/_, _%_, _≤_, _<_}
-use native.Mathlib.Nat.{mod-add-div}
+use Prim.Native.Nat.{ℕ, zero, suc, _+_, _≤_, _<_}
 use native.Mathlib.Omega.{arith}
 use mathlib.Core.Bool.{Bool, true}
 use mathlib.Core.List.{List, [], _∷_, _++_, map, append-assoc}
-use lib.ListN.{length, take, drop, length-append, length-take, length-drop, take-append-drop}
+use lib.ListN.{length, take, drop, length-append, length-drop, take-append-drop}
 use lib.Seq.{take-at, drop-at, take-append-seam, drop-append-seam, drop-drop, take-add, length-take-le}
 use lib.Dec.{leb, le→leb}
 use borrow.Author.Tests.{leb-true}
 use Rattle.text.specs.Tests.{is-true}
 use Rattle.text.specs.Each.{All, all-nil, all-cons, all-drop}
 use Rattle.text.specs.Overstrike.Bytes.{Byte}
-use Rattle.buffer.specs.Numbers.{le2, le4}
 use Rattle.drawing.specs.Change as change
 use Rattle.drawing.specs.Change.{Change, text, torn, allAttributes, clearToEnd, cursorRight, kindOf, body}
-use Rattle.screen.specs.Records.{littleEndian, Record, recordAt, recordsFrom, records, lengthBytes, encodeOne, encode}
+use Rattle.screen.specs.Records.{littleEndian, Record, recordAt, recordsFrom, records, encodeOne, encode}
+use Rattle.screen.specs.Records.Lengths.{lowBytes, limit, low-length, low-read, low-again, low-less, LengthOf, length-of-2, length-of-4}
 
 -- ---- one after the other
 
@@ -39,58 +38,6 @@ records-first n (b ∷ s) h =
 pub records-nil : (n : ℕ) → records n [] ≡ []
 unfolding records recordsFrom
 records-nil n = refl
-
--- ---- numbers of n bytes: read where they were written, and written again where they were read
-
--- the low n bytes of a number, and the first number that has more
-unfoldable pub lowBytes : ℕ → ℕ → List ℕ
-lowBytes zero x = []
-lowBytes (suc n) x = x % 256 ∷ lowBytes n (x / 256)
-
-unfoldable pub limit : ℕ → ℕ
-limit zero = 1
-limit (suc n) = 256 * limit n
-
-low-length : (n x : ℕ) → length (lowBytes n x) ≡ n
-unfolding lowBytes
-low-length zero x = refl
-low-length (suc n) x = ap suc (low-length n (x / 256))
-
-low-read : (n x : ℕ) → x < limit n → littleEndian (lowBytes n x) ≡ x
-unfolding lowBytes littleEndian limit
-low-read zero x h = omega arith
-low-read (suc n) x h = rw (low-read n (x / 256) (omega arith)) (mod-add-div x 256)
-
-low-again : (n : ℕ) {s : List ℕ} → All Byte s → n ≤ length s → lowBytes n (littleEndian (take n s)) ≡ take n s
-unfolding lowBytes littleEndian
-low-again zero e h = refl
-low-again (suc n) all-nil h = absurd (let z : suc n ≤ 0 = h in omega arith)
-low-again (suc n) (all-cons {a = a} {s = s} p e) h =
-    let m : ℕ = littleEndian (take n s) in
-    let x : (a + 256 * m) % 256 ≡ a = omega arith in
-    let y : (a + 256 * m) / 256 ≡ m = omega arith in
-    rw (x, y) (ap (λ (l : List ℕ). a ∷ l) (low-again n e (omega arith)))
-
-low-less : (n : ℕ) {s : List ℕ} → All Byte s → littleEndian (take n s) < limit n
-unfolding littleEndian limit
-low-less zero e = omega arith
-low-less (suc n) all-nil = omega (arith, low-less n all-nil)
-low-less (suc n) (all-cons p e) = omega (arith, low-less n e)
-
--- a length of n bytes is its low n bytes
-abbrev pub LengthOf : ℕ → Type 0
-LengthOf n = (x : ℕ) → lengthBytes n x ≡ lowBytes n x
-
-pub length-of-2 : LengthOf 2
-unfolding lowBytes le2
-length-of-2 x = refl
-
-pub length-of-4 : LengthOf 4
-unfolding lowBytes le4
-length-of-4 x =
-    let a : x / 65536 ≡ x / 256 / 256 = omega arith in
-    let b : x / 16777216 ≡ x / 256 / 256 / 256 = omega arith in
-    ap₂ (λ (i j : ℕ). x % 256 ∷ x / 256 % 256 ∷ i % 256 ∷ j % 256 ∷ []) a b
 
 -- ---- read where they were written
 

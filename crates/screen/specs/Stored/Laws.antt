@@ -10,19 +10,19 @@ use borrow.Author.Tests.{eqb-true, le-leb, leb-true}
 use Rattle.text.specs.Tests.{cases}
 use Rattle.text.specs.Each.{All, all-nil, all-cons, all-map, all-both}
 use Rattle.text.specs.Overstrike.Bytes.{Byte}
-use Rattle.text.specs.Calls.{Question, ask, decide}
+use Rattle.text.specs.Calls.{ask}
 use Rattle.text.specs.Calls.Laws.{first-yes, decide-yes, decide-nil}
 use Rattle.screen.specs.Records.{Record, records, encode}
-use Rattle.screen.specs.Records.Laws.{limit, LengthOf, length-of-2, length-of-4, Fits, records-encode, encode-records, records-fit}
+use Rattle.screen.specs.Records.Lengths.{limit, LengthOf, length-of-2, length-of-4}
+use Rattle.screen.specs.Records.Laws.{Fits, records-encode, encode-records, records-fit}
 use Rattle.screen.specs.WellFormed.{fields, bodySizes, ofKind, wellFormed}
-use Rattle.screen.specs.Calls.{Written, writing}
 use Rattle.screen.specs.Calls.Code.{accepted, leftBy}
 use Rattle.screen.specs.Calls.Code.Laws.{writing-yes, writing-left, writing-whole}
-use Rattle.screen.specs.Stored.{lengthened, short, storeCall, restoreCall}
+use Rattle.screen.specs.Stored.{lengthened, short, storeQuestions, restoreQuestions, storeCall, restoreCall}
 
 -- ---- records one by one
 
-both-true : (a b : Bool) → (a && b) ≡ true → (a ≡ true) × (b ≡ true)
+pub both-true : (a b : Bool) → (a && b) ≡ true → (a ≡ true) × (b ≡ true)
 both-true true b e = (refl, e)
 both-true false b e = (e, absurd (true≢false (sym e)))
 
@@ -150,9 +150,6 @@ again n is a f = ap (encode n) (same-lengthened f) ∙ encode-records n is a (al
 
 -- ---- calls
 
-abbrev storeQuestions : List Record → List Question
-storeQuestions rs = ask 10 (wellFormed (bodySizes true) rs) ∷ ask 12 (short rs) ∷ []
-
 module _ (room : ℕ) (list : List ℕ) where
   abbrev there : List Record
   there = records 4 list
@@ -167,7 +164,7 @@ module _ (room : ℕ) (list : List ℕ) where
 
   restore-accepts : (rs : List Record) → back ≡ rs → All (Formed false) rs → length (encode 4 rs) ≤ room → restoreCall room list ≡ accepted (encode 4 rs) room
   unfolding restoreCall
-  restore-accepts rs e f h = rw e (writing-whole room (encode 4 rs) (ask 10 (wellFormed (bodySizes false) rs) ∷ []) tt (decide-yes (ask 10 (wellFormed (bodySizes false) rs)) [] (formed-all false f) ∙ decide-nil) h)
+  restore-accepts rs e f h = rw e (writing-whole room (encode 4 rs) (restoreQuestions rs) tt (decide-yes (ask 10 (wellFormed (bodySizes false) rs)) [] (formed-all false f) ∙ decide-nil) h)
 
   module _ (e : storeCall room list .number ≡ 0) where
     stored-formed : All (Formed true) there × All Short there
@@ -184,11 +181,11 @@ module _ (room : ℕ) (list : List ℕ) where
   module _ (e : restoreCall room list .number ≡ 0) where
     restored-formed : All (Formed false) back
     unfolding restoreCall
-    restored-formed = all-formed false back (first-yes (ask 10 (wellFormed (bodySizes false) back)) [] tt (writing-yes room (encode 4 back) (ask 10 (wellFormed (bodySizes false) back) ∷ []) e) .0)
+    restored-formed = all-formed false back (first-yes (ask 10 (wellFormed (bodySizes false) back)) [] tt (writing-yes room (encode 4 back) (restoreQuestions back) e) .0)
 
     restored-left : leftBy (restoreCall room list) ≡ encode 4 back
     unfolding restoreCall
-    restored-left = writing-left room (encode 4 back) (ask 10 (wellFormed (bodySizes false) back) ∷ []) e
+    restored-left = writing-left room (encode 4 back) (restoreQuestions back) e
 
 -- ---- there and back
 
