@@ -1,9 +1,12 @@
-// The bodies that document 01 allows for each kind.
+// The bodies that documents 01 and 02 allow for each kind.
 use buffer::byte_at;
 use text::utf8::run_end;
 ghost use mathlib.Core.Path.{_≡_};
 ghost use Prim.Native.Nat.{_≤_};
 ghost use Rattle.screen.specs.WellFormed.{color, fields, bodySizes, ofKind};
+
+// The size of an attribute body.
+pub(crate) const BODY_SIZE: usize = 25;
 
 // Is it a colour that stands at a place of a body?
 pub(crate) fn is_color(body: &[u8], at: usize) -> bool

@@ -65,21 +65,21 @@ byte-behind Default s n = refl
 byte-behind (Palette i) s n = refl
 byte-behind (Rgb r g b) s n = refl
 
-attribute-size : (a : Attributes) → length (attributeBytes a) ≡ 24
+attribute-size : (a : Attributes) → length (attributeBytes a) ≡ bodySize
 unfolding attributeBytes le4
 attribute-size a = simp length-append (omega (arith, color-size (a .colors .foreground), color-size (a .colors .background), color-size (a .colors .underline)))
 
 attribute-fields : (a : Attributes) → InLimits a → fields (attributeBytes a) ≡ true
 unfolding fields attributeBytes color
 attribute-fields a f =
-    let u : List ℕ = le4 (a .link .place .0) ++ le4 (a .link .len) in
+    let u : List ℕ = le4 (a .link .place .0) ++ (le4 (a .link .len) ++ (a .font .alignment ∷ [])) in
     let t : List ℕ = colorBytes (a .colors .underline) ++ u in
     let s : List ℕ = colorBytes (a .colors .background) ++ t in
     rw (le-leb (a .font .intensity) 2 (f .intensity), le-leb (a .font .underline) 2 (f .underline), le-leb (a .font .blink) 2 (f .blink), le-leb (flagByte a) 31 (flags-small a))
     (all-four (color-first (a .colors .foreground) s)
     (color-behind (a .colors .foreground) s .0 ∙ color-first (a .colors .background) t)
     (color-behind (a .colors .foreground) s .1 ∙ color-behind (a .colors .background) t .0 ∙ color-first (a .colors .underline) u)
-    (ap (λ (n : ℕ). leb n 2) (byte-behind (a .colors .foreground) s 16 ∙ byte-behind (a .colors .background) t 12 ∙ byte-behind (a .colors .underline) u 8)))
+    (ap (λ (n : ℕ). leb n 2) (byte-behind (a .colors .foreground) s 16 ∙ byte-behind (a .colors .background) t 12 ∙ byte-behind (a .colors .underline) u 8) ∙ le-leb (a .font .alignment) 2 (f .alignment)))
   where
     all-four : {x y z w : Bool} → x ≡ true → y ≡ true → z ≡ true → w ≡ true → (x && (y && (z && w))) ≡ true
     all-four e f g h = rw (e, f, g, h)
