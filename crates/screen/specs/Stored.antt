@@ -6,15 +6,15 @@ use lib.ListN.{length}
 use lib.Dec.{eqb, leb}
 use Rattle.text.specs.Calls.{Question, ask}
 use Rattle.screen.specs.Records.{Record, records, encode}
-use Rattle.screen.specs.WellFormed.{bodySizes, wellFormed}
+use Rattle.screen.specs.WellFormed.{oldSize, bodySizes, wellFormed}
 use Rattle.screen.specs.Calls.{Written, writing}
 pub mod Laws
 pub mod Examples
 pub mod Contracts
 
--- an old attribute body, of 24 bytes, gets baseline alignment
+-- an old attribute body gets baseline alignment
 unfoldable pub lengthened : Record → Record
-lengthened r = cond (eqb (r .kind) 2 && eqb (length (r .body)) 24) (record { whole = r .whole; kind = r .kind; body = r .body ++ 0 ∷ [] }) r
+lengthened r = cond (eqb (r .kind) 2 && eqb (length (r .body)) oldSize) (record { whole = r .whole; kind = r .kind; body = r .body ++ 0 ∷ [] }) r
 
 -- no body is above 65,535 bytes
 unfoldable pub short : List Record → Bool

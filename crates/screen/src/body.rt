@@ -5,8 +5,10 @@ ghost use mathlib.Core.Path.{_≡_};
 ghost use Prim.Native.Nat.{_≤_};
 ghost use Rattle.screen.specs.WellFormed.{color, fields, bodySizes, ofKind};
 
-// The size of an attribute body.
+// The size of an attribute body, and of an old one, without alignment.
 pub(crate) const BODY_SIZE: usize = 25;
+
+pub(crate) const OLD_SIZE: usize = 24;
 
 // Is it a colour that stands at a place of a body?
 pub(crate) fn is_color(body: &[u8], at: usize) -> bool
@@ -29,7 +31,7 @@ pub(crate) fn are_fields(body: &[u8]) -> bool
     font & (is_color(body, 4) & (is_color(body, 8) & (is_color(body, 12) & alignment)))
 }
 
-// Is it a body of its kind? Attributes have 25 bytes, or 24 where old ones are allowed.
+// Is it a body of its kind? `old` says whether an old attribute body is one.
 pub(crate) fn is_of_kind(kind: usize, body: &[u8], old: bool) -> bool
     ensures { λ r. ⌜ r ≡ ofKind (bodySizes old) kind (now (body .entry)) ⌝ }
 {
@@ -38,7 +40,7 @@ pub(crate) fn is_of_kind(kind: usize, body: &[u8], old: bool) -> bool
         return run_end(body, 0) == len;
     }
     if kind == 2 {
-        return ((old & (len == 24)) | (len == 25)) & are_fields(body);
+        return ((old & (len == OLD_SIZE)) | (len == BODY_SIZE)) & are_fields(body);
     }
     if kind == 3 {
         return (len == 4) & is_color(body, 0);

@@ -1,4 +1,6 @@
 // The stored form of a change list (document 02, U8) and back: records whose lengths have 2 bytes, and 4.
+use super::body::BODY_SIZE;
+use super::body::OLD_SIZE;
 use super::body::is_of_kind;
 use super::records::Head;
 use super::records::head_at;
@@ -72,8 +74,8 @@ fn write_head(size: usize, len: usize, kind: usize, out: &mut [u8], at: usize) -
 fn write_record(kind: usize, body: &[u8], size: usize, out: &mut [u8], at: usize) -> usize
     ensures { λ r. ⌜ sink (now (out .exit)) r ≡ emit (sink (now (out .entry)) at) (encodeOne size (lengthened (wholeRecord kind (now (body .entry))))) ⌝ }
 {
-    if (kind == 2) & (body.len() == 24) {
-        let a = write_head(size, 25, kind, out, at);
+    if (kind == 2) & (body.len() == OLD_SIZE) {
+        let a = write_head(size, BODY_SIZE, kind, out, at);
         let b = push_bytes(out, a, body);
         return push_byte(out, b, 0);
     }

@@ -14,11 +14,11 @@ use Rattle.text.specs.Class.{Profile}
 use Rattle.text.specs.Calls.{Question, ask, decide, lent, counted}
 use Rattle.text.specs.Calls.Laws.{numbered, decide-nil, decide-yes, decide-no, decided-before, decided-behind, lent-accepted, lent-refused, counted-accepted, counted-refused}
 use Rattle.screen.specs.Records.{Record, records}
-use Rattle.screen.specs.WellFormed.{wellFormed, wideTexts}
+use Rattle.screen.specs.WellFormed.{bodySizes, wellFormed, wideTexts}
 use Rattle.screen.specs.Row.{Screen, blankScreen, rowBytes}
 use Rattle.screen.specs.Calls.{Written, writing, screenOf, screenCall}
 use Rattle.screen.specs.Calls.Code.{refusal, accepted, inRoom, leftBy, shownOf}
-use Rattle.screen.specs.Screen.{formed, ofBodies, recordsOn}
+use Rattle.screen.specs.Screen.{formed, recordsOn}
 
 module _ (room : ℕ) (bytes : List ℕ) (qs : List Question) where
   -- what it leaves if it decides r
@@ -70,7 +70,7 @@ module _ (P : Profile) (width room : ℕ) (list : List ℕ) where
   t = screenOf P width rs
 
   abbrev formedList : Bool
-  formedList = wellFormed ofBodies rs && wideTexts P rs
+  formedList = wellFormed (bodySizes false) rs && wideTexts P rs
 
   -- the questions behind that of the width
   abbrev later : List Question
