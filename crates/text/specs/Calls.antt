@@ -53,7 +53,7 @@ convertCall P conv line =
     let r : ℕ = decide (question1 line ∷ question2 conv line ∷ []) in
     record { number = r; count = counted (length s) r; conv = lent 0 conv s r }
 
--- what `write_cells` returns and leaves
+-- what a call that writes bytes returns and leaves
 pub record Written : Type 0 where
   pub number : ℕ
   pub count : ℕ
