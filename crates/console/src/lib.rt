@@ -11,7 +11,8 @@ ghost use Rattle.rows.specs.Calls.Contracts.{wrappedAs};
 ghost use Rattle.cache.specs.Calls.{cachedRowsCall, cachedHeightCall};
 ghost use Rattle.cache.specs.Calls.Contracts.{cachedRowsAs, cachedHeightAs};
 ghost use Rattle.screen.specs.Calls.{screenCall};
-ghost use Rattle.screen.specs.Calls.Code.{shown};
+ghost use Rattle.screen.specs.Calls.Code.{written};
+ghost use Rattle.screen.specs.Stored.{storeCall, restoreCall};
 ghost use Rattle.drawing.specs.Calls.{windowCall, rowCall};
 ghost use Rattle.drawing.specs.Rendering.{currentOf};
 ghost use Rattle.drawing.specs.Requests.{drawnAs};
@@ -140,7 +141,21 @@ pub extern "C" fn console_draw_row(
 
 #[no_mangle]
 pub extern "C" fn console_screen_row(list: &[u8], width: usize, out: &mut [u8]) -> Answer
-    ensures { λ r. ⌜ shown r (now (out .exit)) ≡ screenCall profile01 width (length (now (out .entry))) (now (list .entry)) ⌝ }
+    ensures { λ r. ⌜ written r (now (out .exit)) ≡ screenCall profile01 width (length (now (out .entry))) (now (list .entry)) ⌝ }
 {
     screen::screen_row(list, width, out)
+}
+
+#[no_mangle]
+pub extern "C" fn console_store(list: &[u8], out: &mut [u8]) -> Answer
+    ensures { λ r. ⌜ written r (now (out .exit)) ≡ storeCall (length (now (out .entry))) (now (list .entry)) ⌝ }
+{
+    screen::store(list, out)
+}
+
+#[no_mangle]
+pub extern "C" fn console_restore(stored: &[u8], out: &mut [u8]) -> Answer
+    ensures { λ r. ⌜ written r (now (out .exit)) ≡ restoreCall (length (now (out .entry))) (now (stored .entry)) ⌝ }
+{
+    screen::restore(stored, out)
 }

@@ -13,9 +13,10 @@ use borrow.Author.Tests.{ne-eqb, le-ltb, eqb-true, ltb-true}
 use Rattle.text.specs.Tests.{cases, and-T, true-T}
 use Rattle.text.specs.Class.{Profile}
 use Rattle.screen.specs.WellFormed.{color, fields}
+use Rattle.screen.specs.Records.Contracts.{recordOf}
 use Rattle.screen.specs.Row.{Screen, withAttributes, clear, right}
 use Rattle.screen.specs.Row.Contracts.{part}
-use Rattle.screen.specs.Screen.{withAt, withAttributesAt, withRefusal, rowOf, screenOf, formed, textOn, recordOf, recordOn, RowReady, BodyReady, Stepped}
+use Rattle.screen.specs.Screen.{withAt, withAttributesAt, withRefusal, rowOf, screenOf, formed, textOn, recordOn, RowReady, BodyReady, Stepped}
 use Rattle.screen.specs.Screen.Laws.{text-record, attributes-record, clear-record, other-record}
 use Rattle.screen.specs.declared.records.Head.{Head}
 use Rattle.screen.specs.declared.screen.Screen as code

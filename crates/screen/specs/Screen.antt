@@ -13,7 +13,6 @@ use Rattle.screen.specs.Records.{Record, records}
 use Rattle.screen.specs.WellFormed.{ofKind, utf8, wide, clustersIn, wellFormed, wideTexts}
 use Rattle.screen.specs.Row.{Cell, bodySize, Screen, screen, isLater, back, passes, write, blankScreen, onClusters, onRecord, onRecords}
 use Rattle.screen.specs.Row.Contracts.{part, bodyAt, blankAt, cellsIn, cellIn, firstColumn, laters, sameNumbers}
-use Rattle.screen.specs.declared.records.Head.{Head}
 use Rattle.screen.specs.declared.screen.Screen as code
 pub mod Laws
 
@@ -105,10 +104,6 @@ pub record BodyReady (list : List ℕ) (width : ℕ) (row : List ℕ) (t : code.
   pub ready : RowReady width row t
   pub place : 0 < start
   pub inside : start + len ≤ length list
-
--- the record that a whole head begins
-abbrev pub recordOf : List ℕ → Head → Record
-recordOf list h = record { whole = h .whole; kind = h .kind; body = part list (h .start) (h .len) }
 
 pub record DrawReady (width : ℕ) (row : List ℕ) : Type 0 where
   pub some : 0 < width

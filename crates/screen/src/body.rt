@@ -1,8 +1,9 @@
-// The values that document 01 allows in the bodies of kinds 2 and 3.
+// The bodies that document 01 allows for each kind.
 use buffer::byte_at;
+use text::utf8::run_end;
 ghost use mathlib.Core.Path.{_≡_};
 ghost use Prim.Native.Nat.{_≤_};
-ghost use Rattle.screen.specs.WellFormed.{color, fields};
+ghost use Rattle.screen.specs.WellFormed.{color, fields, bodySizes, ofKind};
 
 // Is it a colour that stands at a place of a body?
 pub(crate) fn is_color(body: &[u8], at: usize) -> bool
@@ -21,5 +22,26 @@ pub(crate) fn are_fields(body: &[u8]) -> bool
     let flags = byte_at(body, 3) <= 31;
     let font = (byte_at(body, 0) <= 2)
         & ((byte_at(body, 1) <= 2) & ((byte_at(body, 2) <= 2) & flags));
-    font & (is_color(body, 4) & (is_color(body, 8) & is_color(body, 12)))
+    let alignment = byte_at(body, 24) <= 2;
+    font & (is_color(body, 4) & (is_color(body, 8) & (is_color(body, 12) & alignment)))
+}
+
+// Is it a body of its kind? Attributes have 25 bytes, or 24 where old ones are allowed.
+pub(crate) fn is_of_kind(kind: usize, body: &[u8], old: bool) -> bool
+    ensures { λ r. ⌜ r ≡ ofKind (bodySizes old) kind (now (body .entry)) ⌝ }
+{
+    let len = body.len();
+    if kind == 1 {
+        return run_end(body, 0) == len;
+    }
+    if kind == 2 {
+        return ((old & (len == 24)) | (len == 25)) & are_fields(body);
+    }
+    if kind == 3 {
+        return (len == 4) & is_color(body, 0);
+    }
+    if kind == 4 {
+        return len == 0;
+    }
+    false
 }

@@ -20,9 +20,10 @@ ghost use lib.ListN.{length};
 ghost use lib.Dec.{eqb, ltb};
 ghost use Rattle.screen.specs.WellFormed.{color, fields};
 ghost use Rattle.text.specs.Class.Code.{profileOf};
+ghost use Rattle.screen.specs.Records.Contracts.{recordOf};
 ghost use Rattle.screen.specs.Row.{write, clear};
 ghost use Rattle.screen.specs.Row.Contracts.{part, CellsReady};
-ghost use Rattle.screen.specs.Screen.{withAt, withEnd, withAttributesAt, withRefusal, largerOf, cursorOf, Reached, cutLeft, cutRight, RowReady, WriteReady, ClearReady, ClusterOnReady, TextReady, BodyReady, DrawReady, Drawn, Stepped, formed, clusterOn, textOn, recordOf, recordOn};
+ghost use Rattle.screen.specs.Screen.{withAt, withEnd, withAttributesAt, withRefusal, largerOf, cursorOf, Reached, cutLeft, cutRight, RowReady, WriteReady, ClearReady, ClusterOnReady, TextReady, BodyReady, DrawReady, Drawn, Stepped, formed, clusterOn, textOn, recordOn};
 
 // Question 10's refusal, and question 11's.
 pub(crate) const MALFORMED: usize = 10;
