@@ -13,7 +13,7 @@ pub use sets::sets;
 
 use crate::comparison::Comparison;
 use crate::library::Library;
-use console_lines::{Lent, Narrowest};
+use console_lines::{Lent, WidthAnswer};
 use model::{Expected, Model};
 
 pub const NAME: &str = "narrowest";
@@ -51,7 +51,7 @@ impl Comparison for Fitter {
 }
 
 impl Fitter {
-    fn call(&mut self, case: &Case) -> Narrowest {
+    fn call(&mut self, case: &Case) -> WidthAnswer {
         let mut answer = None;
         self.library.call_by(&case.lending(), |_, line, _, lent| {
             let Lent { conv, spans, .. } = lent;
@@ -74,7 +74,7 @@ impl Fitter {
         &mut self,
         case: &Case,
         expected: &Expected,
-        answer: Narrowest,
+        answer: WidthAnswer,
     ) -> Option<String> {
         let same = answer.number == expected.answer.number
             && answer.count == expected.answer.count
@@ -97,14 +97,14 @@ impl Fitter {
     }
 
     /// So many widths are tried at most. What is not so, as text.
-    fn broken(&self, case: &Case, answer: Narrowest) -> Option<String> {
+    fn broken(&self, case: &Case, answer: WidthAnswer) -> Option<String> {
         let most = self.model.most_tried();
         let within = answer.tried <= most;
         (!within).then(|| format!("{case}\n  {} tried, above {most}", answer.tried))
     }
 }
 
-fn plain(answer: Narrowest) -> console_lines::Answer {
-    let Narrowest { number, count, .. } = answer;
+fn plain(answer: WidthAnswer) -> console_lines::Answer {
+    let WidthAnswer { number, count, .. } = answer;
     console_lines::Answer { number, count }
 }

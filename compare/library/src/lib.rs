@@ -22,7 +22,7 @@ pub struct Span {
 /// What narrowest returns: `count` is the width found, or 0.
 #[repr(C)]
 #[derive(Clone, Copy, Debug, PartialEq, Eq)]
-pub struct Narrowest {
+pub struct WidthAnswer {
     pub number: usize,
     pub count: usize,
     pub tried: usize,
@@ -122,7 +122,7 @@ declare!(has_restore, restore, console_restore(stored: u8; ; out: u8));
 declare!(has_write_cells, write_cells, console_write_cells(cells: u8; ; out: u8));
 declare!(has_narrowest, narrowest, console_narrowest(
     line: u8; mode, wanted, greatest; conv: u8, spans: Span
-) -> Narrowest);
+) -> WidthAnswer);
 
 /// Memory lent to a call; what it is not lent is not looked at.
 pub struct Lent<'m> {

@@ -4,7 +4,7 @@ use super::model::Expected;
 use super::{plain, sample, stated, Case, Fitter, NAME};
 use crate::comparison::Comparison;
 use crate::faults::{faults, Fault};
-use console_lines::Narrowest;
+use console_lines::WidthAnswer;
 use oracle::{Answer, Call};
 
 /// Plants each fault; whether all were found.
@@ -217,7 +217,7 @@ fn is_seen(fitter: &mut Fitter, case: &Case, twist: &Twist) -> bool {
     (twist.change)(case, &mut wrong);
     fitter.call(case);
     fitter.library.leave(&wrong.answer);
-    let answer = Narrowest {
+    let answer = WidthAnswer {
         number: wrong.answer.number,
         count: wrong.answer.count,
         tried: wrong.tried,
