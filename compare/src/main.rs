@@ -47,13 +47,7 @@ fn main() -> ExitCode {
         println!("not in the library: {}", missing.join(", "));
     }
     let good = if options.sample {
-        if !options.cache {
-            screen::print_sample();
-            stored::print_sample();
-            cells::print_sample();
-            narrowest::print_sample();
-        }
-        cache::print_sample();
+        print_samples(options.cache);
         true
     } else if options.faults && options.cache {
         is_found(cache::try_faults(options.seed))
@@ -77,6 +71,19 @@ fn main() -> ExitCode {
     } else {
         ExitCode::FAILURE
     }
+}
+
+/// Prints the samples of the calls that the source has not, or of those with kept wraps
+/// alone.
+fn print_samples(cache_alone: bool) {
+    if cache_alone {
+        return cache::print_sample();
+    }
+    screen::print_sample();
+    cache::print_sample();
+    stored::print_sample();
+    cells::print_sample();
+    narrowest::print_sample();
 }
 
 /// Plants faults behind the calls and, where none is singled out, in demand 3, in the row

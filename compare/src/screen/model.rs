@@ -2,7 +2,8 @@
 //! owns its columns until a later one takes them, and a write that has lost a column
 //! shows in none.
 
-use crate::writing::Answer;
+pub use crate::writing::Answer;
+
 use oracle::changes::places;
 use std::ops::Range;
 use unicode_segmentation::UnicodeSegmentation;

@@ -1,8 +1,9 @@
 //! Rows and refusals that are stated, where document 02's words are short.
 
 use super::changes::{attributes, change, clear, cursor_right, text, with_length};
+use super::model::Answer;
 use super::{drawn, Case};
-use crate::writing::{Answer, Writing};
+use crate::writing::Writing;
 use oracle::{Call, NONE};
 
 struct Statement {
