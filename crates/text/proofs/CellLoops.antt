@@ -1,4 +1,4 @@
--- The loops over cells, two bytes a turn.
+-- The functions over cells: loops of two bytes a turn, and a cell by its style.
 use Prim.Native.Nat.{_+_, _-_, _<_, _≤_, ℕ}
 use native.Mathlib.Omega.{arith}
 use mathlib.Core.Bool.{Bool, _&&_, false, true}
@@ -55,7 +55,7 @@ module _ (cells : List ℕ) (i : ℕ) where
   unfolding overstruckCells
   one-from h = rw (two-at cells i h)
 
--- ---- the length and bytes of a cell, by its style
+-- ---- overstruck_len and push_overstruck
 
 module _ (s : ℕ) where
   pub len-one : s ≡ 0 → 1 ≡ overstruckLength (cellStyle s)

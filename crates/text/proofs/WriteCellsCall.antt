@@ -1,12 +1,12 @@
 -- The call `write_cells`: refusals, and what an accepted call leaves.
-use Prim.Native.Nat.{_+_, _-_, _<_, _≤_, ℕ}
+use Prim.Native.Nat.{_-_, _<_, _≤_, ℕ}
 use native.Mathlib.Omega.{arith}
 use mathlib.Core.Bool.{Bool, false, true}
 use mathlib.Core.List.{List, _++_}
 use mathlib.Core.Path.{_∙_, _≡_, ap, ap₂, refl, sym}
 use lib.Dec.{leb}
 use lib.ListN.{drop, length, replicate, take}
-use borrow.Author.Tests.{le-leb, leb-false, leb-true, lt-leb}
+use borrow.Author.Tests.{le-leb, leb-false, lt-leb}
 use Rattle.buffer.specs.Numbers.{smallerOf}
 use Rattle.buffer.specs.Sink.Laws.{cleared-behind, fitted}
 use Rattle.buffer.specs.Sink.{emit, sink}

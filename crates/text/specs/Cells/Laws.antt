@@ -1,4 +1,4 @@
--- What is written for cells: its length, and cells one after the other.
+-- How many bytes are written for a byte in a style.
 use mathlib.Core.Path.{_≡_, refl}
 use Prim.Native.Nat.{ℕ}
 use lib.ListN.{length}

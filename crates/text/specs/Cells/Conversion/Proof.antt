@@ -1,19 +1,19 @@
--- Each byte that is written is a cluster; the machine takes them cell by cell.
+-- Each byte that is written is a cluster, and the machine takes them cell by cell.
 use Prim.Native.Nat.{ℕ, _*_, _-_, _≤_, _<_}
 use native.Mathlib.Omega.{arith}
 use mathlib.Core.Bool.{Bool, true, false, not, _&&_, _||_}
 use mathlib.Core.List.{List, [], _∷_, _++_, append-assoc, append-nil, reverse}
-use mathlib.Core.Path.{_≡_, refl, sym, ap, ap₂, _∙_}
+use mathlib.Core.Path.{_≡_, refl, sym, ap, _∙_}
 use lib.ListN.{length, replicate}
 use lib.Seq.{take-append-seam}
-use lib.Dec.{eqb, leb, leb→le}
+use lib.Dec.{eqb, leb}
 use borrow.Author.Tests.{eq-eqb, eqb-false, eqb-true, le-leb, ne-eqb, not-true}
 use Rattle.text.specs.Tests.{and-T, cases, is-true, true-T}
 use Rattle.text.specs.Each.{All, all-nil, all-cons, all-append, all-map}
 use Rattle.text.specs.Utf8.{Scalar, ascii, asciis, bytesOf, sameBytes, reads}
 use Rattle.text.specs.Utf8.Laws.{bytesOf-append}
 use Rattle.text.specs.Utf8.AsciiTexts.{asciis-bytes, runs-asciis}
-use Rattle.text.specs.Class.{Profile, control, number, other}
+use Rattle.text.specs.Class.{Profile, number}
 use Rattle.text.specs.Class.Ascii.{AsciiClasses, printable-class, printable-range}
 use Rattle.text.specs.Class.Code.{printable, profileOf}
 use Rattle.text.specs.Class.Profile01.{ascii-classes}
@@ -186,15 +186,15 @@ module _ (P : Profile) (K : OverstrikeClasses P) where
       rw (w .count, w .out, take-append-seam s (replicate (room - length s) 0))
       (convert-accepted P conv s d ∙ rw (cells-convert cells (w .whole)) refl)
 
--- ---- document 01's profile
+-- ---- profiles that have it, and document 01's
 
-classes : (P : Profile) → AsciiClasses P → OverstrikeClasses P
+pub overstrike-classes : (P : Profile) → AsciiClasses P → OverstrikeClasses P
 unfolding number
-classes P a = record { backspace = a .class 0x08 (omega arith); plain = λ b e. printable-class P a b e }
+overstrike-classes P a = record { backspace = a .class 0x08 (omega arith); plain = λ b e. printable-class P a b e }
 
 classes01 : OverstrikeClasses profile01
 unfolding profileOf
-classes01 = classes profile01 (ascii-classes (record { version = 0 }))
+classes01 = overstrike-classes profile01 (ascii-classes (record { version = 0 }))
 
 pub cells-convert01 : CellsConvert profile01
 cells-convert01 = cells-convert profile01 classes01
