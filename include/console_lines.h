@@ -115,12 +115,11 @@ console_answer console_draw_row(const uint8_t *line, size_t line_len, const size
 console_answer console_screen_row(const uint8_t *list, size_t list_len, size_t width, uint8_t *out, size_t out_len);
 
 /* The stored form of a change list, for the journal: each change a 2-byte length of its
- * body, a 2-byte kind and the body. Attribute bodies have 25 bytes, the last of them the
- * alignment (0 baseline, 1 raised, 2 lowered); old ones of 24 bytes, mixed with others or
- * not, get alignment 0. The count is the bytes: 2 fewer for each change, 1 more for each
- * old attribute body. Refused by 10 where the list is malformed or a text is not UTF-8
- * (cluster widths aren't asked); by 12 where a body is above 65,535 bytes; by 9 where out
- * is too short. */
+ * body, a 2-byte kind and the body. Old attribute bodies of 24 bytes, mixed with others or
+ * not, get baseline alignment, a last byte 0. The count is the bytes: 2 fewer for each
+ * change, 1 more for each old attribute body. Refused by 10 where the list is malformed
+ * or a text is not UTF-8 (cluster widths aren't asked); by 12 where a body is above 65,535
+ * bytes; by 9 where out is too short. */
 console_answer console_store(const uint8_t *list, size_t list_len, uint8_t *out, size_t out_len);
 
 /* The change list of a stored form; the count is its bytes, 2 more for each change. Refused
