@@ -2,17 +2,15 @@
 use mathlib.Core.Path.{_≡_, refl, sym, ap, ap₂, _∙_}
 use Prim.Native.Nat.{ℕ, zero, suc, _+_, _≤_, _<_, _^_}
 use native.Mathlib.Omega.{arith}
-use mathlib.Core.Bool.{Bool, true, false, cond, _&&_}
-use mathlib.Core.List.{List, [], _++_, reverse}
+use mathlib.Core.Bool.{Bool, true, false}
+use mathlib.Core.List.{List, [], _++_}
 use lib.ListN.{length, take, length-reverse}
-use lib.Dec.{leb, ltb}
-use borrow.Author.Tests.{leb-true, lt-ltb}
+use lib.Dec.{leb}
+use borrow.Author.Tests.{lt-ltb}
 use Rattle.buffer.specs.Sink.{cleared}
 use Rattle.buffer.specs.Sink.Laws.{cleared-none, cleared-all}
-use Rattle.text.specs.Tests.{cases, and-T, true-T, is-true}
+use Rattle.text.specs.Tests.{cases}
 use Rattle.text.specs.Width.{profile01}
-use Rattle.text.specs.Class.{Profile}
-use Rattle.text.specs.Class.Code.{profileOf}
 use Rattle.text.specs.Class.Profile01.{profile-is}
 use Rattle.text.specs.Overstrike.{convert}
 use Rattle.text.specs.Calls.{counted}
@@ -26,23 +24,13 @@ use Rattle.rows.specs.Calls.{modeOf}
 use Rattle.rows.specs.Calls.Contracts.{largest, lineRoom}
 use Rattle.rows.specs.Calls.Reading as reading
 use Rattle.rows.specs.Calls.Reading.{line-room, unmatched-spans}
-use Rattle.rows.specs.Wrap.{rowsOf}
 use Rattle.rows.specs.Wrap.Laws.{rows-of-spans}
-use Rattle.rows.specs.Narrowest.{firstFrom, triedOf, modeRowsAndWidth, Narrowed, takesAtMost, narrowest, narrowestCall}
-use Rattle.rows.specs.Narrowest.Laws.{nothing, narrowest-refused, narrowest-five, narrowest-accepted, first-alike}
+use Rattle.rows.specs.Narrowest.{triedOf, modeRowsAndWidth, Narrowed, takesAtMost, narrowest, narrowestCall}
+use Rattle.rows.specs.Narrowest.Laws.{nothing, narrowest-refused, narrowest-five, narrowest-accepted, asked-ranges, first-alike}
 use Rattle.rows.specs.Widths.{narrowedAs, decided, planOf, widths, triedFrom, fitsAt, WidthsRoom}
 use Rattle.rows.specs.Widths.Laws.{tried-first}
-use Rattle.rows.specs.declared.WidthAnswer.{WidthAnswer}
-use Rattle.rows.specs.declared.widths.WidthRequest.{WidthRequest}
 use Rattle.rows.specs.declared.widths.WidthPlan.{WidthPlan}
 use Rattle.rows.specs.declared.widths.Widths.{Widths}
-
--- question 5 leaves modes that wrap, and few widths
-asked-mode : (mode wanted greatest : ℕ) → modeRowsAndWidth mode wanted greatest ≡ true → (mode ≤ 2) × (greatest ≤ 65535)
-asked-mode mode wanted greatest e =
-    let t = and-T (leb 1 mode && leb mode 2) ((leb 1 wanted && leb wanted 65535) && (leb 1 greatest && leb greatest 65535)) (true-T e) in
-    let u = and-T (leb 1 wanted && leb wanted 65535) (leb 1 greatest && leb greatest 65535) (t .1) in
-    (leb-true mode 2 (is-true _ (and-T (leb 1 mode) (leb mode 2) (t .0) .1)), leb-true greatest 65535 (is-true _ (and-T (leb 1 greatest) (leb greatest 65535) (u .1) .1)))
 
 module _ (size places mode wanted greatest : ℕ) (line : List ℕ) (a : Answer) (cs : List ℕ) (rs : List Record) (read : readAs a cs rs ≡ readCall profile01 size places [] line) where
   abbrev s : List ℕ
@@ -74,7 +62,7 @@ module _ (size places mode wanted greatest : ℕ) (line : List ℕ) (a : Answer)
 
   few-widths : (m : ℕ) → a .number ≡ m → counted greatest number ≤ 65535
   few-widths (suc r) e = rw (refused-first r e, counted-refused) (omega arith)
-  few-widths zero e = cases asked (λ f. rw (not-refused e f, counted-accepted) (asked-mode mode wanted greatest f .1)) (λ f. rw (refused-five e f, counted-refused) (omega arith))
+  few-widths zero e = cases asked (λ f. rw (not-refused e f, counted-accepted) (asked-ranges mode wanted greatest f .2 .1)) (λ f. rw (refused-five e f, counted-refused) (omega arith))
 
   module _ (o : WidthPlan) (o-is : o ≡ plan) where
     -- what `first_width` asks
@@ -118,7 +106,7 @@ module _ (size places mode wanted greatest : ℕ) (line : List ℕ) (a : Answer)
             let held = rw (unmatched-spans profile01 s) at (reading.held-in size places [] line a cs rs read fine) in
             let l = reading.line-part size places [] line a cs rs read fine in
             let r = rw (unmatched-spans profile01 s) at (reading.spans-part size places [] line a cs rs read fine) in
-            let k : mode ≤ 4 = omega (arith, asked-mode mode wanted greatest e .0) in
+            let k : mode ≤ 4 = omega (arith, asked-ranges mode wanted greatest e .0 .1) in
             ap (λ (n : ℕ). leb n wanted)
             (rw (l, r, profile-is (planOf 0 mode wanted greatest size .request .wrapping .profile)) (ap (λ (x : List Row). length x) (rows-of-spans profile01 w (s ++ after) ss held mode k) ∙ length-reverse (rows profile01 w (modeOf mode) ss)))
 

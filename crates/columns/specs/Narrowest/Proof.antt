@@ -3,12 +3,12 @@ use mathlib.Core.Path.{_≡_, refl, sym, ap, subst}
 use mathlib.Core.Logic.{_⊎_, inl, inr}
 use Prim.Native.Nat.{ℕ, zero, suc, _+_, _≤_, _<_, max}
 use native.Mathlib.Omega.{arith}
-use mathlib.Core.Bool.{Bool, true, false, _&&_}
+use mathlib.Core.Bool.{Bool, true, false}
 use mathlib.Core.List.{List, []}
 use lib.ListN.{length}
 use lib.Dec.{eqb, leb}
 use borrow.Author.Tests.{eqb-true, eqb-false, leb-true, leb-false}
-use Rattle.text.specs.Tests.{cases, and-T, true-T, is-true, in-range}
+use Rattle.text.specs.Tests.{cases}
 use Rattle.text.specs.Class.{Profile}
 use Rattle.text.specs.Width.{profile01}
 use Rattle.text.specs.Overstrike.{convert}
@@ -17,7 +17,7 @@ use Rattle.spans.specs.Calls.{readCall}
 use Rattle.rows.specs.Rows.{Row, Mode, graphemeBoundary, wordBoundary, eight, rows}
 use Rattle.rows.specs.Calls.{modeOf}
 use Rattle.rows.specs.Narrowest.{firstFrom, triedOf, modeRowsAndWidth, Narrowed, takesAtMost, narrowest, narrowestCall}
-use Rattle.rows.specs.Narrowest.Laws.{narrowest-refused, narrowest-five, narrowest-accepted}
+use Rattle.rows.specs.Narrowest.Laws.{asked-ranges, narrowest-refused, narrowest-five, narrowest-accepted}
 use Rattle.columns.specs.Columns.{lastColumn}
 use Rattle.columns.specs.Columns.OneRow.{one-row}
 use Rattle.columns.specs.Narrowest.{Narrowest, NarrowestWidth, NarrowestAnswer}
@@ -118,10 +118,8 @@ module _ (P : Profile) (conv places mode wanted greatest : ℕ) (line : List ℕ
 
   asked : modeRowsAndWidth mode wanted greatest ≡ true → Narrowest P (modeOf mode) wanted greatest ss (narrowest P (modeOf mode) wanted greatest ss)
   asked e =
-      let t = and-T (leb 1 mode && leb mode 2) ((leb 1 wanted && leb wanted 65535) && (leb 1 greatest && leb greatest 65535)) (true-T e) in
-      let u = and-T (leb 1 wanted && leb wanted 65535) (leb 1 greatest && leb greatest 65535) (t .1) in
-      let m = in-range 1 2 mode (is-true _ (t .0)) in
-      narrowestWidth P (modeOf mode) (mode-wraps mode (m .0) (m .1)) wanted greatest (in-range 1 65535 wanted (is-true _ (u .0)) .0) (in-range 1 65535 greatest (is-true _ (u .1)) .0) ss
+      let r = asked-ranges mode wanted greatest e in
+      narrowestWidth P (modeOf mode) (mode-wraps mode (r .0 .0) (r .0 .1)) wanted greatest (r .1 .0) (r .2 .0) ss
 
   said : (n : ℕ) → readCall P conv places [] line .number ≡ n → call .number ≡ 0 → Said call
   said (suc r) e z = absurd (let k = ap (λ (c : Narrowed). c .number) (narrowest-refused P conv places mode wanted greatest line r e) in omega arith)

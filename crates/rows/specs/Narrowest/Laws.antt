@@ -1,9 +1,11 @@
 -- The call `narrowest` by what the call `read` without matches answers: the same refusals first, then question 5.
 use mathlib.Core.Path.{_≡_, refl, ap, _∙_}
-use Prim.Native.Nat.{ℕ, zero, suc}
-use mathlib.Core.Bool.{Bool, true, false}
+use Prim.Native.Nat.{ℕ, zero, suc, _≤_}
+use mathlib.Core.Bool.{Bool, true, false, _&&_}
 use mathlib.Core.List.{List, [], _∷_, _++_}
 use lib.ListN.{replicate}
+use lib.Dec.{leb}
+use Rattle.text.specs.Tests.{and-T, true-T, is-true, in-range}
 use Rattle.text.specs.Class.{Profile}
 use Rattle.text.specs.Overstrike.{convert}
 use Rattle.text.specs.Calls.{Question, ask, decide, lent, counted}
@@ -14,6 +16,13 @@ use Rattle.spans.specs.Calls.Laws.{unmatched-accepted}
 use Rattle.rows.specs.Calls.{modeOf}
 use Rattle.rows.specs.Calls.Laws.{first, refusing, accepting}
 use Rattle.rows.specs.Narrowest.{firstFrom, triedOf, modeRowsAndWidth, Narrowed, narrowest, narrowestCall}
+
+-- what question 5 says
+pub asked-ranges : (mode wanted greatest : ℕ) → modeRowsAndWidth mode wanted greatest ≡ true → ((1 ≤ mode) × (mode ≤ 2)) × ((1 ≤ wanted) × (wanted ≤ 65535)) × ((1 ≤ greatest) × (greatest ≤ 65535))
+asked-ranges mode wanted greatest e =
+    let t = and-T (leb 1 mode && leb mode 2) ((leb 1 wanted && leb wanted 65535) && (leb 1 greatest && leb greatest 65535)) (true-T e) in
+    let u = and-T (leb 1 wanted && leb wanted 65535) (leb 1 greatest && leb greatest 65535) (t .1) in
+    (in-range 1 2 mode (is-true _ (t .0)), in-range 1 65535 wanted (is-true _ (u .0)), in-range 1 65535 greatest (is-true _ (u .1)))
 
 -- tests that answer alike
 pub first-alike : (p q : ℕ → Bool) → ((w : ℕ) → p w ≡ q w) → (n w : ℕ) → firstFrom p n w ≡ firstFrom q n w

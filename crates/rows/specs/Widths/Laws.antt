@@ -1,9 +1,9 @@
 -- Widths one after the other are tried up to the least that passes the test.
-use mathlib.Core.Path.{_≡_, refl, sym, ap, _∙_}
+use mathlib.Core.Path.{_≡_, refl, ap, _∙_}
 use Prim.Native.Nat.{ℕ, zero, suc, _+_}
 use native.Mathlib.Numerals.{add-one}
 use native.Mathlib.Omega.{arith}
-use mathlib.Core.Bool.{Bool, true, false}
+use mathlib.Core.Bool.{Bool}
 use Rattle.text.specs.Tests.{cases}
 use Rattle.rows.specs.Narrowest.{firstFrom, triedOf}
 use Rattle.rows.specs.Widths.{widths, triedFrom}

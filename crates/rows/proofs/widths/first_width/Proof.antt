@@ -1,6 +1,6 @@
 -- A walk of the code, by hand, with a loop. Each turn lends a row list of no places for a lifetime of the call and the spans and the line as they are, and calls `make_wrap` between two covered functions. Of each callee the walk knows the contract alone. The loop's variant is the state of a turn: the widths tried, and what `Trying` says of them.
 use Rattle.rows.proofs.widths.first_width.Key.{name as key}
-use mathlib.Core.Path.{_≡_, refl, sym, _∙_, ap, subst}
+use mathlib.Core.Path.{_≡_, refl, ap}
 use mathlib.Core.Bool.{Bool}
 use mathlib.Core.WellFounded.{WellFounded, InvImage·wf}
 use Prim.Native.Nat.{ℕ, _+_, _<_, _≤_, _^_}
@@ -42,7 +42,7 @@ use Rattle.text.specs.Tests.{cases}
 use Rattle.text.specs.Class.Code.{profileOf}
 use Rattle.spans.specs.declared.Span.{Span}
 use Rattle.spans.proofs.Span as T
-use Rattle.rows.specs.Wrap.{beginning, SpansRoom, MadeWrap, rowsOf}
+use Rattle.rows.specs.Wrap.{beginning, SpansRoom, MadeWrap}
 use Rattle.rows.specs.Widths.{widths, nextWrapping, WidthLeft, WidthsRoom, fitsAt, triedFrom}
 use Rattle.rows.specs.declared.wrap.RowCounts.{RowCounts}
 use Rattle.rows.specs.declared.wrap.WrapState.{WrapState}
