@@ -18,7 +18,7 @@ const MODES: [usize; 2] = [1, 2];
 const LONGEST: usize = 4_096;
 
 /// Each work takes long enough to be measured alone.
-const ROUNDS: usize = 3;
+const ROUNDS: usize = 5;
 
 const HEADING: &str = "
 narrowest, lines of 4,096 bytes, one row wanted, in milliseconds:

@@ -1,7 +1,10 @@
 //! A line at a width, in mode 1.
 
+use crate::lines::LONGEST_ADMITTED;
 use oracle::{Call, Case as Asked};
 use std::fmt;
+
+const LARGEST_WIDTH: usize = 65_535;
 
 #[derive(Clone, Debug)]
 pub struct Case {
@@ -18,6 +21,11 @@ impl Case {
         };
         let line = asked.line.clone();
         Some(Case { line, width })
+    }
+
+    /// Whether questions 1 and 5 are passed.
+    pub fn is_admitted(&self) -> bool {
+        self.line.len() <= LONGEST_ADMITTED && self.width <= LARGEST_WIDTH
     }
 
     /// The call for rows, lent enough: the converted line has at most 8 times the line's

@@ -27,9 +27,12 @@ pub fn check(case: &Case, program: &mut Program) -> Result<Said, String> {
     let matches = Vec::new();
     let reading = Call::Read { matches }.ample_answer(&case.line);
     let line = units(&reading);
+    let broken = |text: String| format!("# {text}\n{case}");
     let answer = program(&case.rows());
-    if answer.number != 0 {
-        return Ok(Said::Refused);
+    match answer.number {
+        0 => (),
+        _ if !case.is_admitted() => return Ok(Said::Refused),
+        number => return Err(broken(format!("refused by {number}"))),
     }
     if line.contains(&Unit::Tab) {
         return Ok(Said::WithTabs);
@@ -38,7 +41,6 @@ pub fn check(case: &Case, program: &mut Program) -> Result<Said, String> {
     if widths.iter().any(|unit| *unit > case.width) {
         return Ok(Said::TooNarrow);
     }
-    let broken = |text: String| format!("# {text}\n{case}");
     let rows = rows(&answer);
     is_list(&rows, &widths, case.width, last_column(&line)).map_err(broken)?;
     let least = fewest(&widths, case.width);

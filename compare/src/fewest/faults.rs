@@ -23,7 +23,7 @@ fn pairs(answer: &Answer) -> Vec<usize> {
     answer.pairs[..2 * answer.count].to_vec()
 }
 
-const FAULTS: [Fault; 8] = [
+const FAULTS: [Fault; 9] = [
     Fault {
         name: "an empty row stands behind the last",
         change: |answer, _, _| {
@@ -80,6 +80,15 @@ const FAULTS: [Fault; 8] = [
                 rows[2] -= 1;
             }
             replace(answer, rows);
+        },
+    },
+    Fault {
+        name: "a line is refused",
+        change: |answer, _, _| {
+            *answer = Answer {
+                number: 6,
+                ..Answer::default()
+            }
         },
     },
     Fault {

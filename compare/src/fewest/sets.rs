@@ -3,7 +3,7 @@
 use super::Case;
 use crate::alphabets::Alphabet;
 use crate::comparison::Set;
-use crate::lines::{self, short, Lines};
+use crate::lines::{self, short, Lines, LONGEST_ADMITTED};
 use crate::units::{units, Unit};
 use oracle::random::Random;
 use oracle::Call;
@@ -65,7 +65,7 @@ impl Maker {
         let case = move |number| {
             let mut random = Random::of_case(seed, number);
             let mut line = lines::random(&mut random, alphabet, number);
-            if line.len() <= 4_096 {
+            if line.len() <= LONGEST_ADMITTED {
                 line.truncate(LONGEST);
             }
             let width = any_width(&mut random, &line);

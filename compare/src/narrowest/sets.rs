@@ -5,7 +5,7 @@ use super::{sample, stated, Case};
 use crate::alphabets::{Alphabet, WIDTHS_OF_SPANS, WORDS};
 use crate::comparison::Set;
 use crate::lending::around;
-use crate::lines::{self, few, longest, short, Lines};
+use crate::lines::{self, few, longest, short, Lines, LONGEST_ADMITTED};
 use oracle::random::Random;
 
 /// So many random lines, and so many calls on each.
@@ -88,7 +88,7 @@ impl Maker {
     fn random(self, name: &'static str, alphabet: Alphabet) -> Set<Case> {
         self.made(name, RANDOM, CALLS, move |random, number| {
             let mut line = lines::random(random, alphabet, number);
-            if line.len() <= 4_096 {
+            if line.len() <= LONGEST_ADMITTED {
                 line.truncate(LONGEST);
             }
             line
