@@ -43,7 +43,7 @@ unfolding size asciis
 asciis-size [] = refl
 asciis-size (b ∷ s) = omega (arith, asciis-size s)
 
-asciis-valid : {s : List ℕ} → All (λ (b : ℕ). b < 0x80) s → All Valid (asciis s)
+pub asciis-valid : {s : List ℕ} → All (λ (b : ℕ). b < 0x80) s → All Valid (asciis s)
 unfolding asciis
 asciis-valid all-nil = all-nil
 asciis-valid (all-cons {a = b} h a) = all-cons (ascii-valid b h) (asciis-valid a)
