@@ -16,6 +16,7 @@ mod narrowest;
 mod options;
 mod orders;
 mod picture;
+mod readers;
 mod screen;
 mod sets;
 mod stored;
@@ -53,6 +54,8 @@ fn main() -> ExitCode {
         is_found(cache::try_faults(options.seed))
     } else if options.faults && options.fewest {
         is_found(fewest::try_faults())
+    } else if options.faults && options.readers {
+        is_found(readers::try_faults(options.seed))
     } else if options.faults {
         plant_faults(&there, &options)
     } else if options.demand3 {
@@ -63,6 +66,8 @@ fn main() -> ExitCode {
         cache::run(&options)
     } else if options.fewest {
         fewest::run(&options)
+    } else if options.readers {
+        readers::run(&options)
     } else {
         compare_calls(&there, &options)
     };
@@ -80,6 +85,7 @@ fn print_samples(cache_alone: bool) {
         return cache::print_sample();
     }
     screen::print_sample();
+    readers::print_sample();
     cache::print_sample();
     stored::print_sample();
     cells::print_sample();
@@ -87,7 +93,8 @@ fn print_samples(cache_alone: bool) {
 }
 
 /// Plants faults behind the calls and, where none is singled out, in demand 3, in the row
-/// picture, behind the calls with kept wraps and in fewest rows; whether all are found.
+/// picture, behind the calls with kept wraps, in fewest rows and in the crew's view; whether
+/// all are found.
 fn plant_faults(calls: &[&'static str], options: &Options) -> bool {
     let missed = calls.iter().filter(|&&call| match call {
         screen::NAME => !screen::try_faults(),
@@ -102,6 +109,7 @@ fn plant_faults(calls: &[&'static str], options: &Options) -> bool {
         good &= picture::try_faults(options.seed);
         good &= cache::try_faults(options.seed);
         good &= fewest::try_faults();
+        good &= readers::try_faults(options.seed);
     }
     is_found(good)
 }
@@ -112,7 +120,7 @@ fn is_found(all: bool) -> bool {
 }
 
 /// Compares the calls and, where none is singled out, runs demand 3, the row picture, the
-/// calls with kept wraps and fewest rows; whether all is equal and holds.
+/// calls with kept wraps, fewest rows and the crew's view; whether all is equal and holds.
 fn compare_calls(calls: &[&'static str], options: &Options) -> bool {
     let start = Instant::now();
     let mut total = Tally::default();
@@ -122,7 +130,13 @@ fn compare_calls(calls: &[&'static str], options: &Options) -> bool {
     let seconds = start.elapsed().as_secs_f64();
     println!("total: {total}, {seconds:.1} s");
     let equal = is_equal(&total);
-    let further: [fn(&Options) -> bool; 4] = [demand3::run, picture::run, cache::run, fewest::run];
+    let further: [fn(&Options) -> bool; 5] = [
+        demand3::run,
+        picture::run,
+        cache::run,
+        fewest::run,
+        readers::run,
+    ];
     let broken = further.iter().filter(|run| !run(options));
     let holds = !options.is_whole() || broken.count() == 0;
     equal && holds

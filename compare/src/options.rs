@@ -1,6 +1,6 @@
 //! The program's options.
 
-use crate::{cache, cells, narrowest, screen, stored};
+use crate::{cache, cells, narrowest, readers, screen, stored};
 use oracle::{Call, Case};
 use std::fs;
 
@@ -9,8 +9,9 @@ pub const USAGE: &str = "usage: compare [--call NAME]... [--quick] [--jobs N] [-
        compare --picture [--quick] [--jobs N] [--seed N] [--trace]
        compare --cache [--quick] [--jobs N] [--seed N] [--trace]
        compare --fewest [--quick] [--jobs N] [--seed N] [--trace]
-       compare [--picture | --cache | --fewest] --cases FILE [--trace]
-       compare --faults [--cache | --fewest | --call NAME]...
+       compare --readers [--quick] [--jobs N] [--seed N] [--trace]
+       compare [--picture | --cache | --fewest | --readers] --cases FILE [--trace]
+       compare --faults [--cache | --fewest | --readers | --call NAME]...
        compare --sample [--cache]";
 
 /// A quick run takes one case of so many.
@@ -35,7 +36,9 @@ pub struct Options {
     pub cache: bool,
     /// Runs fewest rows alone.
     pub fewest: bool,
-    /// Prints the samples of the calls that the source has not.
+    /// Runs the crew's view alone.
+    pub readers: bool,
+    /// Prints the samples of the calls that the source has not, and of drawings for readers.
     pub sample: bool,
     /// Cases to compare in place of the sets.
     pub cases: Option<Cases>,
@@ -52,6 +55,8 @@ pub struct Cases {
     pub narrowest: Vec<narrowest::Case>,
     /// Of calls with kept wraps.
     pub sequences: Vec<cache::Sequence>,
+    /// Drawings that name their reader.
+    pub views: Vec<readers::View>,
 }
 
 /// The names of the calls that are compared.
@@ -74,6 +79,7 @@ impl Options {
             picture: false,
             cache: false,
             fewest: false,
+            readers: false,
             sample: false,
             cases: None,
         };
@@ -90,6 +96,7 @@ impl Options {
                 "--picture" => options.picture = true,
                 "--cache" => options.cache = true,
                 "--fewest" => options.fewest = true,
+                "--readers" => options.readers = true,
                 "--sample" => options.sample = true,
                 "--cases" => options.cases = Some(cases(&value()?)?),
                 _ => return Err(format!("no option {argument}")),
@@ -142,6 +149,7 @@ fn cases(file: &str) -> Result<Cases, String> {
             Some(cells::NAME) => cases.cells.push(question.parse()?),
             Some(narrowest::NAME) => cases.narrowest.push(question.parse()?),
             Some(cache::NAME | cache::RECORDED) => cases.sequences.push(question.parse()?),
+            Some(name) if readers::NAMES.contains(&name) => cases.views.push(question.parse()?),
             _ => cases.calls.push(question.parse()?),
         }
     }

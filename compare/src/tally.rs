@@ -6,7 +6,7 @@ use std::fmt;
 const MOST_PRINTED: usize = 20;
 
 /// The largest number that a refusal has.
-const LARGEST_NUMBER: usize = 17;
+const LARGEST_NUMBER: usize = 18;
 
 /// Differences found, as text.
 #[derive(Default)]

@@ -28,6 +28,10 @@ pub struct WidthAnswer {
     pub tried: usize,
 }
 
+/// The readers of a drawing.
+pub const BENCH: usize = 0;
+pub const CREW: usize = 1;
+
 /// Kept wraps: heads and blocks of rows.
 pub type Wraps = [usize; 8_212];
 
@@ -52,15 +56,16 @@ pub fn exported() -> Vec<&'static str> {
     there.map(|(name, _)| name).collect()
 }
 
-/// A call with the slices that it reads, its numbers, an array if it has one, and the
-/// slices that it writes; the C function takes each slice as a pointer and a length, the
-/// array as a pointer. It returns an `Answer`, or what is named. Where the library does not
-/// export it, the call panics.
+/// A call with a number that stands first if it has one, the slices that it reads, its
+/// numbers, an array if it has one, and the slices that it writes; the C function takes each
+/// slice as a pointer and a length, the array as a pointer. It returns an `Answer`, or what is
+/// named. Where the library does not export it, the call panics.
 macro_rules! declare {
     ($has:ident, $name:ident, $symbol:ident($($parameters:tt)*)) => {
         declare!($has, $name, $symbol($($parameters)*) -> Answer);
     };
     ($has:ident, $name:ident, $symbol:ident(
+        $([$first:ident])?
         $($read:ident: $read_item:ty),*;
         $($number:ident),*;
         $([$array:ident: $array_type:ty])?
@@ -69,6 +74,7 @@ macro_rules! declare {
         #[cfg($has)]
         extern "C" {
             fn $symbol(
+                $($first: usize,)?
                 $(_: *const $read_item, _: usize,)*
                 $($number: usize,)*
                 $(_: *mut $array_type,)?
@@ -78,6 +84,7 @@ macro_rules! declare {
 
         #[allow(clippy::too_many_arguments, unused_variables)]
         pub fn $name(
+            $($first: usize,)?
             $($read: &[$read_item],)*
             $($number: usize,)*
             $($array: &mut $array_type,)?
@@ -88,6 +95,7 @@ macro_rules! declare {
             #[cfg($has)]
             unsafe {
                 $symbol(
+                    $($first,)?
                     $($read.as_ptr(), $read.len(),)*
                     $($number,)*
                     $($array,)?
@@ -105,10 +113,10 @@ declare!(has_read, read, console_read(line: u8, matches: usize; ; conv: u8, span
 declare!(has_rows, rows, console_rows(line: u8; width, mode; conv: u8, spans: Span, rows: usize));
 declare!(has_height, height, console_height(line: u8; width, mode; conv: u8, spans: Span));
 declare!(has_draw_window, draw_window, console_draw_window(
-    line: u8, matches: usize; current, start, end; conv: u8, spans: Span, list: u8
+    [reader] line: u8, matches: usize; current, start, end; conv: u8, spans: Span, list: u8
 ));
 declare!(has_draw_row, draw_row, console_draw_row(
-    line: u8, matches: usize; current, first, count, width, mode; conv: u8, spans: Span, list: u8
+    [reader] line: u8, matches: usize; current, first, count, width, mode; conv: u8, spans: Span, list: u8
 ));
 declare!(has_screen_row, screen_row, console_screen_row(list: u8; width; out: u8));
 declare!(has_cached_rows, cached_rows, console_cached_rows(
@@ -132,8 +140,14 @@ pub struct Lent<'m> {
     pub list: &'m mut [u8],
 }
 
-/// Makes any of the six calls of document 01, with a copy of its matches.
+/// Makes any of the six calls of document 01, with a copy of its matches; drawings are for
+/// the bench.
 pub fn make(call: &Call, line: &[u8], matches: &[usize], lent: Lent) -> Answer {
+    make_for(BENCH, call, line, matches, lent)
+}
+
+/// The same with another reader of drawings.
+pub fn make_for(reader: usize, call: &Call, line: &[u8], matches: &[usize], lent: Lent) -> Answer {
     let Lent {
         conv,
         spans,
@@ -150,7 +164,9 @@ pub fn make(call: &Call, line: &[u8], matches: &[usize], lent: Lent) -> Answer {
             start,
             end,
             ..
-        } => draw_window(line, matches, current, start, end, conv, spans, list),
+        } => draw_window(
+            reader, line, matches, current, start, end, conv, spans, list,
+        ),
         Call::DrawRow {
             current,
             first,
@@ -159,7 +175,7 @@ pub fn make(call: &Call, line: &[u8], matches: &[usize], lent: Lent) -> Answer {
             mode,
             ..
         } => draw_row(
-            line, matches, current, first, count, width, mode, conv, spans, list,
+            reader, line, matches, current, first, count, width, mode, conv, spans, list,
         ),
     }
 }
