@@ -191,7 +191,8 @@ impl Library {
         written.map_or(said, Err)
     }
 
-    fn buffers_hold(&self, expected: &Answer) -> bool {
+    /// Whether what was lent holds an answer.
+    pub fn buffers_hold(&self, expected: &Answer) -> bool {
         self.conv.holds(expected.conv.iter().copied())
             && self.spans.holds(expected.records.iter().map(span))
             && self.rows.holds(expected.pairs.iter().copied())

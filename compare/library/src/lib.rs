@@ -19,6 +19,15 @@ pub struct Span {
     pub matched: usize,
 }
 
+/// What narrowest returns: `count` is the width found, or 0.
+#[repr(C)]
+#[derive(Clone, Copy, Debug, PartialEq, Eq)]
+pub struct WidthAnswer {
+    pub number: usize,
+    pub count: usize,
+    pub tried: usize,
+}
+
 /// The readers of a drawing.
 pub const BENCH: usize = 0;
 pub const CREW: usize = 1;
@@ -38,22 +47,30 @@ pub fn exported() -> Vec<&'static str> {
         ("screen_row", cfg!(has_screen_row)),
         ("cached_rows", cfg!(has_cached_rows)),
         ("cached_height", cfg!(has_cached_height)),
+        ("store", cfg!(has_store)),
+        ("restore", cfg!(has_restore)),
+        ("write_cells", cfg!(has_write_cells)),
+        ("narrowest", cfg!(has_narrowest)),
     ];
     let there = calls.into_iter().filter(|(_, there)| *there);
     there.map(|(name, _)| name).collect()
 }
 
 /// A call with a number that stands first if it has one, the slices that it reads, its
-/// numbers, an array if it has one, and the slices that it writes; the C function takes each slice as a pointer and a length, the
-/// array as a pointer. Where the library does not export it, the call panics.
+/// numbers, an array if it has one, and the slices that it writes; the C function takes each
+/// slice as a pointer and a length, the array as a pointer. It returns an `Answer`, or what is
+/// named. Where the library does not export it, the call panics.
 macro_rules! declare {
+    ($has:ident, $name:ident, $symbol:ident($($parameters:tt)*)) => {
+        declare!($has, $name, $symbol($($parameters)*) -> Answer);
+    };
     ($has:ident, $name:ident, $symbol:ident(
         $([$first:ident])?
         $($read:ident: $read_item:ty),*;
         $($number:ident),*;
         $([$array:ident: $array_type:ty])?
         $($written:ident: $written_item:ty),*
-    )) => {
+    ) -> $answer:ty) => {
         #[cfg($has)]
         extern "C" {
             fn $symbol(
@@ -62,7 +79,7 @@ macro_rules! declare {
                 $($number: usize,)*
                 $(_: *mut $array_type,)?
                 $(_: *mut $written_item, _: usize),*
-            ) -> Answer;
+            ) -> $answer;
         }
 
         #[allow(clippy::too_many_arguments, unused_variables)]
@@ -72,7 +89,7 @@ macro_rules! declare {
             $($number: usize,)*
             $($array: &mut $array_type,)?
             $($written: &mut [$written_item]),*
-        ) -> Answer {
+        ) -> $answer {
             // SAFETY: each pointer comes from a slice with its length, or from an array of
             // the size that is declared, and the library keeps none of them.
             #[cfg($has)]
@@ -108,6 +125,12 @@ declare!(has_cached_rows, cached_rows, console_cached_rows(
 declare!(has_cached_height, cached_height, console_cached_height(
     line: u8; width, mode; [wraps: Wraps] conv: u8, spans: Span
 ));
+declare!(has_store, store, console_store(list: u8; ; out: u8));
+declare!(has_restore, restore, console_restore(stored: u8; ; out: u8));
+declare!(has_write_cells, write_cells, console_write_cells(cells: u8; ; out: u8));
+declare!(has_narrowest, narrowest, console_narrowest(
+    line: u8; mode, wanted, greatest; conv: u8, spans: Span
+) -> WidthAnswer);
 
 /// Memory lent to a call; what it is not lent is not looked at.
 pub struct Lent<'m> {

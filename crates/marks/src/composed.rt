@@ -67,12 +67,12 @@ pub(crate) fn push_byte_mark(out: &mut [u8], byte: u8) -> usize
 }
 
 // So many columns of a mark from offset on, as a text change.
-pub(crate) fn push_clipped(list: &mut [u8], mark: &[u8], offset: usize, width: usize) -> usize
-    requires { ⌜ offset + width ≤ 20 ⌝ }
+pub(crate) fn push_clipped(list: &mut [u8], mark: &[u8], offset: u8, width: u8) -> usize
     ensures { λ r. ⌜ sink (now (list .exit)) r ≡ emit (sink (now (list .entry)) 0) (clippedChange (now (mark .entry)) offset width) ⌝ }
 {
-    let from = smaller(offset, mark.len());
-    let to = smaller(offset + width, mark.len());
+    let start = offset as usize;
+    let from = smaller(start, mark.len());
+    let to = smaller(start + width as usize, mark.len());
     let a = push_le4(list, 0, to - from);
     let b = push_le2(list, a, 1);
     push_bytes(list, b, &mark[from..to])

@@ -10,21 +10,17 @@ use drawing::write::Window;
 use libc::STDOUT_FILENO;
 use text::Column;
 use text::class::Profile;
-ghost use Prim.Native.Nat.{_≤_, _<_};
-ghost use lib.ListN.{length};
 
 // The columns from offset on, so many.
-fn compare(code: u32, mark: &[u8], offset: usize, width: usize)
-    requires { ⌜ offset ≤ 10 ⌝ }
-    requires { ⌜ width ≤ 10 ⌝ }
-{
+fn compare(code: u32, mark: &[u8], offset: u8, width: u8) {
+    let start = offset as usize;
     let mut before = [170u8; 32];
     let mut after = [170u8; 32];
     let n = push_clipped(&mut before, mark, offset, width);
     let window = Window {
         profile: Profile { version: 0 },
-        start: Column(offset),
-        end: Column(offset + width),
+        start: Column(start),
+        end: Column(start + width as usize),
     };
     let m = push_mark(&mut after, 0, code, mark.len(), window, Column(0));
     if n == m {
@@ -37,9 +33,7 @@ fn compare(code: u32, mark: &[u8], offset: usize, width: usize)
     io::write_all(STDOUT_FILENO, b"\n");
 }
 
-fn compare_widths(code: u32, mark: &[u8], offset: usize)
-    requires { ⌜ offset ≤ 10 ⌝ }
-{
+fn compare_widths(code: u32, mark: &[u8], offset: u8) {
     let mut width = 0;
     while width <= 10 {
         compare(code, mark, offset, width);

@@ -1,4 +1,4 @@
-// Calls with recorded answers, those of the Rust source or of the model of screen_row: each is answered, and every lent buffer printed.
+// Calls with recorded answers of the Rust source: each is answered, and every lent buffer printed.
 // `view_window` and `view_row` are drawings whose last field is their reader; the others are for the bench.
 ghost use Prim.Native.Nat.{_*_};
 ghost use Rattle.vectors.specs.Fields.{fieldOf, decimal};
@@ -18,7 +18,7 @@ use rows::numbers::rows_numbers;
 use spans::numbers::read_numbers;
 
 // How much of a buffer is lent: as many bytes as the n-th field says. Where there are fewer, `too large` is printed, and all are lent.
-fn lent_bytes(s: &[u8], n: usize, buf: &[u8]) -> usize
+pub(crate) fn lent_bytes(s: &[u8], n: usize, buf: &[u8]) -> usize
     ensures { λ r. ⌜ Lent (decimal 0 (fieldOf (now (s .entry)) n)) (now (buf .entry)) r ⌝ }
 {
     let size = number(s, n);
@@ -42,7 +42,7 @@ fn lent_numbers(s: &[u8], n: usize, buf: &[usize]) -> usize
 }
 
 // The same for spans, of four numbers each.
-fn lent_spans(s: &[u8], n: usize, buf: &[usize]) -> usize
+pub(crate) fn lent_spans(s: &[u8], n: usize, buf: &[usize]) -> usize
     ensures { λ r. ⌜ Lent (4 * decimal 0 (fieldOf (now (s .entry)) n)) (now (buf .entry)) r ⌝ }
 {
     let count = number(s, n);
@@ -160,16 +160,6 @@ fn draw_row(s: &[u8], line: &[u8], matches: &[usize]) {
     print_answer(a, &conv, c);
     print_numbers(&spans, p);
     print_bytes(&list, b);
-}
-
-pub(crate) fn screen_row(s: &[u8]) {
-    let mut list = [0u8; 5000];
-    let mut out = [170u8; 32776];
-    let n = fields::bytes(field(s, 1), &mut list);
-    let width = number(s, 2);
-    let c = lent_bytes(s, 3, &out);
-    let a = screen::screen_row(&list[..n], width, &mut out[..c]);
-    print_answer(a, &out, c);
 }
 
 // The answer to a call of this name; of another, nothing.

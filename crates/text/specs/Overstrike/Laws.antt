@@ -39,7 +39,8 @@ taken out none = reverse out
 taken out (held g) = reverse out ++ g
 taken out (struck g) = reverse out ++ g
 
-push-reverse : (g out : List Scalar) → reverse (reverseAux g out) ≡ reverse out ++ g
+-- push_str on the reversed result
+pub push-reverse : (g out : List Scalar) → reverse (reverseAux g out) ≡ reverse out ++ g
 push-reverse g out = ap reverse (reverseAux-eq g out) ∙ reverse-append (reverse g) out ∙ ap (λ (l : List Scalar). reverse out ++ l) (reverse-reverse g)
 
 module _ (P : Profile) where
