@@ -162,6 +162,15 @@ fn draw_row(s: &[u8], line: &[u8], matches: &[usize]) {
     print_bytes(&list, b);
 }
 
+// The answer to a drawing of this name; to another call, nothing.
+fn draw(name: &[u8], s: &[u8], line: &[u8], matches: &[usize]) {
+    if same(name, b"draw_window") | same(name, b"view_window") {
+        draw_window(s, line, matches);
+    } else if same(name, b"draw_row") | same(name, b"view_row") {
+        draw_row(s, line, matches);
+    }
+}
+
 // The answer to a call of this name; of another, nothing.
 pub(crate) fn answer(name: &[u8], s: &[u8]) {
     let mut line = [0u8; 5000];
@@ -176,9 +185,7 @@ pub(crate) fn answer(name: &[u8], s: &[u8]) {
         rows(s, &line[..n]);
     } else if same(name, b"height") {
         height(s, &line[..n]);
-    } else if same(name, b"draw_window") | same(name, b"view_window") {
-        draw_window(s, &line[..n], &matches[..m]);
-    } else if same(name, b"draw_row") | same(name, b"view_row") {
-        draw_row(s, &line[..n], &matches[..m]);
+    } else {
+        draw(name, s, &line[..n], &matches[..m]);
     }
 }
