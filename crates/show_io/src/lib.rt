@@ -1,0 +1,1 @@
+// The program `show` over slices: screen rows as ANSI text.
