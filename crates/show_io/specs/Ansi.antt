@@ -9,6 +9,8 @@ use Rattle.screen.specs.Records.{littleEndian}
 use Rattle.screen.specs.Row.{Cell, cell, bodySize}
 use Rattle.rows_io.specs.Output.{decimal}
 pub mod Vectors
+pub mod Cells
+pub mod Orders
 
 -- ---- the cells of a screen row's bytes: per cell a 4-byte length of its cluster, the cluster and its attribute body
 
