@@ -8,6 +8,7 @@ use lib.Dec.{eqb}
 use Rattle.screen.specs.Records.{littleEndian}
 use Rattle.screen.specs.Row.{Cell, cell, bodySize}
 use Rattle.rows_io.specs.Output.{decimal}
+pub mod Contracts
 pub mod Vectors
 pub mod Cells
 pub mod Orders

@@ -1,1 +1,2 @@
 // The program `show` over slices: screen rows as ANSI text.
+pub mod ansi;
