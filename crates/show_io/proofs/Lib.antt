@@ -1,3 +1,5 @@
 pub mod Parameters
 pub mod Bodies
 pub mod Printing
+pub mod LineRows
+pub mod Refusals

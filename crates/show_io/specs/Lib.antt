@@ -1,1 +1,2 @@
 pub mod Ansi
+pub mod Lines

@@ -220,7 +220,7 @@ fn push_cell(out: &mut [u8], at: usize, line: &[u8], row: &[u8], was: Places, ce
 }
 
 // The text of a screen row, whose URIs stand in the converted line.
-pub fn push_row(out: &mut [u8], at: usize, line: &[u8], row: &[u8]) -> usize
+pub(crate) fn push_row(out: &mut [u8], at: usize, line: &[u8], row: &[u8]) -> usize
     ensures { λ r. ⌜ sink (now (out .exit)) r ≡ emit (sink (now (out .entry)) at) (rowText (now (line .entry)) (cells (now (row .entry)))) ⌝ }
 {
     let mut a = at;

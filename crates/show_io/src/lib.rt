@@ -1,2 +1,3 @@
-// The program `show` over slices: screen rows as ANSI text.
+// The program `show` over slices: what it prints for a line, and screen rows as ANSI text.
 pub mod ansi;
+pub mod lines;
