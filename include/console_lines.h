@@ -65,10 +65,11 @@ console_answer console_cached_height(const uint8_t *line, size_t line_len, size_
  * list's bytes. A change is a 4-byte length of its body, a 2-byte kind and the body,
  * all little-endian:
  *   1  text in UTF-8
- *   2  attributes, 24 bytes: intensity (0 normal, 1 bold, 2 half), underline (1, 2
+ *   2  attributes, 25 bytes: intensity (0 normal, 1 bold, 2 half), underline (1, 2
  *      double), blink (1 slow, 2 rapid), flags (1 italic, 2 reverse, 4 invisible, 8
- *      strike, 16 overline), the colours of foreground, background and underline, and
- *      the place and length of the link's URI in the converted line, 4 bytes each
+ *      strike, 16 overline), the colours of foreground, background and underline, the
+ *      place and length of the link's URI in the converted line, 4 bytes each, and the
+ *      vertical alignment (0 baseline, 1 raised, 2 lowered)
  *   3  clear to the end of the line, one colour
  *   4  cursor right by one, no body
  * A colour is 4 bytes: 0 default; 1 and an index; 2, red, green and blue. matches is as
@@ -90,7 +91,7 @@ console_answer console_draw_row(const uint8_t *line, size_t line_len, const size
 
 /* The receiving side: a row of `width` columns, 1 to 4,096, blank at first, after the
  * changes of a list such as a drawing leaves. out holds, for each cell, a 4-byte
- * little-endian length of its cluster, the cluster and its attribute body of 24 bytes;
+ * little-endian length of its cluster, the cluster and its attribute body of 25 bytes;
  * the later cells of a wide cluster have length 0 and the same body, a blank is a space.
  * The count is the bytes. Refused by 5 for another width; by 10 where the list is
  * malformed or a text is not UTF-8 or has a cluster of width 0 other than 08; by 11

@@ -18,10 +18,10 @@ struct Case {
 }
 
 impl Case {
-    /// The row that the library leaves. It is lent 29 bytes a column and as many as the
+    /// The row that the library leaves. It is lent 30 bytes a column and as many as the
     /// list has, which no row exceeds.
     fn row(&self) -> Vec<u8> {
-        let mut out = vec![0; 29 * self.width + self.list.len()];
+        let mut out = vec![0; 30 * self.width + self.list.len()];
         let answer = console_lines::screen_row(&self.list, self.width, &mut out);
         assert_eq!(answer.number, 0, "a list is refused");
         out.truncate(answer.count);
@@ -41,7 +41,7 @@ fn text(text: &str) -> Vec<u8> {
 }
 
 fn attributes() -> Vec<u8> {
-    let mut body = [0; 24];
+    let mut body = [0; 25];
     body[0] = 1;
     change(2, &body)
 }

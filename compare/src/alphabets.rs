@@ -69,7 +69,7 @@ pub const PAGED: Alphabet = &[
 /// What the attributes of a drawing come from, and what they are seen on.
 #[rustfmt::skip]
 pub const ATTRIBUTES: Alphabet = &[
-    b"a", b"q\x01", b"\xFF", b"\x1B[m", b"\x1B[1;3;31m", b"\x1B[22;4;48;5;9m", b"\x1B[7;58;2;1;2;3m",
+    b"a", b"q\x01", b"\xFF", b"\x1B[m", b"\x1B[1;3;73;31m", b"\x1B[22;4;74;48;5;9m", b"\x1B[7;58;2;1;2;3m",
     b"\x1B]8;;u\x07", b"\x1B]8;;\x1B\\", b"\x1B[K", b"\x1B(0", b"\x1B(B",
 ];
 

@@ -1,4 +1,4 @@
-//! The change list in bytes: document 01, "Drawing".
+//! The change list in bytes: document 01, "Drawing", and document 02, U7.
 
 use std::ops::Range;
 use streampager::probe::Reading;
@@ -52,6 +52,7 @@ fn attributes(attrs: &CellAttributes, conv: &[u8], reading: &Reading) -> Vec<u8>
     let (place, len) = uri(attrs, conv, reading);
     body.extend(word(place));
     body.extend(word(len));
+    body.push(attrs.vertical_align() as u8);
     body
 }
 

@@ -96,7 +96,7 @@ fn around_scalar(scalar: u32) -> [Case; 3] {
 
 /// Each known parameter after nothing and after everything, and unknown ones.
 fn style_parameters() -> Vec<Case> {
-    let all = "1;3;4;5;7;8;9;53;31;42;58;5;3";
+    let all = "1;3;4;5;7;8;9;53;73;31;42;58;5;3";
     let mut cases = Vec::new();
     for parameter in known_parameters() {
         let groups = match parameter {
@@ -130,7 +130,7 @@ fn line_drawing() -> Vec<Case> {
 /// Lines through which hyperlinks, styles, line drawing and the colour at the
 /// line's end are carried, drawn with and without matches.
 fn carried_state() -> Vec<Case> {
-    let lines: [&[u8]; 10] = [
+    let lines: [&[u8]; 11] = [
         b"\x1B]8;;u\x07ab\x1B]8;;\x07c",
         b"\x1B]8;id=1;u;v\x1B\\a\x1B[31;4mb\x1B[mc",
         b"\x1B]8;;u\x07a\x1B]8;;vw\x07\x01b\xFFc",
@@ -141,6 +141,7 @@ fn carried_state() -> Vec<Case> {
         b"\x1B[1;3;9mab\x1B[5mc\x1B[2J\x1B[22;29md",
         b"\x1B]8;;\xC3\xA9\x07a\xCC\x81\x1B]8;;u\x01b",
         b"\x1B[38;5;9;48;2;1;2;3;58;5;4ma\x1B[39mb\x1B[49mc\x1B[59md",
+        b"\x1B]8;;u\x07a\x1B[73mb\x01c\x1B[1;74md\x1B[0me\x1B[74;75mf",
     ];
     let mut cases = Vec::new();
     for line in lines {

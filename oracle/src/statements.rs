@@ -77,20 +77,33 @@ impl Says {
 }
 
 /// A change list in short: `t` and the text's bytes, `d` for default attributes,
-/// `a` and the attributes' bytes up to the last that is not 0, `c` and the
-/// colour, `r` for cursor right.
+/// `a` and the attributes' bytes up to the last that is not 0, and behind them `^`
+/// where they are raised, `_` where they are lowered, `c` and the colour, `r` for
+/// cursor right.
 pub fn shown(list: &[u8]) -> String {
-    let texts = changes::decode(list).into_iter().map(|(kind, body)| {
-        let last = body.iter().rposition(|&b| b != 0).map_or(0, |i| i + 1);
-        match kind {
-            1 => format!("t{}", hex(body)),
-            2 if last == 0 => "d".to_string(),
-            2 => format!("a{}", hex(&body[..last])),
-            3 => format!("c{}", hex(&body[..last])),
-            _ => "r".to_string(),
-        }
+    let changes = changes::decode(list).into_iter();
+    let texts = changes.map(|(kind, body)| match kind {
+        1 => format!("t{}", hex(body)),
+        2 => shown_attributes(body),
+        3 => format!("c{}", hex(trimmed(body))),
+        _ => "r".to_string(),
     });
     texts.collect::<Vec<_>>().join(" ")
+}
+
+fn shown_attributes(body: &[u8]) -> String {
+    if trimmed(body).is_empty() {
+        return "d".to_string();
+    }
+    let (&alignment, fields) = body.split_last().expect("25 bytes");
+    let mark = ["", "^", "_"][usize::from(alignment)];
+    format!("a{}{mark}", hex(trimmed(fields)))
+}
+
+/// The bytes up to the last that is not 0.
+fn trimmed(bytes: &[u8]) -> &[u8] {
+    let last = bytes.iter().rposition(|&byte| byte != 0);
+    &bytes[..last.map_or(0, |last| last + 1)]
 }
 
 fn hex(bytes: &[u8]) -> String {
@@ -251,6 +264,11 @@ impl About<'_> {
 
     fn draws(&mut self, raw: &str, start: usize, end: usize, changes: &'static str) {
         self.say(draw_window(&bytes(raw), start, end), Says::Changes(changes));
+    }
+
+    /// Drawn in one column.
+    fn draws_as(&mut self, raw: &str, changes: &'static str) {
+        self.draws(raw, 0, 1, changes);
     }
 
     fn draws_row(

@@ -8,7 +8,7 @@ use unicode_width::UnicodeWidthStr;
 /// A cluster, and the attribute body that it is drawn with.
 pub type Cluster<'l> = (&'l str, &'l [u8]);
 
-const BODY: usize = 24;
+const BODY: usize = 25;
 const DEFAULT: &[u8] = &[0; BODY];
 
 /// The clusters of each text change by itself, each with the body of the last attribute

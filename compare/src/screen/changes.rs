@@ -1,5 +1,7 @@
 //! Changes in bytes, well formed or not.
 
+use super::model::BODY;
+
 /// A change with any kind and body.
 pub fn change(kind: u16, body: &[u8]) -> Vec<u8> {
     with_length(body.len() as u32, kind, body)
@@ -16,7 +18,7 @@ pub fn text(text: impl AsRef<[u8]>) -> Vec<u8> {
 
 /// Default attributes but for some bytes.
 pub fn attributes(bytes: &[(usize, u8)]) -> Vec<u8> {
-    let mut body = [0; 24];
+    let mut body = [0; BODY];
     for &(place, byte) in bytes {
         body[place] = byte;
     }

@@ -1,7 +1,7 @@
 //! Change lists: random ones, and the same altered.
 
 use super::changes::{change, cursor_right, text};
-use super::model::{screen_row, LARGEST_WIDTH};
+use super::model::{screen_row, CELL, LARGEST_WIDTH};
 use super::{drawn, Case};
 use oracle::changes::places;
 use oracle::random::Random;
@@ -65,6 +65,7 @@ fn any_attributes(random: &mut Random) -> Vec<u8> {
         random.number()
     };
     body.extend(uri.to_le_bytes());
+    body.push(random.below(3) as u8);
     change(2, &body)
 }
 
@@ -84,7 +85,8 @@ fn refused_change(random: &mut Random) -> Vec<u8> {
         }
         _ => {
             let mut bytes = any_attributes(random);
-            let place = random.between(6, 21);
+            let place = random.between(6, 22);
+            let place = if place == 22 { bytes.len() - 1 } else { place };
             bytes[place] = random.pick(&[1, 2, 3, 32, 255]);
             bytes
         }
@@ -140,7 +142,7 @@ fn alter(random: &mut Random, list: &mut Vec<u8>) {
         3 => list[change.start + 4] = random.pick(&[0, 1, 2, 3, 4, 5, 6, kind as u8]),
         4 => list[change.start + 5] = random.pick(&[0, 1, 2, 4]),
         5 => {
-            let len = random.pick(&[0, 1, 4, 23, 24, 25, 256, 1 << 24, u32::MAX, u32::MAX - 6]);
+            let len = random.pick(&[0, 1, 4, 24, 25, 26, 256, 1 << 24, u32::MAX, u32::MAX - 6]);
             let near = (body.len() as u32).wrapping_add_signed(random.pick(&[-1, 1, 6]));
             let len = random.pick(&[len, near]);
             list[change.start..change.start + 4].copy_from_slice(&len.to_le_bytes());
@@ -182,7 +184,7 @@ fn swap(list: &mut Vec<u8>, one: Range<usize>, other: Range<usize>) {
 /// Cuts a list, or loses, adds or changes a byte.
 fn alter_bytes(random: &mut Random, list: &mut Vec<u8>) {
     let place = random.below(list.len() + 1);
-    let byte = random.pick(&[0, 1, 2, 3, 4, 8, 24, 0x61, 0xE6, 0xFF]);
+    let byte = random.pick(&[0, 1, 2, 3, 4, 8, 24, 25, 0x61, 0xE6, 0xFF]);
     match random.below(5) {
         0 => list.truncate(place),
         1 => list.insert(place, byte),
@@ -217,9 +219,7 @@ fn text_columns(list: &[u8]) -> usize {
     texts.map(UnicodeWidthStr::width).sum()
 }
 
-/// Where the row is refused whatever is lent, so much for each column.
-const CELL: usize = 29;
-
+/// A row that is refused whatever is lent is lent a cell for each column.
 pub fn around_need(random: &mut Random, list: Vec<u8>, width: usize) -> Case {
     let answer = screen_row(&list, width, usize::MAX);
     let need = match answer.number {

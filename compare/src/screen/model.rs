@@ -12,10 +12,14 @@ pub const LARGEST_WIDTH: usize = 4_096;
 const BACKSPACE: &str = "\u{8}";
 const SPACE: &str = " ";
 
-type Colour = [u8; 4];
-type Attributes = [u8; 24];
+/// The bytes of an attribute body, and those of a cell whose cluster has one byte.
+pub const BODY: usize = 25;
+pub const CELL: usize = 4 + 1 + BODY;
 
-const DEFAULT: Attributes = [0; 24];
+type Colour = [u8; 4];
+type Attributes = [u8; BODY];
+
+const DEFAULT: Attributes = [0; BODY];
 const BACKGROUND: Range<usize> = 8..12;
 
 /// What the call returns, and what it leaves in front of the zeros.
@@ -90,8 +94,8 @@ fn text(body: &[u8]) -> Option<&str> {
 
 fn attributes(body: &[u8]) -> Option<Attributes> {
     let body: Attributes = body.try_into().ok()?;
-    let [intensity, underline, blink, flags, ..] = body;
-    if intensity > 2 || underline > 2 || blink > 2 || flags > 31 {
+    let [intensity, underline, blink, flags, .., alignment] = body;
+    if intensity > 2 || underline > 2 || blink > 2 || flags > 31 || alignment > 2 {
         return None;
     }
     for bytes in body[4..16].chunks(4) {

@@ -2,6 +2,7 @@
 
 use super::changes::{attributes, change, clear, cursor_right, text, with_length};
 use super::lists::{altered, any_case, any_list, around_need, drawn_case, AnyCall, WIDTHS};
+use super::model::{BODY, CELL, LARGEST_WIDTH};
 use super::{sample, stated, Case};
 use crate::alphabets::{CLASSES, DRAWN, SHIFTED};
 use crate::calls;
@@ -157,9 +158,10 @@ fn few() -> Vec<Vec<u8>> {
 /// Each limit of the width, with nothing lent, a cell, and much.
 fn widths() -> Vec<Case> {
     let mut cases = Vec::new();
+    let most = CELL * LARGEST_WIDTH;
     for list in few() {
         for width in WIDTHS {
-            for size in [0, 29, 4_000, 29 * 4_096 - 1, 29 * 4_096, 29 * 4_096 + 400] {
+            for size in [0, CELL, 4_000, most - 1, most, most + 400] {
                 cases.push(Case::new(&list, width, size));
             }
         }
@@ -173,7 +175,7 @@ fn sizes() -> Vec<Case> {
     let mut cases = Vec::new();
     for list in (0..lists.count).map(lists.line) {
         for width in [1, 2, 4] {
-            let need = Case::snug(&list, width, 29 * width).size;
+            let need = Case::snug(&list, width, CELL * width).size;
             let sizes = (0..need + 2).chain([need + 20_000]);
             cases.extend(sizes.map(|size| Case::new(&list, width, size)));
         }
@@ -184,11 +186,11 @@ fn sizes() -> Vec<Case> {
 /// Each byte of an attribute body with each value, the others at nothing and at much.
 fn fields() -> Vec<Case> {
     let much = [
-        2, 2, 2, 31, 2, 255, 255, 255, 2, 1, 2, 3, 2, 255, 0, 9, 1, 2, 3, 4, 5, 6, 7, 8,
+        2, 2, 2, 31, 2, 255, 255, 255, 2, 1, 2, 3, 2, 255, 0, 9, 1, 2, 3, 4, 5, 6, 7, 8, 2,
     ];
     let mut cases = Vec::new();
-    for body in [[0; 24], much] {
-        for place in 0..24 {
+    for body in [[0; BODY], much] {
+        for place in 0..BODY {
             for value in 0..=255 {
                 let mut body = body;
                 body[place] = value;
@@ -208,7 +210,7 @@ fn colours() -> Vec<Case> {
         let telling = |digit: usize| TELLING[number / digit % 3];
         let colour = [(number / 27) as u8, telling(1), telling(3), telling(9)];
         for place in [4, 8, 12] {
-            let mut body = [0; 24];
+            let mut body = [0; BODY];
             body[place..place + 4].copy_from_slice(&colour);
             cases.push(Case::snug(&[change(2, &body), text("a")].concat(), 2, 60));
         }
@@ -217,20 +219,20 @@ fn colours() -> Vec<Case> {
     cases
 }
 
-/// Every kind without a body and with one of 4 and of 24 bytes, and kinds with bodies of
+/// Every kind without a body and with one of 4, 24 and 25 bytes, and kinds with bodies of
 /// each size.
 fn kinds() -> Vec<Case> {
     let mut cases = Vec::new();
     for kind in 0..=u16::MAX {
-        for size in [0, 4, 24] {
-            cases.push(Case::new(&change(kind, &vec![0; size]), 1, 29));
+        for size in [0, 4, 24, BODY] {
+            cases.push(Case::new(&change(kind, &vec![0; size]), 1, CELL));
         }
     }
     for kind in [0, 1, 2, 3, 4, 5, 6, 256, 257, 258, 259, 260] {
         for size in 0..60 {
             for byte in [0, 1, 2, b'a', 0xFF] {
                 let list = [text("\u{8}"), change(kind, &vec![byte; size])].concat();
-                cases.push(Case::snug(&list, 70, 29 * 70));
+                cases.push(Case::snug(&list, 70, CELL * 70));
             }
         }
     }
@@ -244,7 +246,7 @@ fn cut() -> Vec<Case> {
         for end in 0..list.len() {
             for behind in [Vec::new(), text("a"), vec![0xFF; 3], vec![0; 6]] {
                 let list = [&list[..end], &behind].concat();
-                cases.extend([1, 4, 12].map(|width| Case::snug(&list, width, 29 * width)));
+                cases.extend([1, 4, 12].map(|width| Case::snug(&list, width, CELL * width)));
             }
         }
     }
@@ -270,7 +272,7 @@ fn lengths() -> Vec<Case> {
                 for byte in [0, b'a'] {
                     let list = with_length(len, kind, &vec![byte; size]);
                     let list = [text("a"), list].concat();
-                    cases.push(Case::snug(&list, 40, 29 * 40));
+                    cases.push(Case::snug(&list, 40, CELL * 40));
                 }
             }
         }
@@ -315,7 +317,7 @@ fn long_rows() -> Vec<Case> {
             vec![text("\u{1F1E6}".repeat(2 * width))],
         ];
         for list in lists {
-            let case = Case::snug(&list.concat(), width, 29 * width);
+            let case = Case::snug(&list.concat(), width, CELL * width);
             let short = Case::new(&case.list, width, case.size - 1);
             let ample = Case::new(&case.list, width, case.size + 1_000);
             cases.extend([case, short, ample]);

@@ -1,7 +1,7 @@
 //! Rows and refusals that are stated, where document 02's words are short.
 
 use super::changes::{attributes, change, clear, cursor_right, text, with_length};
-use super::model::Answer;
+use super::model::{Answer, BODY};
 use super::{drawn, Case};
 use oracle::{Call, NONE};
 
@@ -23,13 +23,13 @@ pub fn cases() -> Vec<Case> {
         };
         assert_eq!(shown, answer.map(str::to_string), "{case}");
     }
-    assert_eq!(Case::new(&text("a"), 2, 58).answer().out, row_of_a());
+    assert_eq!(Case::new(&text("a"), 2, 60).answer().out, row_of_a());
     statements.into_iter().map(|said| said.case).collect()
 }
 
 /// The row of two columns after `a`, in bytes.
 fn row_of_a() -> Vec<u8> {
-    let cell = |byte| [&[1, 0, 0, 0, byte][..], &[0; 24]].concat();
+    let cell = |byte| [&[1, 0, 0, 0, byte][..], &[0; BODY]].concat();
     [cell(b'a'), cell(b' ')].concat()
 }
 
@@ -45,7 +45,7 @@ fn shown(answer: &Answer) -> Result<String, usize> {
     let mut before: &[u8] = &[];
     while let Some((len, behind)) = rest.split_first_chunk() {
         let (cluster, behind) = behind.split_at(u32::from_le_bytes(*len) as usize);
-        let (attributes, behind) = behind.split_at(24);
+        let (attributes, behind) = behind.split_at(BODY);
         cells.push(cell(cluster, attributes));
         assert!(!cluster.is_empty() || attributes == before);
         (rest, before) = (behind, attributes);
@@ -55,7 +55,7 @@ fn shown(answer: &Answer) -> Result<String, usize> {
 
 fn cell(cluster: &[u8], attributes: &[u8]) -> String {
     let plain = attributes.iter().all(|&byte| byte == 0);
-    let cleared = [&[0; 8][..], &[1, attributes[9]], &[0; 14]].concat();
+    let cleared = [&[0; 8][..], &[1, attributes[9]], &[0; 15]].concat();
     match (cluster, std::str::from_utf8(cluster).expect("a cluster")) {
         (b"", _) => "-".to_string(),
         (b" ", _) if plain => "_".to_string(),
@@ -134,17 +134,17 @@ fn statements() -> Vec<Statement> {
     }
     // body sizes
     said.push(well_formed(change(1, &[])));
-    for (kind, sizes) in [(2, &[0, 1, 23, 25, 48][..]), (3, &[0, 3, 5, 8]), (4, &[1, 4])] {
+    for (kind, sizes) in [(2, &[0, 1, 24, 26, 50][..]), (3, &[0, 3, 5, 8]), (4, &[1, 4])] {
         for &size in sizes {
             said.push(malformed(change(kind, &vec![0; size])));
         }
     }
     // values of fields
-    for (place, largest) in [(0, 2), (1, 2), (2, 2), (3, 31)] {
+    for (place, largest) in [(0, 2), (1, 2), (2, 2), (3, 31), (24, 2)] {
         said.push(well_formed(a(&[(place, largest)])));
         said.push(malformed(a(&[(place, largest + 1)])));
     }
-    said.push(well_formed(a(&[(0, 2), (1, 1), (2, 2), (3, 31), (4, 2), (8, 1), (12, 2)])));
+    said.push(well_formed(a(&[(0, 2), (1, 1), (2, 2), (3, 31), (4, 2), (8, 1), (12, 2), (24, 1)])));
     // colours: bytes that are not used are 0
     for at in [4, 8, 12] {
         said.push(malformed(a(&[(at + 1, 1)])));
@@ -220,9 +220,14 @@ fn statements() -> Vec<Statement> {
     said.push(leaves(&[t("ab"), k3(5)], 2, "a|_5"));
     said.push(leaves(&[t(H), k3(5)], 2, "_|_5"));
     // cells in bytes, and a buffer one byte short
-    said.push(says(&[t("a")], 2, 58, Ok("a|_")));
-    said.push(says(&[t("a")], 2, 57, Err(9)));
+    said.push(says(&[t("a")], 2, 60, Ok("a|_")));
+    said.push(says(&[t("a")], 2, 59, Err(9)));
     said.push(leaves(&[t(" ")], 2, "_|_"));
+    said.push(says(&[], 1, 30, Ok("_")));
+    said.push(says(&[], 1, 29, Err(9)));
+    // raised and lowered cells, and a wide one written in part
+    said.push(leaves(&[a(&[(24, 1)]), t("a"), a(&[(24, 2)]), t("b")], 3, "a*|b*|_"));
+    said.push(leaves(&[a(&[(24, 1)]), t("\u{6F22}\u{8}a")], 3, "_|a*|_"));
     // GB11 joins nothing
     said.push(leaves(&[t("\u{1F468}\u{200D}\u{1F469}")], 4, "\u{1F468}\u{200D}|-|\u{1F469}|-"));
     said
@@ -256,6 +261,7 @@ fn drawings() -> Vec<Statement> {
         window(b"a", 0, 2, 1, Ok("_")),
         window(b"", 1, 2, 1, Ok("_")),
         window(b"abc", 0, 2, 2, Ok("a|>")),
+        window(b"\x1B[73ma\x1B[75mb", 0, 2, 2, Ok("a|b")),
         window(b"abc", 0, 2, 3, Ok("a|b|>")),
         window(b"a\xE6\xBC\xA2\xFF", 1, 5, 4, Ok("<|<|F|>")),
         rows(b"ab", 0, 1, (2, 1), 2, Ok("a|b")),

@@ -13,7 +13,7 @@ module _ (b : List ℕ) where
   unfolding color
   color-is at x y z w e f g h = rw (e, f, g, h) refl
 
-  pub fields-is : (x y z w : ℕ) (k l m : Bool) → w ≡ getD b 3 0 → x ≡ getD b 0 0 → y ≡ getD b 1 0 → z ≡ getD b 2 0 → k ≡ color b 4 → l ≡ color b 8 → m ≡ color b 12
-      → ((leb x 2 && (leb y 2 && (leb z 2 && leb w 31))) && (k && (l && m))) ≡ fields b
+  pub fields-is : (x y z w v : ℕ) (k l m : Bool) → w ≡ getD b 3 0 → x ≡ getD b 0 0 → y ≡ getD b 1 0 → z ≡ getD b 2 0 → v ≡ getD b 24 0 → k ≡ color b 4 → l ≡ color b 8 → m ≡ color b 12
+      → ((leb x 2 && (leb y 2 && (leb z 2 && leb w 31))) && (k && (l && (m && leb v 2)))) ≡ fields b
   unfolding fields
-  fields-is x y z w k l m e f g h i j n = rw (e, f, g, h, i, j, n) refl
+  fields-is x y z w v k l m e f g h i j n o = rw (e, f, g, h, i, j, n, o) refl

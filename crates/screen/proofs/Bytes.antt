@@ -12,7 +12,7 @@ use Rattle.text.specs.Tests.{cases}
 use Rattle.buffer.specs.Numbers.{smallerOf, le4}
 use Rattle.buffer.specs.Sink.{Sink, sink, emit}
 use Rattle.buffer.specs.Sink.Laws.{emit-append, emit-none}
-use Rattle.screen.specs.Row.{Cell, plain, withBackground, blank, cell, rowBytes}
+use Rattle.screen.specs.Row.{Cell, bodySize, plain, withBackground, blank, cell, rowBytes}
 use Rattle.screen.specs.Row.Contracts.{part, bodyAt, blankAt, cellOf, cellIn, cellsIn, CellReady}
 use Rattle.screen.specs.Row.Contracts.Laws.{cell-at, cells-enough}
 use Rattle.screen.specs.Screen.{rowOf}
@@ -56,12 +56,12 @@ module _ (list : List ℕ) (start len from n : ℕ) (is : from ≡ smallerOf sta
 pub plain-written : (list : List ℕ) (place : ℕ) (s s′ : Sink) → place ≡ 0 → s′ ≡ emit s plain → s′ ≡ emit s (bodyAt list place)
 plain-written list place s s′ z e = e ∙ ap (emit s) (rw (eq-eqb place 0 z) refl)
 
-pub body-written : (list : List ℕ) (place : ℕ) (s s′ : Sink) → (place ≢ 0) → s′ ≡ emit s (part list place 24) → s′ ≡ emit s (bodyAt list place)
+pub body-written : (list : List ℕ) (place : ℕ) (s s′ : Sink) → (place ≢ 0) → s′ ≡ emit s (part list place bodySize) → s′ ≡ emit s (bodyAt list place)
 body-written list place s s′ z e = e ∙ ap (emit s) (rw (ne-eqb place 0 z) refl)
 
-pub background-written : (color : List ℕ) (s a b c : Sink) → a ≡ emit s (replicate 8 0) → b ≡ emit a color → c ≡ emit b (replicate 12 0) → c ≡ emit s (withBackground color)
+pub background-written : (color : List ℕ) (s a b c : Sink) → a ≡ emit s (replicate 8 0) → b ≡ emit a color → c ≡ emit b (replicate 13 0) → c ≡ emit s (withBackground color)
 background-written color s a b c e f g =
-    g ∙ ap (λ (x : Sink). emit x (replicate 12 0)) (f ∙ ap (λ (x : Sink). emit x color) e ∙ sym (emit-append s (replicate 8 0) color)) ∙ sym (emit-append s (replicate 8 0 ++ color) (replicate 12 0))
+    g ∙ ap (λ (x : Sink). emit x (replicate 13 0)) (f ∙ ap (λ (x : Sink). emit x color) e ∙ sym (emit-append s (replicate 8 0) color)) ∙ sym (emit-append s (replicate 8 0 ++ color) (replicate 13 0))
 
 -- ---- cells
 

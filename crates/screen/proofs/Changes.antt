@@ -13,7 +13,7 @@ use borrow.Author.Tests.{ne-eqb, le-ltb, eqb-true, ltb-true}
 use Rattle.text.specs.Tests.{cases, and-T, true-T}
 use Rattle.text.specs.Class.{Profile}
 use Rattle.screen.specs.WellFormed.{color, fields}
-use Rattle.screen.specs.Row.{Screen, withAttributes, clear, right}
+use Rattle.screen.specs.Row.{bodySize, Screen, withAttributes, clear, right}
 use Rattle.screen.specs.Row.Contracts.{part}
 use Rattle.screen.specs.Screen.{withAt, withAttributesAt, withRefusal, rowOf, screenOf, formed, textOn, recordOf, recordOn, RowReady, BodyReady, Stepped}
 use Rattle.screen.specs.Screen.Laws.{text-record, attributes-record, clear-record, other-record}
@@ -26,13 +26,13 @@ body-is list start len = ap (part list start) (let e : start + len - start ≡ l
 -- ---- on_attributes
 
 module _ (list : List ℕ) (start len : ℕ) (t r : code.Screen) (b : Bool) (is : b ≡ fields (take (start + len - start) (drop start list))) where
-  fields-are : (eqb len 24 && fields (part list start len)) ≡ (eqb len 24 && b)
-  fields-are = ap (λ (x : Bool). eqb len 24 && x) (sym (is ∙ ap fields (body-is list start len)))
+  fields-are : (eqb len bodySize && fields (part list start len)) ≡ (eqb len bodySize && b)
+  fields-are = ap (λ (x : Bool). eqb len bodySize && x) (sym (is ∙ ap fields (body-is list start len)))
 
-  pub attributes-set : (eqb len 24 && b) ≡ true → withAttributesAt t start ≡ cond (eqb len 24 && fields (part list start len)) (withAttributesAt t start) (withRefusal t 10)
+  pub attributes-set : (eqb len bodySize && b) ≡ true → withAttributesAt t start ≡ cond (eqb len bodySize && fields (part list start len)) (withAttributesAt t start) (withRefusal t 10)
   attributes-set e = rw (fields-are ∙ e) refl
 
-  pub attributes-malformed : (eqb len 24 && b) ≡ false → r ≡ withRefusal t 10 → r ≡ cond (eqb len 24 && fields (part list start len)) (withAttributesAt t start) (withRefusal t 10)
+  pub attributes-malformed : (eqb len bodySize && b) ≡ false → r ≡ withRefusal t 10 → r ≡ cond (eqb len bodySize && fields (part list start len)) (withAttributesAt t start) (withRefusal t 10)
   attributes-malformed e f = rw (fields-are ∙ e) f
 
 -- ---- on_clear
@@ -85,7 +85,7 @@ module _ (P : Profile) (list : List ℕ) (width : ℕ) (row : List ℕ) (t : cod
       stepped 3 (formed (eqb (h .len) 4 && color body 0) (λ u. clear width u body)) e
       (clear-record P width body (screenOf list width row t) ∙ ap (λ (n : ℕ). formed (eqb n 4 && color body 0) (λ u. clear width u body) (screenOf list width row t)) size) row′ r s
 
-  set-attributes : Stepped list width row t (formed true (λ u. withAttributes u (part list (h .start) 24))) row (withAttributesAt t (h .start))
+  set-attributes : Stepped list width row t (formed true (λ u. withAttributes u (part list (h .start) bodySize))) row (withAttributesAt t (h .start))
   unfolding screenOf rowOf formed withAttributes
   set-attributes =
       let n : eqb (h .start) 0 ≡ false = ne-eqb (h .start) 0 (λ z. omega (arith, z, ready .place)) in
@@ -94,18 +94,18 @@ module _ (P : Profile) (list : List ℕ) (width : ℕ) (row : List ℕ) (t : cod
         ready = record { some = ready .ready .some; at = ready .ready .at; end = ready .ready .end; room = ready .ready .room };
       }
 
-  pub record-attributes : (r : code.Screen) → h .kind ≡ 2 → r ≡ cond (eqb (h .len) 24 && fields body) (withAttributesAt t (h .start)) (withRefusal t 10) → Stepped list width row t (recordOn P width (recordOf list h)) row r
+  pub record-attributes : (r : code.Screen) → h .kind ≡ 2 → r ≡ cond (eqb (h .len) bodySize && fields body) (withAttributesAt t (h .start)) (withRefusal t 10) → Stepped list width row t (recordOn P width (recordOf list h)) row r
   record-attributes r e is =
-      stepped 2 (formed (eqb (h .len) 24 && fields body) (λ u. withAttributes u body)) e
-      (attributes-record P width body (screenOf list width row t) ∙ ap (λ (n : ℕ). formed (eqb n 24 && fields body) (λ u. withAttributes u body) (screenOf list width row t)) size) row r
-      (cases (eqb (h .len) 24 && fields body) set (λ f. no-screen list width row t r (eqb (h .len) 24 && fields body) (λ u. withAttributes u body) f (ready .ready) (rw f at is)))
+      stepped 2 (formed (eqb (h .len) bodySize && fields body) (λ u. withAttributes u body)) e
+      (attributes-record P width body (screenOf list width row t) ∙ ap (λ (n : ℕ). formed (eqb n bodySize && fields body) (λ u. withAttributes u body) (screenOf list width row t)) size) row r
+      (cases (eqb (h .len) bodySize && fields body) set (λ f. no-screen list width row t r (eqb (h .len) bodySize && fields body) (λ u. withAttributes u body) f (ready .ready) (rw f at is)))
     where
-      set : (eqb (h .len) 24 && fields body) ≡ true → Stepped list width row t (formed (eqb (h .len) 24 && fields body) (λ u. withAttributes u body)) row r
+      set : (eqb (h .len) bodySize && fields body) ≡ true → Stepped list width row t (formed (eqb (h .len) bodySize && fields body) (λ u. withAttributes u body)) row r
       set f =
-          let n : h .len ≡ 24 = eqb→eq (h .len) 24 (and-T (eqb (h .len) 24) (fields body) (true-T f) .0) in
+          let n : h .len ≡ bodySize = eqb→eq (h .len) bodySize (and-T (eqb (h .len) bodySize) (fields body) (true-T f) .0) in
           let g : r ≡ withAttributesAt t (h .start) = rw f at is in
           let s = set-attributes in
-          let m : formed true (λ u. withAttributes u (part list (h .start) 24)) (screenOf list width row t) ≡ formed (eqb (h .len) 24 && fields body) (λ u. withAttributes u body) (screenOf list width row t) = rw (f, n) refl in
+          let m : formed true (λ u. withAttributes u (part list (h .start) bodySize)) (screenOf list width row t) ≡ formed (eqb (h .len) bodySize && fields body) (λ u. withAttributes u body) (screenOf list width row t) = rw (f, n) refl in
           rw g record { same = s .same ∙ m; ready = s .ready }
 
   moved : Stepped list width row t (formed true (right width)) row (withAt t (cond (ltb (t .at + 1) width) (t .at + 1) (t .at)))

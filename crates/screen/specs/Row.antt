@@ -26,7 +26,7 @@ cell g a = record { cluster = g; body = a }
 
 -- the size of an attribute body
 abbrev pub bodySize : ℕ
-bodySize = 24
+bodySize = 25
 
 -- default attributes, and these with a background
 abbrev pub plain : List ℕ

@@ -1,8 +1,11 @@
-// The values that document 01 allows in the bodies of kinds 2 and 3.
+// The size and the values that documents 01 and 02 allow in the bodies of kinds 2 and 3.
 use buffer::byte_at;
 ghost use mathlib.Core.Path.{_≡_};
 ghost use Prim.Native.Nat.{_≤_};
 ghost use Rattle.screen.specs.WellFormed.{color, fields};
+
+// The size of an attribute body.
+pub(crate) const BODY_SIZE: usize = 25;
 
 // Is it a colour that stands at a place of a body?
 pub(crate) fn is_color(body: &[u8], at: usize) -> bool
@@ -21,5 +24,6 @@ pub(crate) fn are_fields(body: &[u8]) -> bool
     let flags = byte_at(body, 3) <= 31;
     let font = (byte_at(body, 0) <= 2)
         & ((byte_at(body, 1) <= 2) & ((byte_at(body, 2) <= 2) & flags));
-    font & (is_color(body, 4) & (is_color(body, 8) & is_color(body, 12)))
+    let alignment = byte_at(body, 24) <= 2;
+    font & (is_color(body, 4) & (is_color(body, 8) & (is_color(body, 12) & alignment)))
 }

@@ -1,4 +1,5 @@
 // A row in bytes: each cell's cluster with its length, and its attribute body.
+use super::body::BODY_SIZE;
 use super::row::part_len;
 use super::screen::Screen;
 use buffer::push_bytes;
@@ -29,17 +30,17 @@ fn write_body(list: &[u8], place: usize, out: &mut [u8], at: usize) -> usize
     ensures { λ r. ⌜ sink (now (out .exit)) r ≡ emit (sink (now (out .entry)) at) (bodyAt (now (list .entry)) place) ⌝ }
 {
     if place == 0 {
-        let plain = [0u8; 24];
+        let plain = [0u8; BODY_SIZE];
         return push_bytes(out, at, &plain);
     }
-    write_part(list, place, 24, out, at)
+    write_part(list, place, BODY_SIZE, out, at)
 }
 
 // Default attributes with the background at a place.
 fn write_background(list: &[u8], place: usize, out: &mut [u8], at: usize) -> usize
     ensures { λ r. ⌜ sink (now (out .exit)) r ≡ emit (sink (now (out .entry)) at) (withBackground (part (now (list .entry)) place 4)) ⌝ }
 {
-    let zeros = [0u8; 12];
+    let zeros = [0u8; 13];
     let a = push_bytes(out, at, &zeros[..8]);
     let b = write_part(list, place, 4, out, a);
     push_bytes(out, b, &zeros)

@@ -1,4 +1,5 @@
 // A screen row, and what each change of a list does to it.
+use super::body::BODY_SIZE;
 use super::body::are_fields;
 use super::body::is_color;
 use super::records::Head;
@@ -20,7 +21,7 @@ ghost use lib.ListN.{length};
 ghost use lib.Dec.{eqb, ltb};
 ghost use Rattle.screen.specs.WellFormed.{color, fields};
 ghost use Rattle.text.specs.Class.Code.{profileOf};
-ghost use Rattle.screen.specs.Row.{write, clear};
+ghost use Rattle.screen.specs.Row.{bodySize, write, clear};
 ghost use Rattle.screen.specs.Row.Contracts.{part, CellsReady};
 ghost use Rattle.screen.specs.Screen.{withAt, withEnd, withAttributesAt, withRefusal, largerOf, cursorOf, Reached, cutLeft, cutRight, RowReady, WriteReady, ClearReady, ClusterOnReady, TextReady, BodyReady, DrawReady, Drawn, Stepped, formed, clusterOn, textOn, recordOf, recordOn};
 
@@ -277,10 +278,10 @@ fn on_text(
 // Kind 2 sets the attributes written from then on.
 fn on_attributes(list: &[u8], t: Screen, start: usize, len: usize) -> Screen
     requires { ⌜ start + len ≤ length (now list) ⌝ }
-    ensures { λ r. ⌜ r ≡ cond (eqb len 24 && fields (part (now (list .entry)) start len)) (withAttributesAt t start) (withRefusal t 10) ⌝ }
+    ensures { λ r. ⌜ r ≡ cond (eqb len bodySize && fields (part (now (list .entry)) start len)) (withAttributesAt t start) (withRefusal t 10) ⌝ }
 {
     let body = &list[start..start + len];
-    if (len == 24) & are_fields(body) {
+    if (len == BODY_SIZE) & are_fields(body) {
         return Screen {
             at: t.at,
             attributes: start,

@@ -61,11 +61,11 @@ no-colour p h i j k = rw (h, i, j, k)
 row-out : (k p : ℕ) → (p ≡ k → ⊥) → within (to k k) p ≡ false
 row-out k p h = cases (leb k p) (λ e. rw (e, lt-leb p k (omega (arith, leb-true k p e))) refl) (λ e. rw e)
 
-pub other-parameter : (p : ℕ) (z : Meaning) → (p ≡ 0 → ⊥) → (p ≡ 1 → ⊥) → (p ≡ 2 → ⊥) → (p ≡ 3 → ⊥) → (p ≡ 4 → ⊥) → (p ≡ 5 → ⊥) → (p ≡ 6 → ⊥) → (p ≡ 7 → ⊥) → (p ≡ 8 → ⊥) → (p ≡ 9 → ⊥) → (p ≡ 21 → ⊥) → (p ≡ 22 → ⊥) → (p ≡ 23 → ⊥) → (p ≡ 24 → ⊥) → (p ≡ 25 → ⊥) → (p ≡ 27 → ⊥) → (p ≡ 28 → ⊥) → (p ≡ 29 → ⊥) → (p ≡ 38 → ⊥) → (p ≡ 39 → ⊥) → (p ≡ 48 → ⊥) → (p ≡ 49 → ⊥) → (p ≡ 53 → ⊥) → (p ≡ 55 → ⊥) → (p ≡ 58 → ⊥) → (p ≡ 59 → ⊥)
+pub other-parameter : (p : ℕ) (z : Meaning) → (p ≡ 0 → ⊥) → (p ≡ 1 → ⊥) → (p ≡ 2 → ⊥) → (p ≡ 3 → ⊥) → (p ≡ 4 → ⊥) → (p ≡ 5 → ⊥) → (p ≡ 6 → ⊥) → (p ≡ 7 → ⊥) → (p ≡ 8 → ⊥) → (p ≡ 9 → ⊥) → (p ≡ 21 → ⊥) → (p ≡ 22 → ⊥) → (p ≡ 23 → ⊥) → (p ≡ 24 → ⊥) → (p ≡ 25 → ⊥) → (p ≡ 27 → ⊥) → (p ≡ 28 → ⊥) → (p ≡ 29 → ⊥) → (p ≡ 38 → ⊥) → (p ≡ 39 → ⊥) → (p ≡ 48 → ⊥) → (p ≡ 49 → ⊥) → (p ≡ 53 → ⊥) → (p ≡ 55 → ⊥) → (p ≡ 58 → ⊥) → (p ≡ 59 → ⊥) → (p ≡ 73 → ⊥) → (p ≡ 74 → ⊥) → (p ≡ 75 → ⊥)
     → z ≡ meaningOf eights p → z ≡ meaningOf known p
 unfolding meaningOf known eights
-other-parameter p z h0 h1 h2 h3 h4 h5 h6 h7 h8 h9 h21 h22 h23 h24 h25 h27 h28 h29 h38 h39 h48 h49 h53 h55 h58 h59 e =
-    rw (row-out 0 p h0, row-out 1 p h1, row-out 2 p h2, row-out 3 p h3, row-out 4 p h4, row-out 5 p h5, row-out 6 p h6, row-out 7 p h7, row-out 8 p h8, row-out 9 p h9, row-out 21 p h21, row-out 22 p h22, row-out 23 p h23, row-out 24 p h24, row-out 25 p h25, row-out 27 p h27, row-out 28 p h28, row-out 29 p h29, row-out 38 p h38, row-out 39 p h39, row-out 48 p h48, row-out 49 p h49, row-out 53 p h53, row-out 55 p h55, row-out 58 p h58, row-out 59 p h59) e
+other-parameter p z h0 h1 h2 h3 h4 h5 h6 h7 h8 h9 h21 h22 h23 h24 h25 h27 h28 h29 h38 h39 h48 h49 h53 h55 h58 h59 h73 h74 h75 e =
+    rw (row-out 0 p h0, row-out 1 p h1, row-out 2 p h2, row-out 3 p h3, row-out 4 p h4, row-out 5 p h5, row-out 6 p h6, row-out 7 p h7, row-out 8 p h8, row-out 9 p h9, row-out 21 p h21, row-out 22 p h22, row-out 23 p h23, row-out 24 p h24, row-out 25 p h25, row-out 27 p h27, row-out 28 p h28, row-out 29 p h29, row-out 38 p h38, row-out 39 p h39, row-out 48 p h48, row-out 49 p h49, row-out 53 p h53, row-out 55 p h55, row-out 58 p h58, row-out 59 p h59, row-out 73 p h73, row-out 74 p h74, row-out 75 p h75) e
 
 -- ---- above the last row
 

@@ -8,7 +8,7 @@ use Rattle.text.specs.Utf8.{to, within}
 use Rattle.spans.specs.declared.sgr.Color.{Color}
 use Rattle.spans.specs.declared.sgr.Color.the-variants.{Default, Palette, Rgb}
 use Rattle.spans.specs.declared.sgr.Sgr.{Sgr}
-use Rattle.spans.specs.declared.sgr.Sgr.the-variants.{Reset, Intensity, Underline, Blink, Italic, Inverse, Invisible, StrikeThrough, Overline, Foreground, Background, UnderlineColor}
+use Rattle.spans.specs.declared.sgr.Sgr.the-variants.{Reset, Intensity, Underline, Blink, VerticalAlign, Italic, Inverse, Invisible, StrikeThrough, Overline, Foreground, Background, UnderlineColor}
 use Rattle.spans.specs.declared.sgr.Target.{Target}
 use Rattle.spans.specs.declared.sgr.Target.the-variants as target
 use Rattle.spans.specs.declared.sgr.ColorState.{ColorState}
@@ -16,6 +16,7 @@ use Rattle.spans.specs.declared.sgr.ColorState.the-variants.{Ready, Want
 use Rattle.spans.specs.declared.sgr.Meaning.{Meaning}
 use Rattle.spans.specs.declared.sgr.Meaning.the-variants.{Order, Group, Unknown}
 pub mod Contracts
+pub mod Examples
 
 -- ---- parameters: digits and `;`
 
@@ -68,6 +69,7 @@ known =
     ∷ eight 30 (λ k. Foreground (Palette k)) ∷ group 38 target.Foreground ∷ one 39 (Foreground Default)
     ∷ eight 40 (λ k. Background (Palette k)) ∷ group 48 target.Background ∷ one 49 (Background Default)
     ∷ one 53 (Overline true) ∷ one 55 (Overline false) ∷ group 58 target.Underline ∷ one 59 (UnderlineColor Default)
+    ∷ one 73 (VerticalAlign 1) ∷ one 74 (VerticalAlign 2) ∷ one 75 (VerticalAlign 0)
     ∷ eight 90 (λ k. Foreground (Palette (8 + k))) ∷ eight 100 (λ k. Background (Palette (8 + k))) ∷ []
 
 unfoldable pub meaningOf : List Known → ℕ → Meaning

@@ -15,6 +15,7 @@ pub enum Sgr {
     Intensity(u8),
     Underline(u8),
     Blink(u8),
+    VerticalAlign(u8),
     Italic(bool),
     Inverse(bool),
     Invisible(bool),
@@ -218,6 +219,9 @@ fn meaning_of(p: usize) -> Meaning
         55 => Meaning::Order(Sgr::Overline(false)),
         58 => Meaning::Group(ColorState::WantKind(Target::Underline)),
         59 => Meaning::Order(Sgr::UnderlineColor(Color::Default)),
+        73 => Meaning::Order(Sgr::VerticalAlign(1)),
+        74 => Meaning::Order(Sgr::VerticalAlign(2)),
+        75 => Meaning::Order(Sgr::VerticalAlign(0)),
         _ => palette_order(p),
     }
 }

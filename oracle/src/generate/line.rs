@@ -8,11 +8,12 @@ pub const NOISE: [u8; 13] = [
     0xC0, 0xC1, 0xF5, 0xF6, 0xF7, 0xF8, 0xF9, 0xFA, 0xFB, 0xFC, 0xFD, 0xFE, 0xFF,
 ];
 
-/// The parameters that stand for themselves: document 01, "Spans", "Known".
+/// The parameters that stand for themselves: document 01, "Spans", "Known", and
+/// document 02, U7.
 #[rustfmt::skip]
-pub const SINGLE_PARAMETERS: [Range; 12] = [
+pub const SINGLE_PARAMETERS: [Range; 13] = [
     (0, 9), (21, 25), (27, 29), (30, 37), (39, 39), (40, 47), (49, 49), (53, 53),
-    (55, 55), (59, 59), (90, 97), (100, 107),
+    (55, 55), (59, 59), (73, 75), (90, 97), (100, 107),
 ];
 
 /// A stretch of a line of one sort.

@@ -1,4 +1,5 @@
-//! Corners of document 01 and of modes 3 and 4, by what they are about.
+//! Corners of document 01, of modes 3 and 4 and of vertical alignment, by what they are
+//! about.
 
 use super::*;
 
@@ -13,6 +14,7 @@ pub fn corners() -> Vec<Statement> {
         drawn_columns,
         overstrike,
         style_orders,
+        alignment,
         other_sequences,
         hyperlinks,
         dropped_marks,
@@ -149,7 +151,7 @@ fn rows_and_bytes(list: &mut Vec<Statement>) {
     s.rows("'ab' 1B '[1m' 'cd'", 3, 2, &[(0, 2), (2, 4)]);
     s.rows("'abcd'", 3, 2, &[(0, 3), (3, 4)]);
     let most: Vec<u8> = [0xFF, 0x09].repeat(2048);
-    s.say(draw_window(&most, 1, 16_383), Says::Count(163_984));
+    s.say(draw_window(&most, 1, 16_383), Says::Count(168_084));
     s.say(read(&most, &[]), Says::Count(4096));
 }
 
@@ -275,6 +277,61 @@ fn style_orders(list: &mut Vec<Statement>) {
     s.matching(&long, &[3, 4], &[CONTROL, TEXT, MATCH, TEXT]);
     let short = format!("1B '[{}1m' 61", "0".repeat(31));
     s.refuses(read(&bytes(&short), &[0, 2]), 3);
+}
+
+/// Document 02, U7: 73 raised, 74 lowered, 75 baseline.
+fn alignment(list: &mut Vec<Statement>) {
+    let mut s = about(list, "alignment");
+    for known in [73, 74, 75] {
+        s.reads(&format!("1B '[{known}m' 61"), &[STYLE, TEXT]);
+    }
+    for unknown in [72, 76] {
+        s.reads(&format!("1B '[{unknown}m' 61"), &[CONTROL, TEXT]);
+        s.draws_as(&format!("1B '[1;{unknown};4m' 61"), "a01 t61 d");
+    }
+    s.rows("1B '[73m' 61", 8, 1, &[(0, 1)]);
+    s.rows("1B '[72m' 61", 8, 1, &[(0, 8), (8, 9)]);
+    for (parameters, changes) in [
+        ("73", "a^ t61 d"),
+        ("74", "a_ t61 d"),
+        ("75", "d t61 d"),
+        ("073", "a^ t61 d"),
+        ("1;73;4", "a0101^ t61 d"),
+        ("38;5;73", "a000000000149 t61 d"),
+        ("48;2;73;74;75", "a000000000000000002494A4B t61 d"),
+        ("73;74", "a_ t61 d"),
+        ("74;73", "a^ t61 d"),
+        ("73;75", "d t61 d"),
+        ("73;0", "d t61 d"),
+        ("0;73", "a^ t61 d"),
+        ("73;", "d t61 d"),
+        ("73;22", "a^ t61 d"),
+        ("73;10;74", "a^ t61 d"),
+    ] {
+        s.draws_as(&format!("1B '[{parameters}m' 61"), changes);
+    }
+    // a reset keeps the link alone
+    s.draws_as(
+        "1B ']8;;u' 07 1B '[73m' 1B '[0m' 61",
+        "a000000000000000000000000000000000500000001 t61 d",
+    );
+    s.draws_as(
+        "1B ']8;;u' 07 1B '[73m' 61",
+        "a000000000000000000000000000000000500000001^ t61 d",
+    );
+    // matches keep it; marks, arrows and the closing attributes have none
+    let raised = bytes("1B '[73m' 61");
+    let matched = draw_window_with(&raised, &[0, 1], NONE, 0, 1);
+    s.say(matched, Says::Changes("a00000000010000000103^ t61 d"));
+    let current = draw_window_with(&raised, &[0, 1], 0, 0, 1);
+    s.say(current, Says::Changes("a00000000010000000106^ t61 d"));
+    s.draws("1B '[73m' 01", 0, 4, "a00000002 t3C30313E d");
+    s.draws(
+        "1B '[73mabcd'",
+        1,
+        3,
+        "a010000000104 t3C d a^ t63 t08 r a010000000104 t3E d",
+    );
 }
 
 fn other_sequences(list: &mut Vec<Statement>) {
@@ -408,7 +465,7 @@ fn drawing(list: &mut Vec<Statement>) {
     s.draws("'ab'", 0, 2, "t6162 d");
     s.draws("'abc'", 0, 2, "t6162 t08 r a010000000104 t3E d");
     s.draws("", 0, 0, "d");
-    s.say(draw_window(b"", 0, 0), Says::Count(30));
+    s.say(draw_window(b"", 0, 0), Says::Count(31));
     s.draws("1B ']8;;u' 07 1B", 0, 4, "a00000002 t3C31423E d");
     s.draws(
         "1B '(0q' 1B '[mq' 1B '(Bq'",

@@ -1,4 +1,4 @@
--- Attributes that drawings send: intensity, underline and blink stay as document 01 has them.
+-- Attributes that drawings send: intensity, underline, blink and alignment stay as documents 01 and 02 have them.
 use Prim.Native.Nat.{ℕ, zero, suc, _-_, _≤_}
 use native.Mathlib.Omega.{arith}
 use mathlib.Core.Bool.{Bool, true, _&&_}
@@ -10,7 +10,7 @@ use Rattle.text.specs.Utf8.{to, within}
 use Rattle.spans.specs.Sgr.{Known, known, meaningOf, coloured, meaningAfter, follow, ordersFrom, orders}
 use Rattle.spans.specs.declared.sgr.Color.{Color}
 use Rattle.spans.specs.declared.sgr.Sgr.{Sgr}
-use Rattle.spans.specs.declared.sgr.Sgr.the-variants.{Reset, Intensity, Underline, Blink, Italic, Inverse, Invisible, StrikeThrough, Overline, Foreground, Background, UnderlineColor}
+use Rattle.spans.specs.declared.sgr.Sgr.the-variants.{Reset, Intensity, Underline, Blink, VerticalAlign, Italic, Inverse, Invisible, StrikeThrough, Overline, Foreground, Background, UnderlineColor}
 use Rattle.spans.specs.declared.sgr.Target.{Target}
 use Rattle.spans.specs.declared.sgr.Target.the-variants as target
 use Rattle.spans.specs.declared.sgr.ColorState.{ColorState}
@@ -26,6 +26,7 @@ pub record FontInLimits (f : Font) : Type 0 where
   pub intensity : f .intensity ≤ 2
   pub underline : f .underline ≤ 2
   pub blink : f .blink ≤ 2
+  pub alignment : f .alignment ≤ 2
 
 abbrev pub InLimits : Attributes → Type 0
 InLimits a = FontInLimits (a .font)
@@ -35,7 +36,7 @@ InLimits a = FontInLimits (a .font)
 -- an order whose value document 01 has: plain attributes stay in limits
 unfoldable pub knownValue : Sgr → Bool
 unfolding apply plain
-knownValue o = let f : Font = apply plain o .font in leb (f .intensity) 2 && (leb (f .underline) 2 && leb (f .blink) 2)
+knownValue o = let f : Font = apply plain o .font in leb (f .intensity) 2 && (leb (f .underline) 2 && (leb (f .blink) 2 && leb (f .alignment) 2))
 
 abbrev pub KnownValue : Sgr → Type 0
 KnownValue o = T (knownValue o)
@@ -95,8 +96,8 @@ orders-known ps = from-known ps Ready
 
 -- ---- attributes
 
-zero-font : FontInLimits (style.font 0 0 0)
-zero-font = record { intensity = omega arith; underline = omega arith; blink = omega arith }
+zero-font : FontInLimits (style.font 0 0 0 0)
+zero-font = record { intensity = omega arith; underline = omega arith; blink = omega arith; alignment = omega arith }
 
 pub plain-limits : InLimits plain
 unfolding plain plainWith
@@ -105,9 +106,10 @@ plain-limits = zero-font
 apply-limits : (a : Attributes) (o : Sgr) → InLimits a → KnownValue o → InLimits (apply a o)
 unfolding apply knownValue plainWith withFont withFlags withColors
 apply-limits a Reset f t = zero-font
-apply-limits a (Intensity x) f t = record { intensity = leb→le x 2 (and-T (leb x 2) true t .0); underline = f .underline; blink = f .blink }
-apply-limits a (Underline x) f t = record { intensity = f .intensity; underline = leb→le x 2 (and-T (leb x 2) true t .0); blink = f .blink }
-apply-limits a (Blink x) f t = record { intensity = f .intensity; underline = f .underline; blink = leb→le x 2 t }
+apply-limits a (Intensity x) f t = record { intensity = leb→le x 2 (and-T (leb x 2) true t .0); underline = f .underline; blink = f .blink; alignment = f .alignment }
+apply-limits a (Underline x) f t = record { intensity = f .intensity; underline = leb→le x 2 (and-T (leb x 2) true t .0); blink = f .blink; alignment = f .alignment }
+apply-limits a (Blink x) f t = record { intensity = f .intensity; underline = f .underline; blink = leb→le x 2 (and-T (leb x 2) true t .0); alignment = f .alignment }
+apply-limits a (VerticalAlign x) f t = record { intensity = f .intensity; underline = f .underline; blink = f .blink; alignment = leb→le x 2 t }
 apply-limits a (Italic x) f t = f
 apply-limits a (Inverse x) f t = f
 apply-limits a (Invisible x) f t = f
@@ -131,9 +133,9 @@ pub styled-limits : (a : Attributes) (s : Style) → InLimits a → InLimits (st
 unfolding styled applyAll apply plain plainWith withFont withFlags withColors
 styled-limits a style.file f = f
 styled-limits a style.control f = plain-limits
-styled-limits a style.match f = record { intensity = omega arith; underline = f .underline; blink = f .blink }
-styled-limits a style.currentMatch f = record { intensity = omega arith; underline = f .underline; blink = f .blink }
+styled-limits a style.match f = record { intensity = omega arith; underline = f .underline; blink = f .blink; alignment = f .alignment }
+styled-limits a style.currentMatch f = record { intensity = omega arith; underline = f .underline; blink = f .blink; alignment = f .alignment }
 
 pub arrows-limits : InLimits arrows
 unfolding arrows applyAll apply plain plainWith withFont withColors
-arrows-limits = record { intensity = omega arith; underline = omega arith; blink = omega arith }
+arrows-limits = record { intensity = omega arith; underline = omega arith; blink = omega arith; alignment = omega arith }

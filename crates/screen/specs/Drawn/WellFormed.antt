@@ -1,11 +1,11 @@
 -- Changes that drawings send are well formed as records: no list of them is refused 10.
 use mathlib.Core.Path.{_≡_, refl, ap, subst, _∙_}
-use Prim.Native.Nat.{ℕ, _+_, _≤_, _<_}
+use Prim.Native.Nat.{ℕ, suc, _+_, _≤_, _<_}
 use native.Mathlib.Omega.{arith}
 use mathlib.Core.Bool.{Bool, true, false, cond, _&&_, or-true}
 use mathlib.Core.List.{List, [], _∷_, _++_, map, append-nil}
-use lib.ListN.{length, length-append}
-use lib.Dec.{eqb, ltb, eqb-refl, lt→ltb}
+use lib.ListN.{length, getD, length-append}
+use lib.Dec.{eqb, leb, ltb, eqb-refl, lt→ltb}
 use borrow.Author.Tests.{le-leb}
 use Rattle.buffer.specs.Numbers.{le4}
 use Rattle.text.specs.Tests.{is-true}
@@ -59,23 +59,30 @@ color-behind Default s = (refl, refl)
 color-behind (Palette i) s = (refl, refl)
 color-behind (Rgb r g b) s = (refl, refl)
 
-attribute-size : (a : Attributes) → length (attributeBytes a) ≡ 24
+byte-behind : (c : Color) (s : List ℕ) (n : ℕ) → getD (colorBytes c ++ s) (suc (suc (suc (suc n)))) 0 ≡ getD s n 0
+unfolding colorBytes
+byte-behind Default s n = refl
+byte-behind (Palette i) s n = refl
+byte-behind (Rgb r g b) s n = refl
+
+attribute-size : (a : Attributes) → length (attributeBytes a) ≡ bodySize
 unfolding attributeBytes le4
 attribute-size a = simp length-append (omega (arith, color-size (a .colors .foreground), color-size (a .colors .background), color-size (a .colors .underline)))
 
 attribute-fields : (a : Attributes) → InLimits a → fields (attributeBytes a) ≡ true
 unfolding fields attributeBytes color
 attribute-fields a f =
-    let u : List ℕ = le4 (a .link .place .0) ++ le4 (a .link .len) in
+    let u : List ℕ = le4 (a .link .place .0) ++ (le4 (a .link .len) ++ (a .font .alignment ∷ [])) in
     let t : List ℕ = colorBytes (a .colors .underline) ++ u in
     let s : List ℕ = colorBytes (a .colors .background) ++ t in
     rw (le-leb (a .font .intensity) 2 (f .intensity), le-leb (a .font .underline) 2 (f .underline), le-leb (a .font .blink) 2 (f .blink), le-leb (flagByte a) 31 (flags-small a))
-    (all-three (color-first (a .colors .foreground) s)
+    (all-four (color-first (a .colors .foreground) s)
     (color-behind (a .colors .foreground) s .0 ∙ color-first (a .colors .background) t)
-    (color-behind (a .colors .foreground) s .1 ∙ color-behind (a .colors .background) t .0 ∙ color-first (a .colors .underline) u))
+    (color-behind (a .colors .foreground) s .1 ∙ color-behind (a .colors .background) t .0 ∙ color-first (a .colors .underline) u)
+    (ap (λ (n : ℕ). leb n 2) (byte-behind (a .colors .foreground) s 16 ∙ byte-behind (a .colors .background) t 12 ∙ byte-behind (a .colors .underline) u 8) ∙ le-leb (a .font .alignment) 2 (f .alignment)))
   where
-    all-three : {x y z : Bool} → x ≡ true → y ≡ true → z ≡ true → (x && (y && z)) ≡ true
-    all-three e f g = rw (e, f, g)
+    all-four : {x y z w : Bool} → x ≡ true → y ≡ true → z ≡ true → w ≡ true → (x && (y && (z && w))) ≡ true
+    all-four e f g h = rw (e, f, g, h)
 
 -- ---- changes
 

@@ -28,11 +28,12 @@ pub enum Blink {
     Rapid = 2,
 }
 
-/// No sequence of document 01 sets it.
 #[derive(Clone, Copy, Debug, Default, PartialEq, Eq)]
 pub enum VerticalAlign {
     #[default]
-    BaseLine,
+    BaseLine = 0,
+    SuperScript = 1,
+    SubScript = 2,
 }
 
 #[derive(Clone, Debug, Default, PartialEq, Eq)]

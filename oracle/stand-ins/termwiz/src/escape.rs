@@ -37,9 +37,9 @@ pub mod csi {
         Overline(bool),
         Foreground(ColorAttribute),
         Background(ColorAttribute),
-        /// No parameter of document 01 gives this and the next.
-        Font(u8),
         VerticalAlign(VerticalAlign),
+        /// No known parameter gives it; the source has an arm for it.
+        Font(u8),
     }
 
     /// A sequence that the source ignores, by its final byte.

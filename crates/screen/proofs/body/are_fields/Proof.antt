@@ -15,6 +15,9 @@ byte-at-requires-3 c κs = search needs
 byte-at-requires-4 : tie.Need-byte-at-requires-4
 byte-at-requires-4 c κs = search needs
 
+byte-at-requires-5 : tie.Need-byte-at-requires-5
+byte-at-requires-5 c κs = search needs
+
 is-color-requires : tie.Need-is-color-requires
 is-color-requires c κs = search needs
 
@@ -35,6 +38,7 @@ are-fields-spec =
     byte-at-requires-2
     byte-at-requires-3
     byte-at-requires-4
+    byte-at-requires-5
     is-color-requires
     is-color-requires-2
     is-color-requires-3

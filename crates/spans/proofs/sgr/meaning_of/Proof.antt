@@ -112,7 +112,19 @@ unfolding meaningOf known
 returns-26 c = search on-parameter
 
 returns-27 : tie.Need-returns-27
-returns-27 c = search other-parameter
+unfolding meaningOf known
+returns-27 c = search on-parameter
+
+returns-28 : tie.Need-returns-28
+unfolding meaningOf known
+returns-28 c = search on-parameter
+
+returns-29 : tie.Need-returns-29
+unfolding meaningOf known
+returns-29 c = search on-parameter
+
+returns-30 : tie.Need-returns-30
+returns-30 c = search other-parameter
 
 pub meaning-of-spec : {M : Type 1} → statement M
 meaning-of-spec =
@@ -145,4 +157,7 @@ meaning-of-spec =
     returns-24
     returns-25
     returns-26
-    returns-27)
+    returns-27
+    returns-28
+    returns-29
+    returns-30)

@@ -5,7 +5,7 @@ use super::csi::{Cursor, Edit, EraseInLine, Sgr, CSI};
 use super::esc::{Esc, EscCode};
 use super::osc::OperatingSystemCommand;
 use super::Action;
-use crate::cell::{Blink, Intensity, Underline};
+use crate::cell::{Blink, Intensity, Underline, VerticalAlign};
 use crate::color::ColorAttribute::{self, Default, PaletteIndex, TrueColor};
 use crate::hyperlink::Hyperlink;
 
@@ -170,6 +170,9 @@ fn single(parameter: u32) -> Option<Sgr> {
         53 => Sgr::Overline(true),
         55 => Sgr::Overline(false),
         59 => Sgr::UnderlineColor(Default),
+        73 => Sgr::VerticalAlign(VerticalAlign::SuperScript),
+        74 => Sgr::VerticalAlign(VerticalAlign::SubScript),
+        75 => Sgr::VerticalAlign(VerticalAlign::BaseLine),
         90..=97 => Sgr::Foreground(palette(90 - 8)),
         100..=107 => Sgr::Background(palette(100 - 8)),
         _ => return None,
