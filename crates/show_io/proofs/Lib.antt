@@ -3,3 +3,4 @@ pub mod Bodies
 pub mod Printing
 pub mod LineRows
 pub mod Refusals
+pub mod Pieces

@@ -21,7 +21,7 @@ use Rattle.show_io.specs.Ansi.Contracts.{placesAt, clusterIn, bodyIn, In
 use Rattle.show_io.specs.declared.ansi.Places.{Places}
 use Rattle.show_io.proofs.Bodies.{part-cut}
 
-pub places-are : (row : List ℕ) (at n x y z : ℕ) → n ≡ littleEndian (take 4 (drop at row)) → x ≡ smallerOf (at + 4) (length row) → y ≡ smallerOf (at + 4 + n) (length row) → z ≡ smallerOf (at + 4 + n + 24) (length row)
+pub places-are : (row : List ℕ) (at n x y z : ℕ) → n ≡ littleEndian (take 4 (drop at row)) → x ≡ smallerOf (at + 4) (length row) → y ≡ smallerOf (at + 4 + n) (length row) → z ≡ smallerOf (at + 4 + n + 25) (length row)
     → record { cluster = x; body = y; end = z } ≡ placesAt row at
 places-are row at n x y z e f g h = rw (f, g, h, e) refl
 

@@ -16,7 +16,7 @@ ghost use Rattle.show_io.specs.Ansi.{cells, valued, colored, fontOf, fla
 ghost use Rattle.show_io.specs.Ansi.Contracts.{styleChange, linkChange, placesAt, bodyIn, clusterIn, InRow, cellText};
 
 // The size of an attribute body.
-const BODY: usize = 24;
+const BODY: usize = 25;
 
 // A cell's places in a row: where its cluster and its body begin, and where it ends.
 struct Places {

@@ -4,9 +4,9 @@ use mathlib.Core.Path.{_≡_, refl, sym, ap, ap₂, _∙_}
 use Prim.Native.Nat.{ℕ, zero, suc, _+_, _-_, _*_, _/_, _%_, _≤_, _<_}
 use native.Mathlib.Omega.{arith}
 use mathlib.Core.Bool.{Bool, true, false, cond, _&&_, _||_}
-use mathlib.Core.List.{List, [], _∷_, _++_, append-assoc}
-use lib.ListN.{length, take, drop, getD, length-append, drop-of-length-le, List·getD-eq-default}
-use lib.Seq.{getD-append-add, getD-append-seam, take-append-seam}
+use mathlib.Core.List.{List, [], _∷_, _++_, append-assoc, append-nil}
+use lib.ListN.{length, take, drop, getD, length-append, drop-of-length-le}
+use lib.Seq.{drop-cons, getD-append-add, getD-append-seam, take-append-seam}
 use lib.Dec.{T, eqb, leb, leb→le, eqb→eq}
 use borrow.Author.Tests.{eqb-true, eqb-false, le-leb}
 use Rattle.text.specs.Tests.{and-T, or-T, is-true, true-T, cases, both, by-case, every, every-one}
@@ -23,7 +23,7 @@ use Rattle.spans.specs.declared.sgr.Meaning.the-variants.{Order, Group}
 use Rattle.spans.specs.declared.sgr.Target.{Target}
 use Rattle.spans.specs.declared.sgr.Target.the-variants as target
 use Rattle.spans.specs.declared.sgr.Sgr.{Sgr}
-use Rattle.spans.specs.declared.sgr.Sgr.the-variants.{Reset, Intensity, Underline, Blink, Italic, Inverse, Invisible, StrikeThrough, Overline}
+use Rattle.spans.specs.declared.sgr.Sgr.the-variants.{Reset, Intensity, Underline, Blink, VerticalAlign, Italic, Inverse, Invisible, StrikeThrough, Overline}
 use Rattle.drawing.specs.declared.attributes.Attributes.{Attributes}
 use Rattle.drawing.specs.declared.attributes.Link.{Link}
 use Rattle.drawing.specs.declared.attributes.Font.{Font}
@@ -172,7 +172,7 @@ module _ (b : List ℕ) (bytes : All Byte b) (l : Link) where
   f = getD b 3 0
 
   abbrev fontIs : Font
-  fontIs = font (getD b 0 0) (getD b 1 0) (getD b 2 0)
+  fontIs = font (getD b 0 0) (getD b 1 0) (getD b 2 0) 0
 
   abbrev flagsIs : Flags
   flagsIs = flags (bit 1 f) (bit 2 f) (bit 4 f) (bit 8 f) (bit 16 f)
@@ -186,14 +186,14 @@ module _ (b : List ℕ) (bytes : All Byte b) (l : Link) where
   abbrev none : Colors
   none = colors Default Default Default
 
-  ran-font : (ps : List ℕ) → getD b 0 0 ≤ 2 → getD b 1 0 ≤ 2 → getD b 2 0 ≤ 2 → ran (attributes (font 0 0 0) off none l) (fontOf b ++ ps) ≡ ran (attributes fontIs off none l) ps
+  ran-font : (ps : List ℕ) → getD b 0 0 ≤ 2 → getD b 1 0 ≤ 2 → getD b 2 0 ≤ 2 → ran (attributes (font 0 0 0 0) off none l) (fontOf b ++ ps) ≡ ran (attributes fontIs off none l) ps
   unfolding apply withFont meaningOf known
   ran-font ps i u k =
-      ap (ran (attributes (font 0 0 0) off none l)) (append-assoc (valued 1 2 (getD b 0 0)) (valued 4 21 (getD b 1 0) ++ valued 5 6 (getD b 2 0)) ps)
-      ∙ ran-value (attributes (font 0 0 0) off none l) ((valued 4 21 (getD b 1 0) ++ valued 5 6 (getD b 2 0)) ++ ps) Intensity 1 2 (getD b 0 0) refl refl refl i
-      ∙ ap (ran (attributes (font (getD b 0 0) 0 0) off none l)) (append-assoc (valued 4 21 (getD b 1 0)) (valued 5 6 (getD b 2 0)) ps)
-      ∙ ran-value (attributes (font (getD b 0 0) 0 0) off none l) (valued 5 6 (getD b 2 0) ++ ps) Underline 4 21 (getD b 1 0) refl refl refl u
-      ∙ ran-value (attributes (font (getD b 0 0) (getD b 1 0) 0) off none l) ps Blink 5 6 (getD b 2 0) refl refl refl k
+      ap (ran (attributes (font 0 0 0 0) off none l)) (append-assoc (valued 1 2 (getD b 0 0)) (valued 4 21 (getD b 1 0) ++ valued 5 6 (getD b 2 0)) ps)
+      ∙ ran-value (attributes (font 0 0 0 0) off none l) ((valued 4 21 (getD b 1 0) ++ valued 5 6 (getD b 2 0)) ++ ps) Intensity 1 2 (getD b 0 0) refl refl refl i
+      ∙ ap (ran (attributes (font (getD b 0 0) 0 0 0) off none l)) (append-assoc (valued 4 21 (getD b 1 0)) (valued 5 6 (getD b 2 0)) ps)
+      ∙ ran-value (attributes (font (getD b 0 0) 0 0 0) off none l) (valued 5 6 (getD b 2 0) ++ ps) Underline 4 21 (getD b 1 0) refl refl refl u
+      ∙ ran-value (attributes (font (getD b 0 0) (getD b 1 0) 0 0) off none l) ps Blink 5 6 (getD b 2 0) refl refl refl k
 
   abbrev flagged-on : Bool → Bool → Bool → Bool → Bool → Attributes
   flagged-on i r v s o = attributes fontIs (flags i r v s o) none l
@@ -215,6 +215,13 @@ module _ (b : List ℕ) (bytes : All Byte b) (l : Link) where
       ∙ ran-color (attributes fontIs flagsIs none l) (colored 48 b 8 ++ (colored 58 b 12 ++ ps)) target.Foreground 38 b 4 bytes refl refl
       ∙ ran-color (attributes fontIs flagsIs (colors (colorOf b 4) Default Default) l) (colored 58 b 12 ++ ps) target.Background 48 b 8 bytes refl refl
       ∙ ran-color (attributes fontIs flagsIs (colors (colorOf b 4) (colorOf b 8) Default) l) ps target.Underline 58 b 12 bytes refl refl
+
+  abbrev alignedIs : Attributes
+  alignedIs = attributes (font (getD b 0 0) (getD b 1 0) (getD b 2 0) (getD b 24 0)) flagsIs colorsIs l
+
+  ran-alignment : getD b 24 0 ≤ 2 → ran (attributes fontIs flagsIs colorsIs l) (alignmentOf b) ≡ alignedIs
+  unfolding apply withFont meaningOf known ordersFrom applyAll
+  ran-alignment v = ap (ran (attributes fontIs flagsIs colorsIs l)) (sym (append-nil (alignmentOf b))) ∙ ran-value (attributes fontIs flagsIs colorsIs l) [] VerticalAlign 73 74 (getD b 24 0) refl refl refl v
 
 -- ---- the parameters of a body: few, and bytes
 
@@ -299,6 +306,7 @@ record Fields (b : List ℕ) : Type 0 where
   underline : getD b 1 0 ≤ 2
   blink : getD b 2 0 ≤ 2
   flags : getD b 3 0 ≤ 31
+  alignment : getD b 24 0 ≤ 2
   foreground : color b 4 ≡ true
   background : color b 8 ≡ true
   underlineColor : color b 12 ≡ true
@@ -312,32 +320,37 @@ fields-are b e =
     let s = and-T (leb (getD b 2 0) 2) _ (r .1) in
     let c = and-T (color b 4) _ (p .1) in
     let d = and-T (color b 8) _ (c .1) in
+    let u = and-T (color b 12) _ (d .1) in
     record {
       intensity = leb→le _ _ (q .0);
       underline = leb→le _ _ (r .0);
       blink = leb→le _ _ (s .0);
       flags = leb→le _ _ (s .1);
+      alignment = leb→le _ _ (u .1);
       foreground = is-true _ (c .0);
       background = is-true _ (d .0);
-      underlineColor = is-true _ (d .1);
+      underlineColor = is-true _ (u .0);
     }
 
 module _ (b : List ℕ) (bytes : All Byte b) (size : length b ≡ bodySize) (is : Fields b) where
   -- the attributes that the orders of the body's parameters lead to
-  attributes-ran : (a : Attributes) → applyAll a (Reset ∷ ordersFrom Ready (parametersOf b)) ≡ attributes (fontIs b bytes (a .link)) (flagsIs b bytes (a .link)) (colorsIs b bytes (a .link)) (a .link)
+  attributes-ran : (a : Attributes) → applyAll a (Reset ∷ ordersFrom Ready (parametersOf b)) ≡ alignedIs b bytes (a .link)
   unfolding applyAll apply plainWith parametersOf ordersFrom
   attributes-ran a =
       let l : Link = a .link in
       ran-font b bytes l (flagsOf (getD b 3 0) ++ (colorsOf b ++ alignmentOf b)) (is .intensity) (is .underline) (is .blink)
       ∙ ran-flags b bytes l (colorsOf b ++ alignmentOf b)
       ∙ ran-colors b bytes l (alignmentOf b)
-      ∙ ap (λ (v : ℕ). ran (attributes (fontIs b bytes l) (flagsIs b bytes l) (colorsIs b bytes l) l) (valued 73 74 v)) (List·getD-eq-default b 0 {n = 24} (omega arith))
+      ∙ ran-alignment b bytes l (is .alignment)
+
+  last-byte : drop 24 b ≡ getD b 24 0 ∷ []
+  last-byte = drop-cons b 24 0 (omega arith) ∙ ap (λ (l : List ℕ). getD b 24 0 ∷ l) (drop-of-length-le b (let h : length b ≤ 25 = omega arith in h))
 
   applied-is : (a : Attributes) → attributeBytes (applyAll a (Reset ∷ ordersFrom Ready (parametersOf b))) ≡ take 16 b ++ (le4 (a .link .place .0) ++ (le4 (a .link .len) ++ drop 24 b))
   unfolding attributeBytes flagByte bytesAt
   applied-is a =
       ap attributeBytes (attributes-ran a)
-      ∙ rw (flags-byte (getD b 3 0) (is .flags), color-bytes b 4 (is .foreground), color-bytes b 8 (is .background), color-bytes b 12 (is .underlineColor), bytes-taken 16 b (omega arith), drop-of-length-le b (let h : length b ≤ 24 = omega arith in h)) refl
+      ∙ rw (flags-byte (getD b 3 0) (is .flags), color-bytes b 4 (is .foreground), color-bytes b 8 (is .background), color-bytes b 12 (is .underlineColor), bytes-taken 16 b (omega arith), last-byte) refl
 
 pub style-read : (b : List ℕ) → All Byte b → length b ≡ bodySize → fields b ≡ true → StyleRead b
 unfolding styleOrder

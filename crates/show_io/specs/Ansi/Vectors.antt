@@ -11,7 +11,7 @@ zeros n = replicate n 0
 
 -- the bytes of a row are read as its cells
 abbrev row : List Cell
-row = cell (0x61 ∷ []) plain ∷ cell (0xE6 ∷ 0xBC ∷ 0xA2 ∷ []) (1 ∷ replicate 23 0) ∷ cell [] (1 ∷ replicate 23 0) ∷ cell (0x20 ∷ []) plain ∷ []
+row = cell (0x61 ∷ []) plain ∷ cell (0xE6 ∷ 0xBC ∷ 0xA2 ∷ []) (1 ∷ zeros 24) ∷ cell [] (1 ∷ zeros 24) ∷ cell (0x20 ∷ []) plain ∷ []
 
 abbrev read-back : cells (rowBytes row) ≡ row
 unfolding cells rowBytes
@@ -31,7 +31,7 @@ unfolding styleOrder
 all-on = refl
 
 -- a linked to the 3 bytes at place 2 of the line: `ESC ] 8 ; ; xyz ESC \ a ESC ] 8 ; ; ESC \`
-abbrev linked : rowText (0x30 ∷ 0x31 ∷ 0x78 ∷ 0x79 ∷ 0x7A ∷ 0x32 ∷ []) (cell (0x61 ∷ []) (zeros 16 ++ (2 ∷ 0 ∷ 0 ∷ 0 ∷ 3 ∷ 0 ∷ 0 ∷ 0 ∷ [])) ∷ [])
+abbrev linked : rowText (0x30 ∷ 0x31 ∷ 0x78 ∷ 0x79 ∷ 0x7A ∷ 0x32 ∷ []) (cell (0x61 ∷ []) (zeros 16 ++ (2 ∷ 0 ∷ 0 ∷ 0 ∷ 3 ∷ 0 ∷ 0 ∷ 0 ∷ 0 ∷ [])) ∷ [])
     ≡ 0x1B ∷ 0x5D ∷ 0x38 ∷ 0x3B ∷ 0x3B ∷ 0x78 ∷ 0x79 ∷ 0x7A ∷ 0x1B ∷ 0x5C ∷ 0x61 ∷ 0x1B ∷ 0x5D ∷ 0x38 ∷ 0x3B ∷ 0x3B ∷ 0x1B ∷ 0x5C ∷ []
 unfolding rowText
 linked = refl
