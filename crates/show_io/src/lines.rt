@@ -252,7 +252,7 @@ fn push_words(out: &mut [u8], at: usize, number: usize) -> usize
         return push_bytes(out, at, b"more than 2,048 spans");
     }
     if number == 5 {
-        return push_bytes(out, at, b"no such row");
+        return push_bytes(out, at, b"a row wider than 4,096 columns");
     }
     if number == 8 {
         return push_bytes(out, at, b"a cluster wider than its row");

@@ -1,0 +1,75 @@
+use mathlib.Core.Path.{_≡_, refl}
+use Prim.Native.Nat.{_-_}
+use lib.ListN.{length}
+use borrow.Author.Needs.{needs}
+use Rattle.show.proofs.file.show_part.Statement.{statement}
+use Rattle.show.proofs.file.show_part.Tie as tie
+
+abbrev Inv-loop : tie.InvT-loop
+Inv-loop name width mode part line₀ out₀ state₀ p₀ line out state p = (length line ≡ length line₀) × (length out ≡ length out₀)
+
+abbrev μ-loop : tie.MeasureT-loop
+μ-loop name width mode part line₀ out₀ state₀ p₀ line out state p = length part - p
+
+loop-holds : tie.Need-loop-holds Inv-loop μ-loop
+loop-holds c = (refl, refl)
+
+line-end-requires : tie.Need-line-end-requires Inv-loop μ-loop
+line-end-requires c κs = search needs
+
+sub-show-piece : tie.Need-sub-show-piece Inv-loop μ-loop
+sub-show-piece c = search needs
+
+part-show-piece-start : tie.Need-part-show-piece-start Inv-loop μ-loop
+part-show-piece-start c = search needs
+
+part-show-piece-end : tie.Need-part-show-piece-end Inv-loop μ-loop
+part-show-piece-end c = search needs
+
+show-piece-requires : tie.Need-show-piece-requires Inv-loop μ-loop
+show-piece-requires c κs = search needs
+
+loop-less : tie.Need-loop-less Inv-loop μ-loop
+loop-less c = search needs
+
+loop-again : tie.Need-loop-again Inv-loop μ-loop
+loop-again c = (search needs, search needs)
+
+same-length : tie.Need-same-length Inv-loop μ-loop
+same-length c = search needs
+
+same-length-2 : tie.Need-same-length-2 Inv-loop μ-loop
+same-length-2 c = search needs
+
+returns : tie.Need-returns Inv-loop μ-loop
+returns c = search needs
+
+same-length-3 : tie.Need-same-length-3 Inv-loop μ-loop
+same-length-3 c = search needs
+
+same-length-4 : tie.Need-same-length-4 Inv-loop μ-loop
+same-length-4 c = search needs
+
+returns-2 : tie.Need-returns-2 Inv-loop μ-loop
+returns-2 c = search needs
+
+pub show-part-spec : {M : Type 1} → statement M
+show-part-spec =
+    tie.close
+    (tie.spec
+    Inv-loop
+    μ-loop
+    loop-holds
+    line-end-requires
+    sub-show-piece
+    part-show-piece-start
+    part-show-piece-end
+    show-piece-requires
+    loop-less
+    loop-again
+    same-length
+    same-length-2
+    returns
+    same-length-3
+    same-length-4
+    returns-2)
