@@ -4,6 +4,7 @@ mod cache;
 mod calls;
 mod lines;
 mod memory;
+mod narrowest;
 mod screen;
 mod table;
 mod times;
@@ -57,7 +58,8 @@ impl Options {
                 _ => return None,
             }
         }
-        let names = [&Call::NAMES[..], &[screen::NAME], &cache::NAMES].concat();
+        let further = [screen::NAME, narrowest::NAME];
+        let names = [&Call::NAMES[..], &further, &cache::NAMES].concat();
         let known = |call: &String| names.contains(&call.as_str());
         options.calls.iter().all(known).then_some(options)
     }
@@ -77,6 +79,9 @@ fn once(arguments: &[String]) -> Option<()> {
     let (call, line, bytes) = (call?, line?, bytes?);
     if option == "--once" && name == screen::NAME {
         return screen::once(call, line, bytes);
+    }
+    if option == "--once" && name == narrowest::NAME {
+        return narrowest::once(call, line, bytes);
     }
     if option == "--once" && cache::NAMES.contains(&name.as_str()) {
         return cache::once(name, call, line, bytes);
@@ -112,6 +117,9 @@ fn main() -> ExitCode {
     }
     if options.wants(screen::NAME) && exported.contains(&screen::NAME) {
         screen::print_times(options.effort);
+    }
+    if options.wants(narrowest::NAME) && exported.contains(&narrowest::NAME) {
+        narrowest::print_times();
     }
     let exported = |name: &&str| exported.contains(name);
     if cache::NAMES.iter().all(exported) {

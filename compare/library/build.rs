@@ -5,7 +5,7 @@ use std::path::{Path, PathBuf};
 use std::process::Command;
 use std::{env, fs};
 
-const CALLS: [&str; 9] = [
+const CALLS: [&str; 13] = [
     "convert",
     "read",
     "rows",
@@ -15,6 +15,10 @@ const CALLS: [&str; 9] = [
     "screen_row",
     "cached_rows",
     "cached_height",
+    "store",
+    "restore",
+    "write_cells",
+    "narrowest",
 ];
 
 fn main() {

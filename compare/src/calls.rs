@@ -149,6 +149,10 @@ fn with_matches(call: &Call, new_matches: &[usize], new_current: usize) -> Call 
     call
 }
 
+pub fn without_matches(call: &Call) -> Call {
+    with_matches(call, &[], NONE)
+}
+
 /// Each window up to a column, and some beyond it or turned round.
 pub fn each_window(last: usize) -> Vec<Call> {
     let columns: Vec<usize> = (0..=last).collect();

@@ -20,7 +20,8 @@ pub fn need(call: &Call, line: &[u8]) -> Sizes {
     [8 * line.len(), spans, answer.pairs.len(), answer.list.len()]
 }
 
-fn around(random: &mut Random, need: usize) -> usize {
+/// As much as is needed, a little less or more, or much more.
+pub fn around(random: &mut Random, need: usize) -> usize {
     match random.below(80) {
         0 | 1 => need.saturating_sub(1),
         2 | 3 => need.saturating_sub(2),

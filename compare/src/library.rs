@@ -3,7 +3,8 @@
 use crate::comparison::Comparison;
 use crate::faults::Fault;
 use crate::lent::Lent;
-use console_lines::Span;
+use crate::readers::seen_by_crew;
+use console_lines::{Span, CREW};
 use oracle::format::answer_text;
 use oracle::noise::Program;
 use oracle::{Answer, Call, Case, Record};
@@ -85,7 +86,9 @@ impl Comparison for Library {
     fn compare(&mut self, case: &Case) -> (usize, Option<String>) {
         let expected = case.answer();
         let answer = self.call(case);
-        (expected.number, self.difference(case, &expected, answer))
+        let difference = self.difference(case, &expected, answer);
+        let difference = difference.or_else(|| self.crew_difference(case, &expected));
+        (expected.number, difference)
     }
 }
 
@@ -117,8 +120,38 @@ impl Library {
         ))
     }
 
+    /// The difference between what a drawing for the crew returns and leaves and the
+    /// bench's answer without URIs.
+    fn crew_difference(&mut self, case: &Case, bench: &Answer) -> Option<String> {
+        if !case.call.is_drawing() {
+            return None;
+        }
+        let answer = self.call_for(CREW, case);
+        let difference = self.difference(case, &seen_by_crew(bench), answer)?;
+        Some(format!("# for the crew\n{difference}"))
+    }
+
     pub fn call(&mut self, case: &Case) -> console_lines::Answer {
         self.call_by(case, console_lines::make)
+    }
+
+    pub fn call_for(&mut self, reader: usize, case: &Case) -> console_lines::Answer {
+        self.call_by(case, |call, line, matches, lent| {
+            console_lines::make_for(reader, call, line, matches, lent)
+        })
+    }
+
+    /// What the library returns to a reader and leaves; an error where the call writes to
+    /// memory that is not lent for writing.
+    pub fn answer_for(&mut self, reader: usize, case: &Case) -> Result<Answer, String> {
+        let answer = self.call_for(reader, case);
+        let answer = self.whole_answer(answer);
+        let faults = self.take_back(case);
+        if faults.is_empty() {
+            Ok(answer)
+        } else {
+            Err(format!("# {}", faults.join("; ")))
+        }
     }
 
     /// Makes a call by another function than that of its name.
@@ -158,7 +191,8 @@ impl Library {
         written.map_or(said, Err)
     }
 
-    fn buffers_hold(&self, expected: &Answer) -> bool {
+    /// Whether what was lent holds an answer.
+    pub fn buffers_hold(&self, expected: &Answer) -> bool {
         self.conv.holds(expected.conv.iter().copied())
             && self.spans.holds(expected.records.iter().map(span))
             && self.rows.holds(expected.pairs.iter().copied())

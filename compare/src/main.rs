@@ -3,28 +3,35 @@
 mod alphabets;
 mod cache;
 mod calls;
+mod cells;
 mod comparison;
 mod demand3;
 mod faults;
+mod fewest;
 mod lending;
 mod lent;
 mod library;
 mod lines;
+mod narrowest;
 mod options;
 mod orders;
 mod picture;
+mod readers;
 mod screen;
 mod sets;
+mod stored;
 mod tally;
 mod threads;
+mod units;
+mod writing;
 
-use comparison::{compare_sets, Set};
+use comparison::{compare_sets, Comparison, Set};
 use library::Library;
 use options::Options;
-use oracle::Case;
 use std::process::ExitCode;
 use std::time::Instant;
 use tally::{grouped, Tally};
+use writing::Memory;
 
 fn main() -> ExitCode {
     let options = match Options::of(std::env::args().skip(1)) {
@@ -41,13 +48,14 @@ fn main() -> ExitCode {
         println!("not in the library: {}", missing.join(", "));
     }
     let good = if options.sample {
-        if !options.cache {
-            screen::print_sample();
-        }
-        cache::print_sample();
+        print_samples(options.cache);
         true
     } else if options.faults && options.cache {
         is_found(cache::try_faults(options.seed))
+    } else if options.faults && options.fewest {
+        is_found(fewest::try_faults())
+    } else if options.faults && options.readers {
+        is_found(readers::try_faults(options.seed))
     } else if options.faults {
         plant_faults(&there, &options)
     } else if options.demand3 {
@@ -56,6 +64,10 @@ fn main() -> ExitCode {
         picture::run(&options)
     } else if options.cache {
         cache::run(&options)
+    } else if options.fewest {
+        fewest::run(&options)
+    } else if options.readers {
+        readers::run(&options)
     } else {
         compare_calls(&there, &options)
     };
@@ -66,11 +78,29 @@ fn main() -> ExitCode {
     }
 }
 
+/// Prints the samples of the calls that the source has not, or of those with kept wraps
+/// alone.
+fn print_samples(cache_alone: bool) {
+    if cache_alone {
+        return cache::print_sample();
+    }
+    screen::print_sample();
+    readers::print_sample();
+    cache::print_sample();
+    stored::print_sample();
+    cells::print_sample();
+    narrowest::print_sample();
+}
+
 /// Plants faults behind the calls and, where none is singled out, in demand 3, in the row
-/// picture and behind the calls with kept wraps; whether all are found.
+/// picture, behind the calls with kept wraps, in fewest rows and in the crew's view; whether
+/// all are found.
 fn plant_faults(calls: &[&'static str], options: &Options) -> bool {
     let missed = calls.iter().filter(|&&call| match call {
         screen::NAME => !screen::try_faults(),
+        stored::STORE | stored::RESTORE => !stored::try_faults(call),
+        cells::NAME => !cells::try_faults(),
+        narrowest::NAME => !narrowest::try_faults(),
         _ => !faults::try_faults(call, options.seed),
     });
     let mut good = missed.count() == 0 && !calls.is_empty();
@@ -78,6 +108,8 @@ fn plant_faults(calls: &[&'static str], options: &Options) -> bool {
         good &= demand3::try_faults(options.seed);
         good &= picture::try_faults(options.seed);
         good &= cache::try_faults(options.seed);
+        good &= fewest::try_faults();
+        good &= readers::try_faults(options.seed);
     }
     is_found(good)
 }
@@ -87,8 +119,8 @@ fn is_found(all: bool) -> bool {
     all
 }
 
-/// Compares the calls and, where none is singled out, runs demand 3, the row picture and
-/// the calls with kept wraps; whether all is equal and holds.
+/// Compares the calls and, where none is singled out, runs demand 3, the row picture, the
+/// calls with kept wraps, fewest rows and the crew's view; whether all is equal and holds.
 fn compare_calls(calls: &[&'static str], options: &Options) -> bool {
     let start = Instant::now();
     let mut total = Tally::default();
@@ -98,7 +130,13 @@ fn compare_calls(calls: &[&'static str], options: &Options) -> bool {
     let seconds = start.elapsed().as_secs_f64();
     println!("total: {total}, {seconds:.1} s");
     let equal = is_equal(&total);
-    let further: [fn(&Options) -> bool; 3] = [demand3::run, picture::run, cache::run];
+    let further: [fn(&Options) -> bool; 5] = [
+        demand3::run,
+        picture::run,
+        cache::run,
+        fewest::run,
+        readers::run,
+    ];
     let broken = further.iter().filter(|run| !run(options));
     let holds = !options.is_whole() || broken.count() == 0;
     equal && holds
@@ -117,22 +155,51 @@ fn is_equal(total: &Tally) -> bool {
 }
 
 fn compare_call(call: &'static str, options: &Options) -> Tally {
-    if call == screen::NAME {
-        let sets = match &options.cases {
-            Some(cases) => vec![Set::of("given cases", cases.screen_rows.clone())],
-            None => screen::sets(options.seed),
-        };
-        return compare_sets::<screen::Receiver>(call, &sets, options);
+    let seed = options.seed;
+    let given = options.cases.as_ref();
+    match call {
+        screen::NAME => {
+            let given = given.map(|cases| cases.screen_rows.clone());
+            compare::<Memory<screen::Case>>(call, given, &|| screen::sets(seed), options)
+        }
+        stored::STORE | stored::RESTORE => {
+            let given = given.map(|cases| {
+                let cases = cases.stored.iter().filter(|case| case.name() == call);
+                cases.cloned().collect()
+            });
+            compare::<Memory<stored::Case>>(call, given, &|| stored::sets(call, seed), options)
+        }
+        cells::NAME => {
+            let given = given.map(|cases| cases.cells.clone());
+            compare::<Memory<cells::Case>>(call, given, &|| cells::sets(seed), options)
+        }
+        narrowest::NAME => {
+            let given = given.map(|cases| cases.narrowest.clone());
+            compare::<narrowest::Fitter>(call, given, &|| narrowest::sets(seed), options)
+        }
+        _ => {
+            let given = given.map(|cases| {
+                let cases = cases.calls.iter().filter(|case| case.call.name() == call);
+                cases.cloned().collect()
+            });
+            compare::<Library>(call, given, &|| sets::sets(call, seed), options)
+        }
     }
-    let sets = match &options.cases {
-        Some(cases) => vec![given(call, &cases.calls)],
-        None => sets::sets(call, options.seed),
-    };
-    compare_sets::<Library>(call, &sets, options)
 }
 
-/// The cases of a call among those given in a file.
-fn given(call: &str, cases: &[Case]) -> Set<Case> {
-    let cases = cases.iter().filter(|case| case.call.name() == call);
-    Set::of("given cases", cases.cloned().collect())
+/// Compares the given cases or, without them, the sets of a call.
+fn compare<L: Comparison>(
+    call: &str,
+    given: Option<Vec<L::Case>>,
+    sets: &dyn Fn() -> Vec<Set<L::Case>>,
+    options: &Options,
+) -> Tally
+where
+    L::Case: Clone + Sync + Send + 'static,
+{
+    let sets = match given {
+        Some(cases) => vec![Set::of("given cases", cases)],
+        None => sets(),
+    };
+    compare_sets::<L>(call, &sets, options)
 }

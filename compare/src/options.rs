@@ -1,16 +1,17 @@
 //! The program's options.
 
-use crate::{cache, screen};
+use crate::{cache, cells, narrowest, readers, screen, stored};
 use oracle::{Call, Case};
 use std::fs;
-use std::str::FromStr;
 
 pub const USAGE: &str = "usage: compare [--call NAME]... [--quick] [--jobs N] [--seed N] [--trace]
        compare --demand3 [--quick] [--jobs N] [--seed N]
        compare --picture [--quick] [--jobs N] [--seed N] [--trace]
        compare --cache [--quick] [--jobs N] [--seed N] [--trace]
-       compare [--picture | --cache] --cases FILE [--trace]
-       compare --faults [--cache | --call NAME]...
+       compare --fewest [--quick] [--jobs N] [--seed N] [--trace]
+       compare --readers [--quick] [--jobs N] [--seed N] [--trace]
+       compare [--picture | --cache | --fewest | --readers] --cases FILE [--trace]
+       compare --faults [--cache | --fewest | --readers | --call NAME]...
        compare --sample [--cache]";
 
 /// A quick run takes one case of so many.
@@ -33,23 +34,36 @@ pub struct Options {
     pub picture: bool,
     /// Runs the calls with kept wraps alone.
     pub cache: bool,
-    /// Prints the samples of screen_row and of the calls with kept wraps.
+    /// Runs fewest rows alone.
+    pub fewest: bool,
+    /// Runs the crew's view alone.
+    pub readers: bool,
+    /// Prints the samples of the calls that the source has not, and of drawings for readers.
     pub sample: bool,
     /// Cases to compare in place of the sets.
     pub cases: Option<Cases>,
 }
 
+#[derive(Default)]
 pub struct Cases {
     /// Of the six calls of document 01.
     pub calls: Vec<Case>,
     pub screen_rows: Vec<screen::Case>,
+    /// Of store and restore.
+    pub stored: Vec<stored::Case>,
+    pub cells: Vec<cells::Case>,
+    pub narrowest: Vec<narrowest::Case>,
     /// Of calls with kept wraps.
     pub sequences: Vec<cache::Sequence>,
+    /// Drawings that name their reader.
+    pub views: Vec<readers::View>,
 }
 
 /// The names of the calls that are compared.
 pub fn names() -> impl Iterator<Item = &'static str> {
-    Call::NAMES.into_iter().chain([screen::NAME])
+    let [store, restore] = stored::NAMES;
+    let further = [screen::NAME, store, restore, cells::NAME, narrowest::NAME];
+    Call::NAMES.into_iter().chain(further)
 }
 
 impl Options {
@@ -64,6 +78,8 @@ impl Options {
             demand3: false,
             picture: false,
             cache: false,
+            fewest: false,
+            readers: false,
             sample: false,
             cases: None,
         };
@@ -79,6 +95,8 @@ impl Options {
                 "--demand3" => options.demand3 = true,
                 "--picture" => options.picture = true,
                 "--cache" => options.cache = true,
+                "--fewest" => options.fewest = true,
+                "--readers" => options.readers = true,
                 "--sample" => options.sample = true,
                 "--cases" => options.cases = Some(cases(&value()?)?),
                 _ => return Err(format!("no option {argument}")),
@@ -123,21 +141,17 @@ fn cases(file: &str) -> Result<Cases, String> {
     let text = fs::read_to_string(file).map_err(|e| format!("{file}: {e}"))?;
     let lines = text.lines().filter(|line| !line.starts_with(['#', ' ']));
     let questions = lines.map(|line| line.split(" = ").next().unwrap_or(line));
-    let (mut calls, mut screen_rows, mut sequences) = (Vec::new(), Vec::new(), Vec::new());
+    let mut cases = Cases::default();
     for question in questions {
         match question.split(' ').next() {
-            Some(screen::NAME) => screen_rows.push(question),
-            Some(cache::NAME | cache::RECORDED) => sequences.push(question),
-            _ => calls.push(question),
+            Some(screen::NAME) => cases.screen_rows.push(question.parse()?),
+            Some(stored::STORE | stored::RESTORE) => cases.stored.push(question.parse()?),
+            Some(cells::NAME) => cases.cells.push(question.parse()?),
+            Some(narrowest::NAME) => cases.narrowest.push(question.parse()?),
+            Some(cache::NAME | cache::RECORDED) => cases.sequences.push(question.parse()?),
+            Some(name) if readers::NAMES.contains(&name) => cases.views.push(question.parse()?),
+            _ => cases.calls.push(question.parse()?),
         }
     }
-    Ok(Cases {
-        calls: parsed(&calls)?,
-        screen_rows: parsed(&screen_rows)?,
-        sequences: parsed(&sequences)?,
-    })
-}
-
-fn parsed<C: FromStr<Err = String>>(questions: &[&str]) -> Result<Vec<C>, String> {
-    questions.iter().map(|question| question.parse()).collect()
+    Ok(cases)
 }

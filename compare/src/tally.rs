@@ -5,6 +5,9 @@ use std::fmt;
 /// So many differences are printed, the shortest ones.
 const MOST_PRINTED: usize = 20;
 
+/// The largest number that a refusal has.
+const LARGEST_NUMBER: usize = 18;
+
 /// Differences found, as text.
 #[derive(Default)]
 pub struct Differences {
@@ -38,7 +41,7 @@ impl Differences {
 pub struct Tally {
     pub cases: usize,
     /// How many were accepted, and how many refused by each question.
-    by_number: [usize; 12],
+    by_number: [usize; LARGEST_NUMBER + 1],
     pub differences: Differences,
 }
 

@@ -69,8 +69,11 @@ impl Call {
     pub fn is_lent(&self) -> [bool; 4] {
         let spans = !matches!(self, Call::Convert);
         let rows = matches!(self, Call::Rows { .. });
-        let list = matches!(self, Call::DrawWindow { .. } | Call::DrawRow { .. });
-        [true, spans, rows, list]
+        [true, spans, rows, self.is_drawing()]
+    }
+
+    pub fn is_drawing(&self) -> bool {
+        matches!(self, Call::DrawWindow { .. } | Call::DrawRow { .. })
     }
 
     pub fn matches(&self) -> &[usize] {

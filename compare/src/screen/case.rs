@@ -1,8 +1,9 @@
 //! A call of screen_row, in the oracle's text format.
 
-use super::model::{screen_row, Answer};
-use super::NAME;
-use oracle::format::{buffer, bytes, hex, number};
+use super::model::screen_row;
+use super::{drawn, NAME};
+use crate::writing::{Answer, Writing};
+use oracle::format::{bytes, hex, number};
 use std::fmt;
 use std::str::FromStr;
 
@@ -37,14 +38,27 @@ impl Case {
         };
         Case::new(list, width, size)
     }
+}
 
-    pub fn answer(&self) -> Answer {
+impl Writing for Case {
+    fn input(&self) -> &[u8] {
+        &self.list
+    }
+
+    fn size(&self) -> usize {
+        self.size
+    }
+
+    fn answer(&self) -> Answer {
         screen_row(&self.list, self.width, self.size)
     }
 
-    /// The whole line of text.
-    pub fn answered(&self) -> String {
-        format!("{self} = {}", answer_text(&self.answer()))
+    fn call(&self, input: &[u8], out: &mut [u8]) -> console_lines::Answer {
+        console_lines::screen_row(input, self.width, out)
+    }
+
+    fn broken(&self, answer: &Answer) -> Option<String> {
+        drawn::broken(self, answer.number)
     }
 }
 
@@ -52,12 +66,6 @@ impl fmt::Display for Case {
     fn fmt(&self, f: &mut fmt::Formatter<'_>) -> fmt::Result {
         write!(f, "{NAME} {} {} {}", hex(&self.list), self.width, self.size)
     }
-}
-
-/// An answer as the text behind ` = `.
-pub fn answer_text(answer: &Answer) -> String {
-    let Answer { number, count, out } = answer;
-    format!("{number} {count} {}", buffer(out))
 }
 
 impl FromStr for Case {

@@ -245,7 +245,7 @@ pub type AnyCall = fn(&mut Random, &[u8]) -> Call;
 const TRIES: usize = 30;
 
 /// What a drawing leaves, and how many columns it was drawn into.
-fn drawn_list(random: &mut Random, line: &[u8], call: AnyCall) -> Option<(Vec<u8>, usize)> {
+pub fn drawn_list(random: &mut Random, line: &[u8], call: AnyCall) -> Option<(Vec<u8>, usize)> {
     let mut calls = (0..TRIES).map(|_| call(random, line));
     calls.find_map(|call| {
         let list = drawn::list(&call, line)?;

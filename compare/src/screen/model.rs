@@ -2,6 +2,8 @@
 //! owns its columns until a later one takes them, and a write that has lost a column
 //! shows in none.
 
+pub use crate::writing::Answer;
+
 use oracle::changes::places;
 use std::ops::Range;
 use unicode_segmentation::UnicodeSegmentation;
@@ -22,27 +24,9 @@ type Attributes = [u8; BODY];
 const DEFAULT: Attributes = [0; BODY];
 const BACKGROUND: Range<usize> = 8..12;
 
-/// What the call returns, and what it leaves in front of the zeros.
-#[derive(Clone, Debug, Default, PartialEq, Eq)]
-pub struct Answer {
-    pub number: usize,
-    pub count: usize,
-    pub out: Vec<u8>,
-}
-
 /// The row of `width` columns after a change list, where `size` bytes are lent for it.
 pub fn screen_row(list: &[u8], width: usize, size: usize) -> Answer {
-    match accepted(list, width, size) {
-        Ok(out) => Answer {
-            number: 0,
-            count: out.len(),
-            out,
-        },
-        Err(number) => Answer {
-            number,
-            ..Answer::default()
-        },
-    }
+    Answer::of(accepted(list, width, size))
 }
 
 /// The questions, each put to the whole list before the next.

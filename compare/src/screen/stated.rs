@@ -3,6 +3,7 @@
 use super::changes::{attributes, change, clear, cursor_right, text, with_length};
 use super::model::{Answer, BODY};
 use super::{drawn, Case};
+use crate::writing::Writing;
 use oracle::{Call, NONE};
 
 struct Statement {

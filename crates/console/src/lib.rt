@@ -2,19 +2,22 @@
 ghost use mathlib.Core.Path.{_≡_};
 ghost use lib.ListN.{length};
 ghost use Rattle.text.specs.Width.{profile01};
-ghost use Rattle.text.specs.Calls.{convertCall};
-ghost use Rattle.text.specs.Calls.Code.{converted};
+ghost use Rattle.text.specs.Calls.{convertCall, writeCellsCall};
+ghost use Rattle.text.specs.Calls.Code.{converted, written};
 ghost use Rattle.spans.specs.Calls.{readCall};
 ghost use Rattle.spans.specs.Calls.Contracts.{readAs};
 ghost use Rattle.rows.specs.Calls.{rowsCall, heightCall};
 ghost use Rattle.rows.specs.Calls.Contracts.{wrappedAs};
+ghost use Rattle.rows.specs.Narrowest.{narrowestCall};
+ghost use Rattle.rows.specs.Widths.{narrowedAs};
 ghost use Rattle.cache.specs.Calls.{cachedRowsCall, cachedHeightCall};
 ghost use Rattle.cache.specs.Calls.Contracts.{cachedRowsAs, cachedHeightAs};
 ghost use Rattle.screen.specs.Calls.{screenCall};
-ghost use Rattle.screen.specs.Calls.Code.{shown};
+ghost use Rattle.screen.specs.Stored.{storeCall, restoreCall};
 ghost use Rattle.drawing.specs.Calls.{windowCall, rowCall};
 ghost use Rattle.drawing.specs.Rendering.{currentOf};
 ghost use Rattle.drawing.specs.Requests.{drawnAs};
+use rows::WidthAnswer;
 use spans::Span;
 use text::Answer;
 
@@ -65,6 +68,20 @@ pub extern "C" fn console_height(
 }
 
 #[no_mangle]
+pub extern "C" fn console_narrowest(
+    line: &[u8],
+    mode: usize,
+    wanted: usize,
+    greatest: usize,
+    conv: &mut [u8],
+    spans: &mut [Span],
+) -> WidthAnswer
+    ensures { λ r. ⌜ narrowedAs r (now (conv .exit)) (now (spans .exit)) ≡ narrowestCall profile01 (length (now (conv .entry))) (length (now (spans .entry))) mode wanted greatest (now (line .entry)) ⌝ }
+{
+    rows::narrowest(line, mode, wanted, greatest, conv, spans)
+}
+
+#[no_mangle]
 pub extern "C" fn console_cached_rows(
     line: &[u8],
     width: usize,
@@ -95,6 +112,7 @@ pub extern "C" fn console_cached_height(
 
 #[no_mangle]
 pub extern "C" fn console_draw_window(
+    reader: usize,
     line: &[u8],
     matches: &[usize],
     current: usize,
@@ -104,13 +122,24 @@ pub extern "C" fn console_draw_window(
     spans: &mut [Span],
     list: &mut [u8],
 ) -> Answer
-    ensures { λ r. ⌜ drawnAs r (now (conv .exit)) (now (spans .exit)) (now (list .exit)) ≡ windowCall profile01 (length (now (conv .entry))) (length (now (spans .entry))) (length (now (list .entry))) start end (currentOf current) (now (matches .entry)) (now (line .entry)) ⌝ }
+    ensures { λ r. ⌜ drawnAs r (now (conv .exit)) (now (spans .exit)) (now (list .exit)) ≡ windowCall profile01 reader (length (now (conv .entry))) (length (now (spans .entry))) (length (now (list .entry))) start end (currentOf current) (now (matches .entry)) (now (line .entry)) ⌝ }
 {
-    drawing::draw_window(line, matches, current, start, end, conv, spans, list)
+    drawing::draw_window(
+        reader,
+        line,
+        matches,
+        current,
+        start,
+        end,
+        conv,
+        spans,
+        list,
+    )
 }
 
 #[no_mangle]
 pub extern "C" fn console_draw_row(
+    reader: usize,
     line: &[u8],
     matches: &[usize],
     current: usize,
@@ -122,9 +151,10 @@ pub extern "C" fn console_draw_row(
     spans: &mut [Span],
     list: &mut [u8],
 ) -> Answer
-    ensures { λ r. ⌜ drawnAs r (now (conv .exit)) (now (spans .exit)) (now (list .exit)) ≡ rowCall profile01 (length (now (conv .entry))) (length (now (spans .entry))) (length (now (list .entry))) first count width mode (currentOf current) (now (matches .entry)) (now (line .entry)) ⌝ }
+    ensures { λ r. ⌜ drawnAs r (now (conv .exit)) (now (spans .exit)) (now (list .exit)) ≡ rowCall profile01 reader (length (now (conv .entry))) (length (now (spans .entry))) (length (now (list .entry))) first count width mode (currentOf current) (now (matches .entry)) (now (line .entry)) ⌝ }
 {
     drawing::draw_row(
+        reader,
         line,
         matches,
         current,
@@ -140,7 +170,28 @@ pub extern "C" fn console_draw_row(
 
 #[no_mangle]
 pub extern "C" fn console_screen_row(list: &[u8], width: usize, out: &mut [u8]) -> Answer
-    ensures { λ r. ⌜ shown r (now (out .exit)) ≡ screenCall profile01 width (length (now (out .entry))) (now (list .entry)) ⌝ }
+    ensures { λ r. ⌜ written r (now (out .exit)) ≡ screenCall profile01 width (length (now (out .entry))) (now (list .entry)) ⌝ }
 {
     screen::screen_row(list, width, out)
+}
+
+#[no_mangle]
+pub extern "C" fn console_store(list: &[u8], out: &mut [u8]) -> Answer
+    ensures { λ r. ⌜ written r (now (out .exit)) ≡ storeCall (length (now (out .entry))) (now (list .entry)) ⌝ }
+{
+    screen::store(list, out)
+}
+
+#[no_mangle]
+pub extern "C" fn console_restore(stored: &[u8], out: &mut [u8]) -> Answer
+    ensures { λ r. ⌜ written r (now (out .exit)) ≡ restoreCall (length (now (out .entry))) (now (stored .entry)) ⌝ }
+{
+    screen::restore(stored, out)
+}
+
+#[no_mangle]
+pub extern "C" fn console_write_cells(cells: &[u8], out: &mut [u8]) -> Answer
+    ensures { λ r. ⌜ written r (now (out .exit)) ≡ writeCellsCall (length (now (out .entry))) (now (cells .entry)) ⌝ }
+{
+    text::write_cells(cells, out)
 }

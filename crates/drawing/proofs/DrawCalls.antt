@@ -28,7 +28,7 @@ use Rattle.drawing.specs.Change.{Change, encode}
 use Rattle.drawing.specs.Change as change
 use Rattle.drawing.specs.Calls as calls
 use Rattle.drawing.specs.Calls.{drawing, windowQuestions, rowQuestions, windowCall, rowCall}
-use Rattle.drawing.specs.Calls.Laws.{further, drawing-unread, drawing-refused, drawing-accepted}
+use Rattle.drawing.specs.Calls.Laws.{further, drawing-unknown, drawing-unread, drawing-refused, drawing-accepted}
 use Rattle.drawing.specs.Rendering.{largest}
 use Rattle.drawing.specs.Requests.{windowRequest, rowRequest, askedOf, InLimits, drawableOf, wrappingOf, boundsOf, windowRendering, rowsRendering, firstSpans, RenderWrappedRoom, changesOf, Drew, decided, outcomeOf, answerOf, drawnAs, Called}
 use Rattle.drawing.specs.declared.Request.{Request}
@@ -48,7 +48,7 @@ pub bounds-is : (y : RowCounts) (start end : Column) → end ≡ cond (ltb (y .l
 bounds-is y start end e f = rw (f, e)
 
 pub window-is : (q : Request) (len n : ℕ) → n ≡ cond (ltb 0 (q .start)) (q .start + 1) 0
-    → record { window = record { profile = record { version = 0 }; start = record { 0 = n }; end = record { 0 = q .end } }; current = q .current; len = len; arrow = ltb 0 (q .start); wrapped = false; room = false } ≡ windowRendering q len
+    → record { window = record { profile = record { version = 0 }; start = record { 0 = n }; end = record { 0 = q .end } }; current = q .current; len = len; arrow = ltb 0 (q .start); wrapped = false; room = false; crew = eqb (q .reader) 1 } ≡ windowRendering q len
 unfolding windowRendering
 window-is q len n e = rw e
 
@@ -58,16 +58,16 @@ area-fits q h =
     omega (arith, a, h .count)
 
 pub rows-is : (q : Request) (y : RowCounts) (len : ℕ) (w : Window) (room : Column) → w ≡ boundsOf y → room .0 ≡ w .end .0 - w .start .0
-    → record { window = w; current = q .current; len = len; arrow = false; wrapped = true; room = ltb (room .0) (q .width * q .count) } ≡ rowsRendering q y len
+    → record { window = w; current = q .current; len = len; arrow = false; wrapped = true; room = ltb (room .0) (q .width * q .count); crew = eqb (q .reader) 1 } ≡ rowsRendering q y len
 unfolding rowsRendering
 rows-is q y len w room e f = rw (f, e)
 
-module _ (q : Request) (read : ℕ) (d : Drawn) (room a k : ℕ) (f : a ≡ askedOf q) (e : k ≡ decided a read d room) where
+module _ (q : Request) (read : ℕ) (d : Drawn) (room a k : ℕ) (f : a ≡ askedOf q) (e : k ≡ decided (q .reader) a read d room) where
   abbrev told : ℕ
-  told = decided (askedOf q) read d room
+  told = decided (q .reader) (askedOf q) read d room
 
   told-is : k ≡ told
-  told-is = e ∙ ap (λ (n : ℕ). decided n read d room) f
+  told-is = e ∙ ap (λ (n : ℕ). decided (q .reader) n read d room) f
 
   pub outcome-accepted : k ≡ 0 → record { number = 0; count = d .at; kept = largest; listed = d .at } ≡ outcomeOf told (d .at)
   unfolding outcomeOf
@@ -100,10 +100,10 @@ asked-first q others =
     (λ h. cases (rowsAsked q) (λ e. rw (h, e)) (λ e. rw (h, e)))
     (λ h. cases (columnsAsked q) (λ e. cases (windowAsked q) (λ f. rw (h, e, f)) (λ f. rw (h, e, f))) (λ e. rw (h, e)))
 
-window-limits : (start end current : ℕ) → start ≤ 1048576 → InLimits (windowRequest start end current)
-window-limits start end current h = record { start = h; first = omega arith; count = omega arith; some = omega arith; width = omega arith; mode = omega arith }
+window-limits : (reader start end current : ℕ) → start ≤ 1048576 → InLimits (windowRequest reader start end current)
+window-limits reader start end current h = record { start = h; first = omega arith; count = omega arith; some = omega arith; width = omega arith; mode = omega arith }
 
-rows-limits : (q : Request) → rowsAsked q ≡ true → InLimits (rowRequest (q .first) (q .count) (q .width) (q .mode) (q .current))
+rows-limits : (q : Request) → rowsAsked q ≡ true → InLimits (rowRequest (q .reader) (q .first) (q .count) (q .width) (q .mode) (q .current))
 rows-limits q e =
     let a = and-T (modeAndWidth (q .mode) (q .width)) (leb (q .first) 65535 && (leb (q .count) 65535 && leb 1 (q .count))) (true-T e) in
     let m = and-T (leb (q .mode) 4) (leb (q .width) 65535) (a .0) in
@@ -126,12 +126,12 @@ drawable-limits : (q : Request) → InLimits (drawableOf q)
 unfolding drawableOf askedOf
 drawable-limits q =
     cases (q .wrapped)
-    (λ h. cases (rowsAsked q) (λ e. rw (h, e) (rows-limits q e)) (λ e. rw (h, e) (window-limits 0 0 0 (omega arith))))
+    (λ h. cases (rowsAsked q) (λ e. rw (h, e) (rows-limits q e)) (λ e. rw (h, e) (window-limits 0 0 0 0 (omega arith))))
     (λ h. cases (columnsAsked q)
     (λ e. cases (windowAsked q)
-    (λ f. rw (h, e, f) (window-limits (q .start) (q .end) (q .current) (leb→le (q .start) 1048576 (and-T (leb (q .start) 1048576) (leb (q .end) 1048576) (true-T e) .0))))
-    (λ f. rw (h, e, f) (window-limits 0 0 0 (omega arith))))
-    (λ e. rw (h, e) (window-limits 0 0 0 (omega arith))))
+    (λ f. rw (h, e, f) (window-limits (q .reader) (q .start) (q .end) (q .current) (leb→le (q .start) 1048576 (and-T (leb (q .start) 1048576) (leb (q .end) 1048576) (true-T e) .0))))
+    (λ f. rw (h, e, f) (window-limits 0 0 0 0 (omega arith))))
+    (λ e. rw (h, e) (window-limits 0 0 0 0 (omega arith))))
 
 -- it is what is asked for, where those questions say yes
 same-changes : (q : Request) (ss : List Span) → askedOf q ≡ 0 → changesOf (drawableOf q) ss ≡ changesOf q ss
@@ -161,7 +161,7 @@ module _ (size places : ℕ) (matches line : List ℕ) (a : Answer) (cs : List �
     pub call-room : RenderWrappedRoom rs cs d (a .count)
     call-room = let c = reading.count-in size places matches line a cs rs read (a .number) refl in record { there = c .0; few = c .1; limits = rw d-is (drawable-limits q); held = records-are (a .number) refl }
 
-  module _ (l l′ : List ℕ) (r : Drawn) (made : Drew (changesOf d (firstSpans rs cs (a .count))) l l′ r) (o : Outcome) (o-is : o ≡ outcomeOf (decided (askedOf q) (a .number) r (length l)) (r .at))
+  module _ (l l′ : List ℕ) (r : Drawn) (made : Drew (changesOf d (firstSpans rs cs (a .count))) l l′ r) (o : Outcome) (o-is : o ≡ outcomeOf (decided (q .reader) (askedOf q) (a .number) r (length l)) (r .at))
       (cs-length : length cs ≡ size) (rs-length : length rs ≡ places) (l-length : length l′ ≡ length l) (cs-room : size < 2 ^ 64) (rs-room : places < 2 ^ 64) where
     abbrev changes : List Change
     changes = changesOf q ss
@@ -171,10 +171,10 @@ module _ (size places : ℕ) (matches line : List ℕ) (a : Answer) (cs : List �
 
     -- the call by its definition
     abbrev call : calls.Drawn
-    call = drawing profile01 size places (length l) matches (questionsOf q) (changesOf q) line
+    call = drawing profile01 (q .reader) size places (length l) matches (questionsOf q) (changesOf q) line
 
     abbrev number : ℕ
-    number = decided (askedOf q) (a .number) r (length l)
+    number = decided (q .reader) (askedOf q) (a .number) r (length l)
 
     outcome-at : (n : ℕ) → number ≡ n → o ≡ outcomeOf n (r .at)
     outcome-at n e = o-is ∙ ap (λ (k : ℕ). outcomeOf k (r .at)) e
@@ -188,24 +188,28 @@ module _ (size places : ℕ) (matches line : List ℕ) (a : Answer) (cs : List �
         let x : o ≡ record { number = suc n; count = 0; kept = 0; listed = 0 } = outcome-at (suc n) e ∙ rw (ne-eqb (suc n) 0 (λ z. omega arith)) in
         rw (x, cleared-none 0 cs size cs-length, cleared-none noRecord rs places rs-length, cleared-none 0 l′ (length l) l-length) (sym f)
 
+    unknown : leb (q .reader) 1 ≡ false → Done o
+    unfolding decided
+    unknown e = refused 17 (rw (lt-ltb 1 (q .reader) (leb-false (q .reader) 1 e))) (drawing-unknown profile01 (q .reader) size places (length l) matches (questionsOf q) (changesOf q) line e)
+
     -- a line that `read` accepts
-    module _ (fine : a .number ≡ 0) where
+    module _ (known : leb (q .reader) 1 ≡ true) (fine : a .number ≡ 0) where
       accepted-read : readCall profile01 size places matches line .number ≡ 0
       accepted-read = reading.number-is size places matches line a cs rs read ∙ fine
 
       number-fine : number ≡ cond (ltb 0 (askedOf q)) (askedOf q) (cond (r .torn) 8 (cond (ltb (length l) (r .at)) 9 0))
       unfolding decided
-      number-fine = rw fine
+      number-fine = rw (le-ltb 1 (q .reader) (leb-true (q .reader) 1 known), fine)
 
       abbrev later : ℕ
-      later = further profile01 size places (length l) matches (questionsOf q) (changesOf q) line
+      later = further profile01 (q .reader) size places (length l) matches (questionsOf q) (changesOf q) line
 
       later-is : later ≡ cond (ltb 0 (askedOf q)) (askedOf q) (cond (change.whole changes) (cond (leb (length bytes) (length l)) 0 9) 8)
       unfolding decide
       later-is = asked-first q _
 
       refused-by : (n : ℕ) → number ≡ suc n → later ≡ suc n → Done o
-      refused-by n e f = refused n e (drawing-refused profile01 size places (length l) matches (questionsOf q) (changesOf q) line accepted-read n f)
+      refused-by n e f = refused n e (drawing-refused profile01 (q .reader) size places (length l) matches (questionsOf q) (changesOf q) line known accepted-read n f)
 
       accepted : number ≡ 0 → later ≡ 0 → r .at ≡ length bytes → l′ ≡ bytes ++ drop (length bytes) l → Done o
       unfolding outcomeOf
@@ -213,7 +217,7 @@ module _ (size places : ℕ) (matches line : List ℕ) (a : Answer) (cs : List �
           let c : cleared 0 largest cs ≡ readCall profile01 size places matches line .conv = cleared-all 0 cs largest (omega arith) ∙ ap (λ (x : Read). x .conv) read in
           let s : cleared noRecord largest rs ≡ readCall profile01 size places matches line .spans = cleared-all noRecord rs largest (omega arith) ∙ ap (λ (x : Read). x .spans) read in
           let k : cleared 0 (length bytes) l′ ≡ bytes ++ replicate (length l - length bytes) 0 = cleared-behind 0 l′ bytes (drop (length bytes) l) (length l) (length bytes) h refl l-length in
-          rw (outcome-at 0 e, c, s, g, k) (sym (drawing-accepted profile01 size places (length l) matches (questionsOf q) (changesOf q) line accepted-read f))
+          rw (outcome-at 0 e, c, s, g, k) (sym (drawing-accepted profile01 (q .reader) size places (length l) matches (questionsOf q) (changesOf q) line known accepted-read f))
 
       -- questions 8 and 9 of a request that passes 5 and 7
       module _ (asked : askedOf q ≡ 0) where
@@ -248,16 +252,20 @@ module _ (size places : ℕ) (matches line : List ℕ) (a : Answer) (cs : List �
       by-asked zero e = drawn e
       by-asked (suc n) e = refused-by n (number-fine ∙ rw (e, lt-ltb 0 (suc n) (omega arith))) (later-is ∙ rw (e, lt-ltb 0 (suc n) (omega arith)))
 
-    by-number : (n : ℕ) → a .number ≡ n → Done o
+    by-number : leb (q .reader) 1 ≡ true → (n : ℕ) → a .number ≡ n → Done o
     unfolding decided
-    by-number zero e = by-asked e (askedOf q) refl
-    by-number (suc n) e =
-        refused n (rw (e, lt-ltb 0 (suc n) (omega arith))) (drawing-unread profile01 size places (length l) matches (questionsOf q) (changesOf q) line n (reading.number-is size places matches line a cs rs read ∙ e))
+    by-number k zero e = by-asked k e (askedOf q) refl
+    by-number k (suc n) e =
+        refused n (rw (le-ltb 1 (q .reader) (leb-true (q .reader) 1 k), e, lt-ltb 0 (suc n) (omega arith)))
+        (drawing-unread profile01 (q .reader) size places (length l) matches (questionsOf q) (changesOf q) line k n (reading.number-is size places matches line a cs rs read ∙ e))
+
+    by-reader : Done o
+    by-reader = cases (leb (q .reader) 1) (λ e. by-number e (a .number) refl) unknown
 
     -- what the call leaves once what is not kept is cleared
     pub called : Called q size places (length l) matches line (answerOf o) (cleared 0 (o .kept) cs) (cleared noRecord (o .kept) rs) (cleared 0 (o .listed) l′)
     unfolding windowCall rowCall drawing changesOf
-    called = record { window = λ h. by-number (a .number) refl ∙ rw h; rows = λ h. by-number (a .number) refl ∙ rw h }
+    called = record { window = λ h. by-reader ∙ rw h; rows = λ h. by-reader ∙ rw h }
 
 -- the same of lists that hold just that
 pub called-cleared : (q : Request) (size places room : ℕ) (matches line : List ℕ) (o : Outcome) (cs : List ℕ) (rs : List Record) (l : List ℕ)

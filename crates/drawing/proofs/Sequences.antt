@@ -3,7 +3,7 @@ use mathlib.Core.Path.{_≡_, refl, sym, ap, _∙_}
 use mathlib.Core.Logic.{_≢_}
 use Prim.Native.Nat.{ℕ, _+_, _≤_, _<_}
 use native.Mathlib.Omega.{arith}
-use mathlib.Core.Bool.{true, cond}
+use mathlib.Core.Bool.{Bool, true, cond}
 use mathlib.Core.List.{List}
 use lib.ListN.{length, drop, getD, length-drop}
 use lib.Seq.{slice, take-all}
@@ -19,6 +19,7 @@ use Rattle.spans.specs.declared.sequence.Sequence as sequence
 use Rattle.spans.specs.declared.sequence.Sequence.the-variants as sequences
 use Rattle.drawing.specs.Attributes.{linked}
 use Rattle.drawing.specs.Draw.{State, renderSequence}
+use Rattle.drawing.specs.Reader.HiddenUris.{uriLength}
 use Rattle.drawing.specs.State.{stateOf}
 use Rattle.drawing.specs.Orders.{obeyed}
 use Rattle.drawing.specs.Rendering.{Linkable, linkedBy, withLineDrawing, erasedToEnd, linkIn, recordSequence, SequenceDone}
@@ -45,41 +46,41 @@ linkable line place q h k e =
 pub link-fits : (place : ℕ) (q : sequence.Sequence) (p n k : ℕ) → Linkable place q → q ≡ sequences.Hyperlink p n k → place + p < 18446744073709551616
 link-fits place q p n k l e = omega (arith, l .near, l .from p n k e)
 
-pub link-told : (t : AttributeState) (place : ℕ) (q : sequence.Sequence) (a : Attributes) (p n k : ℕ) → q ≡ sequences.Hyperlink p n k → a ≡ linked (t .attrs) (place + p) n
-    → record { attrs = a; drawing = t .drawing; changed = true; style = t .style; fill = t .fill; torn = t .torn; position = t .position } ≡ linkedBy t place q
+pub link-told : (crew : Bool) (t : AttributeState) (place : ℕ) (q : sequence.Sequence) (a : Attributes) (p n k m : ℕ) → q ≡ sequences.Hyperlink p n k → m ≡ uriLength crew n → a ≡ linked (t .attrs) (place + p) m
+    → record { attrs = a; drawing = t .drawing; changed = true; style = t .style; fill = t .fill; torn = t .torn; position = t .position } ≡ linkedBy crew t place q
 unfolding linkedBy
-link-told t place q a p n k e f = rw (e, f) refl
+link-told crew t place q a p n k m e g f = rw (e, f, g) refl
 
-pub on-link : (t r : AttributeState) (place : ℕ) (q x : sequence.Sequence) → q ≡ x → r ≡ linkedBy t place x → r ≡ linkedBy t place q
-on-link t r place q x e p = rw e p
+pub on-link : (crew : Bool) (t r : AttributeState) (place : ℕ) (q x : sequence.Sequence) → q ≡ x → r ≡ linkedBy crew t place x → r ≡ linkedBy crew t place q
+on-link crew t r place q x e p = rw e p
 
 -- ---- the state after a sequence
 
-record-past : (line : List ℕ) (kind place : ℕ) → length line ≤ place → recordSequence line kind place ≡ ignored
+record-past : (crew : Bool) (line : List ℕ) (kind place : ℕ) → length line ≤ place → recordSequence crew line kind place ≡ ignored
 unfolding recordSequence
-record-past line kind place h = rw (le-leb (length line) place h) refl
+record-past crew line kind place h = rw (le-leb (length line) place h) refl
 
-pub record-here : (line : List ℕ) (kind place : ℕ) → place < length line → recordSequence line kind place
-    ≡ cond (eqb kind 6) (sgr (ordersAt line (record { at = place + 2; further = true }))) (cond (eqb kind 7) (linkIn (parse (drop (place + 1) line))) (cond (eqb kind 8) (lineDrawing (eqb (getD line (place + 2) 0) 0x30)) (cond (eqb kind 13) eraseToEnd ignored)))
+pub record-here : (crew : Bool) (line : List ℕ) (kind place : ℕ) → place < length line → recordSequence crew line kind place
+    ≡ cond (eqb kind 6) (sgr (ordersAt line (record { at = place + 2; further = true }))) (cond (eqb kind 7) (linkIn crew (parse (drop (place + 1) line))) (cond (eqb kind 8) (lineDrawing (eqb (getD line (place + 2) 0) 0x30)) (cond (eqb kind 13) eraseToEnd ignored)))
 unfolding recordSequence
-record-here line kind place h = rw (lt-leb (length line) place h) refl
+record-here crew line kind place h = rw (lt-leb (length line) place h) refl
 
-module _ (line : List ℕ) (kind place : ℕ) (t : AttributeState) where
-  same-state : recordSequence line kind place ≡ ignored → SequenceDone line kind place t t
+module _ (crew : Bool) (line : List ℕ) (kind place : ℕ) (t : AttributeState) where
+  same-state : recordSequence crew line kind place ≡ ignored → SequenceDone crew line kind place t t
   unfolding renderSequence
   same-state e = record { state = λ P a b. rw e refl; torn = refl }
 
-  pub sequence-past : length line ≤ place → SequenceDone line kind place t t
-  sequence-past h = same-state (record-past line kind place h)
+  pub sequence-past : length line ≤ place → SequenceDone crew line kind place t t
+  sequence-past h = same-state (record-past crew line kind place h)
 
   module _ (here : place < length line) where
-    pub sequence-sgr : (r : AttributeState) → kind ≡ 6 → r ≡ obeyed t (ordersAt line (record { at = place + 2; further = true })) → SequenceDone line kind place t r
+    pub sequence-sgr : (r : AttributeState) → kind ≡ 6 → r ≡ obeyed t (ordersAt line (record { at = place + 2; further = true })) → SequenceDone crew line kind place t r
     unfolding renderSequence stateOf
     sequence-sgr r k e =
-        let q : recordSequence line kind place ≡ sgr (ordersAt line (record { at = place + 2; further = true })) = record-here line kind place here ∙ rw k refl in
+        let q : recordSequence crew line kind place ≡ sgr (ordersAt line (record { at = place + 2; further = true })) = record-here crew line kind place here ∙ rw k refl in
         rw e record { state = λ P a b. rw q refl; torn = refl }
 
-    link-state : (f : Found) (P : Profile) (a b : ℕ) → stateOf (linkedBy t place (sequenceOf f)) ≡ renderSequence P a b (stateOf t) place (linkIn f)
+    link-state : (f : Found) (P : Profile) (a b : ℕ) → stateOf (linkedBy crew t place (sequenceOf f)) ≡ renderSequence P a b (stateOf t) place (linkIn crew f)
     unfolding linkedBy sequenceOf linkIn renderSequence stateOf
     link-state missing P a b = refl
     link-state (found (hyperlink p m) j) P a b = refl
@@ -88,7 +89,7 @@ module _ (line : List ℕ) (kind place : ℕ) (t : AttributeState) where
     link-state (found ignored j) P a b = refl
     link-state (found (lineDrawing d) j) P a b = refl
 
-    link-torn : (f : Found) → linkedBy t place (sequenceOf f) .torn ≡ t .torn
+    link-torn : (f : Found) → linkedBy crew t place (sequenceOf f) .torn ≡ t .torn
     unfolding linkedBy sequenceOf
     link-torn missing = refl
     link-torn (found (hyperlink p m) j) = refl
@@ -97,26 +98,26 @@ module _ (line : List ℕ) (kind place : ℕ) (t : AttributeState) where
     link-torn (found ignored j) = refl
     link-torn (found (lineDrawing d) j) = refl
 
-    pub sequence-link : (r : AttributeState) (q : sequence.Sequence) → kind ≡ 7 → q ≡ sequenceOf (parse (slice (place + 1) (length line) line)) → r ≡ linkedBy t place q → SequenceDone line kind place t r
+    pub sequence-link : (r : AttributeState) (q : sequence.Sequence) → kind ≡ 7 → q ≡ sequenceOf (parse (slice (place + 1) (length line) line)) → r ≡ linkedBy crew t place q → SequenceDone crew line kind place t r
     sequence-link r q k e f =
-        let g : r ≡ linkedBy t place (sequenceOf (parse (drop (place + 1) line))) = f ∙ ap (linkedBy t place) (e ∙ ap (λ (l : List ℕ). sequenceOf (parse l)) (slice-is line place)) in
-        let h : recordSequence line kind place ≡ linkIn (parse (drop (place + 1) line)) = record-here line kind place here ∙ rw k refl in
+        let g : r ≡ linkedBy crew t place (sequenceOf (parse (drop (place + 1) line))) = f ∙ ap (linkedBy crew t place) (e ∙ ap (λ (l : List ℕ). sequenceOf (parse l)) (slice-is line place)) in
+        let h : recordSequence crew line kind place ≡ linkIn crew (parse (drop (place + 1) line)) = record-here crew line kind place here ∙ rw k refl in
         record { state = λ P a b. ap stateOf g ∙ link-state (parse (drop (place + 1) line)) P a b ∙ ap (renderSequence P a b (stateOf t) place) (sym h); torn = ap (λ (x : AttributeState). x .torn) g ∙ link-torn (parse (drop (place + 1) line)) }
 
-    pub sequence-drawing : (r : AttributeState) (b : ℕ) → kind ≡ 8 → b ≡ getD line (place + 2) 0 → r ≡ withLineDrawing t (eqb b 0x30) → SequenceDone line kind place t r
+    pub sequence-drawing : (r : AttributeState) (b : ℕ) → kind ≡ 8 → b ≡ getD line (place + 2) 0 → r ≡ withLineDrawing t (eqb b 0x30) → SequenceDone crew line kind place t r
     unfolding renderSequence stateOf
     sequence-drawing r b k e f =
-        let q : recordSequence line kind place ≡ lineDrawing (eqb (getD line (place + 2) 0) 0x30) = record-here line kind place here ∙ rw k refl in
+        let q : recordSequence crew line kind place ≡ lineDrawing (eqb (getD line (place + 2) 0) 0x30) = record-here crew line kind place here ∙ rw k refl in
         rw (f, e) record { state = λ P a c. rw q refl; torn = refl }
 
-    pub sequence-erase : (r : AttributeState) → kind ≡ 13 → r ≡ erasedToEnd t → SequenceDone line kind place t r
+    pub sequence-erase : (r : AttributeState) → kind ≡ 13 → r ≡ erasedToEnd t → SequenceDone crew line kind place t r
     unfolding renderSequence stateOf
     sequence-erase r k e =
-        let q : recordSequence line kind place ≡ eraseToEnd = record-here line kind place here ∙ rw k refl in
+        let q : recordSequence crew line kind place ≡ eraseToEnd = record-here crew line kind place here ∙ rw k refl in
         rw e record { state = λ P a b. rw q refl; torn = refl }
 
-    pub sequence-other : (kind ≢ 6) → (kind ≢ 7) → (kind ≢ 8) → (kind ≢ 13) → SequenceDone line kind place t t
-    sequence-other a b c d = same-state (record-here line kind place here ∙ rw (ne-eqb kind 6 a, ne-eqb kind 7 b, ne-eqb kind 8 c, ne-eqb kind 13 d) refl)
+    pub sequence-other : (kind ≢ 6) → (kind ≢ 7) → (kind ≢ 8) → (kind ≢ 13) → SequenceDone crew line kind place t t
+    sequence-other a b c d = same-state (record-here crew line kind place here ∙ rw (ne-eqb kind 6 a, ne-eqb kind 7 b, ne-eqb kind 8 c, ne-eqb kind 13 d) refl)
 
 -- a sequence keeps the position
 pub sequence-position : (P : Profile) (a b : ℕ) (t : State) (place : ℕ) (q : Sequence) → renderSequence P a b t place q .position ≡ t .position

@@ -100,11 +100,11 @@ module _ (d : Rendering) (buffer l : List ℕ) (t : Stepped) (r : Record) (ready
   span-marks s l′ t′ e k h = record { wrote = rw (k, ← e) (h .wrote); near = omega (arith, h .near, part-length s e) }
 
   pub span-sequence : (u : AttributeState) → (eqb (r .kind) 1 || eqb (r .kind) 2) ≡ false → (eqb (r .kind) 3 || (eqb (r .kind) 4 || eqb (r .kind) 10)) ≡ false → (r .kind ≢ 5)
-      → SequenceDone line (r .kind) (r .place .0) (t .state) u → SpanDrawn d buffer l t r l (record { state = u; at = t .at })
+      → SequenceDone (d .crew) line (r .kind) (r .place .0) (t .state) u → SpanDrawn d buffer l t r l (record { state = u; at = t .at })
   unfolding renderRecord stateOf
   span-sequence u p q k h =
       let e = h .state (profileOf (d .window .profile)) (d .window .start .0) (d .window .end .0) in
       record {
         wrote = rw (p, q, ne-eqb (r .kind) 5 k) (wrote-none l (t .at) (t .state) u _ e (h .torn));
-        near = omega (arith, ap (λ (x : State). x .position) e, sequence-position (profileOf (d .window .profile)) (d .window .start .0) (d .window .end .0) (stateOf (t .state)) (r .place .0) (recordSequence line (r .kind) (r .place .0)));
+        near = omega (arith, ap (λ (x : State). x .position) e, sequence-position (profileOf (d .window .profile)) (d .window .start .0) (d .window .end .0) (stateOf (t .state)) (r .place .0) (recordSequence (d .crew) line (r .kind) (r .place .0)));
       }

@@ -1,9 +1,9 @@
 -- render_wrapped: the bounds of the wanted rows, and what is drawn within them.
-use mathlib.Core.Path.{_≡_, refl, sym, ap, _∙_}
-use Prim.Native.Nat.{ℕ, zero, suc, _+_, _-_, _≤_, _<_}
+use mathlib.Core.Path.{_≡_, refl, sym, ap, ap₂, _∙_}
+use Prim.Native.Nat.{ℕ, zero, suc, _+_, _-_, _*_, _≤_, _<_}
 use native.Mathlib.Omega.{arith}
 use mathlib.Core.Bool.{Bool, true, false, cond, not, _||_, and-true}
-use mathlib.Core.List.{List, [], _++_}
+use mathlib.Core.List.{List, [], _++_, map}
 use lib.ListN.{length, take}
 use lib.Dec.{ltb}
 use borrow.Author.Tests.{lt-ltb}
@@ -28,6 +28,7 @@ use Rattle.rows.specs.Calls.Reading.{line-room}
 use Rattle.drawing.specs.Change.{Change, encode}
 use Rattle.drawing.specs.Change as change
 use Rattle.drawing.specs.Draw.{State, Sent, renderSpans, initial, leftArrow, rightArrow, closeWindow, render, endOf, startOf, closeRows, renderWrapped}
+use Rattle.drawing.specs.Reader.HiddenUris.{hidden, seen-append, arrow-seen, window-seen, rows-seen}
 use Rattle.drawing.specs.State.{stateOf, newState}
 use Rattle.drawing.specs.Attributes.Code.{styleOf}
 use Rattle.drawing.specs.Rendering.{currentOf, opening, closing, Opened, RenderRoom, Rendered, renderRecords}
@@ -64,18 +65,26 @@ new-is = refl
 
 -- a request's changes are what stands before the spans, and the spans with what stands behind them
 abbrev Changes : Request → Rendering → List Span → Type 0
-Changes q d ss = changesOf q ss ≡ opening d ++ renderSpans (profileOf (d .window .profile)) (d .window .start .0) (d .window .end .0) (currentOf (d .current)) (closing d) initial ss
+Changes q d ss = changesOf q ss ≡ opening d ++ renderSpans (profileOf (d .window .profile)) (d .window .start .0) (d .window .end .0) (currentOf (d .current)) (closing d) initial (map (hidden (d .crew)) ss)
 
 window-changes : (q : Request) (len : ℕ) (ss : List Span) → q .wrapped ≡ false → (n : ℕ) → q .start ≡ n → Changes q (windowRendering q len) ss
 unfolding changesOf render windowRendering
-window-changes q len ss e zero h = rw (e, h, profile-is) refl
-window-changes q len ss e (suc n) h = let z : suc n + 1 ≡ suc (suc n) = omega arith in rw (e, h, lt-ltb 0 (suc n) (omega arith), z, profile-is) refl
+window-changes q len ss e zero h = rw (e, h, profile-is) (window-seen (q .reader) profile01 0 (q .end) (currentOf (q .current)) ss (q .end))
+window-changes q len ss e (suc n) h =
+    let z : suc n + 1 ≡ suc (suc n) = omega arith in
+    rw (e, h, lt-ltb 0 (suc n) (omega arith), z, profile-is)
+    (seen-append (q .reader) leftArrow (renderSpans profile01 (suc (suc n)) (q .end) (currentOf (q .current)) (closeWindow (q .end)) initial ss)
+    ∙ ap₂ (λ (x y : List Change). x ++ y) (arrow-seen (q .reader)) (window-seen (q .reader) profile01 (suc (suc n)) (q .end) (currentOf (q .current)) ss (q .end)))
 
 rows-changes : (q : Request) (y : RowCounts) (len : ℕ) (ss : List Span) → q .wrapped ≡ true
     → boundsOf y .end .0 ≡ endOf 0 (q .first + q .count - 1) (rows profile01 (q .width) (modeOf (q .mode)) ss)
     → boundsOf y .start .0 ≡ startOf (boundsOf y .end .0) (q .first) (rows profile01 (q .width) (modeOf (q .mode)) ss) → Changes q (rowsRendering q y len) ss
 unfolding changesOf renderWrapped rowsRendering
-rows-changes q y len ss e f g = rw (e, g, f, profile-is) refl
+rows-changes q y len ss e f g =
+    let rs : List Row = rows profile01 (q .width) (modeOf (q .mode)) ss in
+    let end : ℕ = endOf 0 (q .first + q .count - 1) rs in
+    let start : ℕ = startOf end (q .first) rs in
+    rw (e, g, f, profile-is) (rows-seen (q .reader) profile01 start end (currentOf (q .current)) ss (ltb (end - start) (q .width * q .count)))
 
 -- ---- what the walk asks of its calls
 

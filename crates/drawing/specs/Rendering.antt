@@ -21,6 +21,7 @@ use Rattle.drawing.specs.Attributes.{linked}
 use Rattle.drawing.specs.Change.{Change, clearToEnd, encode}
 use Rattle.drawing.specs.Change as change
 use Rattle.drawing.specs.Draw.{State, Sent, sent, writeTruncated, writeMarks, renderSequence, leftArrow, rightArrow, closeWindow, closeRows}
+use Rattle.drawing.specs.Reader.HiddenUris.{uriLength}
 use Rattle.drawing.specs.Attributes.Code.{styleOf}
 use Rattle.drawing.specs.State.{stateOf, Wrote, newState}
 use Rattle.drawing.specs.LineDrawing.{shownText}
@@ -48,14 +49,14 @@ pub record Linkable (place : ℕ) (q : sequence.Sequence) : Type 0 where
   pub near : place ≤ 32768
   pub from : (p n k : ℕ) → q ≡ sequences.Hyperlink p n k → p ≤ 65536
 
-unfoldable pub linkedBy : AttributeState → ℕ → sequence.Sequence → AttributeState
-linkedBy t place (sequences.Hyperlink p n k) =
-    record { attrs = linked (t .attrs) (place + p) n; drawing = t .drawing; changed = true; style = t .style; fill = t .fill; torn = t .torn; position = t .position }
-linkedBy t place sequences.Missing = t
-linkedBy t place (sequences.Sgr n) = t
-linkedBy t place (sequences.EraseToEnd n) = t
-linkedBy t place (sequences.Ignored n) = t
-linkedBy t place (sequences.LineDrawing b n) = t
+unfoldable pub linkedBy : (crew : Bool) → AttributeState → ℕ → sequence.Sequence → AttributeState
+linkedBy crew t place (sequences.Hyperlink p n k) =
+    record { attrs = linked (t .attrs) (place + p) (uriLength crew n); drawing = t .drawing; changed = true; style = t .style; fill = t .fill; torn = t .torn; position = t .position }
+linkedBy crew t place sequences.Missing = t
+linkedBy crew t place (sequences.Sgr n) = t
+linkedBy crew t place (sequences.EraseToEnd n) = t
+linkedBy crew t place (sequences.Ignored n) = t
+linkedBy crew t place (sequences.LineDrawing b n) = t
 
 abbrev pub withLineDrawing : AttributeState → Bool → AttributeState
 withLineDrawing t b =
@@ -65,27 +66,27 @@ abbrev pub erasedToEnd : AttributeState → AttributeState
 erasedToEnd t =
     record { attrs = t .attrs; drawing = t .drawing; changed = t .changed; style = t .style; fill = t .attrs .colors .background; torn = t .torn; position = t .position }
 
--- the sequence that a record of a kind at a place of the line stands for
-unfoldable pub linkIn : Found → Sequence
-linkIn missing = ignored
-linkIn (found (hyperlink a n) k) = hyperlink a n
-linkIn (found (sgr os) k) = ignored
-linkIn (found eraseToEnd k) = ignored
-linkIn (found ignored k) = ignored
-linkIn (found (lineDrawing b) k) = ignored
+-- the sequence that a record of a kind at a place of the line stands for, as the crew or the bench is shown it
+unfoldable pub linkIn : (crew : Bool) → Found → Sequence
+linkIn crew missing = ignored
+linkIn crew (found (hyperlink a n) k) = hyperlink a (uriLength crew n)
+linkIn crew (found (sgr os) k) = ignored
+linkIn crew (found eraseToEnd k) = ignored
+linkIn crew (found ignored k) = ignored
+linkIn crew (found (lineDrawing b) k) = ignored
 
-unfoldable pub recordSequence : List ℕ → (kind place : ℕ) → Sequence
+unfoldable pub recordSequence : (crew : Bool) → List ℕ → (kind place : ℕ) → Sequence
 unfolding linkIn parse ordersAt
-recordSequence line kind place =
+recordSequence crew line kind place =
     cond (leb (length line) place) ignored
     (cond (eqb kind 6) (sgr (ordersAt line (record { at = place + 2; further = true })))
-    (cond (eqb kind 7) (linkIn (parse (drop (place + 1) line)))
+    (cond (eqb kind 7) (linkIn crew (parse (drop (place + 1) line)))
     (cond (eqb kind 8) (lineDrawing (eqb (getD line (place + 2) 0) 0x30))
     (cond (eqb kind 13) eraseToEnd ignored))))
 
 -- the state after it
-pub record SequenceDone (line : List ℕ) (kind place : ℕ) (t r : AttributeState) : Type 0 where
-  pub state : (P : Profile) (start end : ℕ) → stateOf r ≡ renderSequence P start end (stateOf t) place (recordSequence line kind place)
+pub record SequenceDone (crew : Bool) (line : List ℕ) (kind place : ℕ) (t r : AttributeState) : Type 0 where
+  pub state : (P : Profile) (start end : ℕ) → stateOf r ≡ renderSequence P start end (stateOf t) place (recordSequence crew line kind place)
   pub torn : r .torn ≡ t .torn
 
 -- the line that a buffer holds, and room for the columns of a span
@@ -106,7 +107,7 @@ module _ (d : Rendering) (line : List ℕ) where
       cond (eqb (r .kind) 1 || eqb (r .kind) 2) (writeTruncated P start end t (styleOf (recordStyle (r .kind) (d .current) (r .matched))) (shownText (t .lineDrawing) part))
       (cond (eqb (r .kind) 3 || (eqb (r .kind) 4 || eqb (r .kind) 10)) (writeTruncated P start end t (styleOf (composedStyle (r .kind))) (composedText (r .kind) (getD line (r .place .0) 0) (t .position)))
       (cond (eqb (r .kind) 5) (writeMarks P start end t part)
-      (sent [] (renderSequence P start end t (r .place .0) (recordSequence line (r .kind) (r .place .0))))))
+      (sent [] (renderSequence P start end t (r .place .0) (recordSequence (d .crew) line (r .kind) (r .place .0))))))
 
   unfoldable pub renderRecords : State → List Record → Sent
   unfolding renderRecord

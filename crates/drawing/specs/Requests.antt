@@ -18,6 +18,7 @@ use Rattle.rows.specs.declared.wrap.Wrapping.{Wrapping}
 use Rattle.drawing.specs.Change.{Change, encode}
 use Rattle.drawing.specs.Change as change
 use Rattle.drawing.specs.Draw.{render, renderWrapped}
+use Rattle.drawing.specs.Reader.{seenBy}
 use Rattle.drawing.specs.Calls as calls
 use Rattle.drawing.specs.Calls.{windowCall, rowCall}
 use Rattle.drawing.specs.Rendering.{largest, currentOf}
@@ -27,11 +28,11 @@ use Rattle.drawing.specs.declared.state.Drawn.{Drawn}
 use Rattle.drawing.specs.declared.write.Window.{Window}
 use Rattle.drawing.specs.declared.render.Rendering.{Rendering}
 
-abbrev pub windowRequest : (start end current : ℕ) → Request
-windowRequest start end current = record { wrapped = false; start = start; end = end; first = 0; count = 1; width = 0; mode = 0; current = current }
+abbrev pub windowRequest : (reader start end current : ℕ) → Request
+windowRequest reader start end current = record { reader = reader; wrapped = false; start = start; end = end; first = 0; count = 1; width = 0; mode = 0; current = current }
 
-abbrev pub rowRequest : (first count width mode current : ℕ) → Request
-rowRequest first count width mode current = record { wrapped = true; start = 0; end = 0; first = first; count = count; width = width; mode = mode; current = current }
+abbrev pub rowRequest : (reader first count width mode current : ℕ) → Request
+rowRequest reader first count width mode current = record { reader = reader; wrapped = true; start = 0; end = 0; first = first; count = count; width = width; mode = mode; current = current }
 
 -- questions 5 and 7, as the definitions of the calls put them
 unfoldable pub askedOf : Request → ℕ
@@ -51,7 +52,7 @@ pub record InLimits (q : Request) : Type 0 where
 -- the request where it passes these questions, else an empty window
 unfoldable pub drawableOf : Request → Request
 unfolding askedOf
-drawableOf q = cond (eqb (askedOf q) 0) (cond (q .wrapped) (rowRequest (q .first) (q .count) (q .width) (q .mode) (q .current)) (windowRequest (q .start) (q .end) (q .current))) (windowRequest 0 0 0)
+drawableOf q = cond (eqb (askedOf q) 0) (cond (q .wrapped) (rowRequest (q .reader) (q .first) (q .count) (q .width) (q .mode) (q .current)) (windowRequest (q .reader) (q .start) (q .end) (q .current))) (windowRequest 0 0 0 0)
 
 abbrev pub wrappingOf : Request → ℕ → Wrapping
 wrappingOf q conv = record { profile = record { version = 0 }; width = record { 0 = q .width }; mode = q .mode; len = lineRoom conv }
@@ -72,6 +73,7 @@ windowRendering q len =
       arrow = ltb 0 (q .start);
       wrapped = false;
       room = false;
+      crew = eqb (q .reader) 1;
     }
 
 unfoldable pub rowsRendering : Request → RowCounts → ℕ → Rendering
@@ -83,6 +85,7 @@ rowsRendering q y len =
       arrow = false;
       wrapped = true;
       room = ltb (boundsOf y .end .0 - boundsOf y .start .0) (q .width * q .count);
+      crew = eqb (q .reader) 1;
     }
 
 unfoldable pub renderingOf : Request → RowCounts → ℕ → Rendering
@@ -103,20 +106,20 @@ pub record RenderWrappedRoom (spans : List Record) (buffer : List ℕ) (q : Requ
   pub limits : InLimits q
   pub held : records (firstSpans spans buffer n) ≡ take n spans
 
--- the changes of a request, by the definitions
+-- the changes that the reader of a request is sent, by the definitions
 unfoldable pub changesOf : Request → List Span → List Change
-unfolding render renderWrapped modeOf
+unfolding render renderWrapped modeOf seenBy
 changesOf q ss =
-    cond (q .wrapped) (renderWrapped profile01 (q .first) (q .count) (q .width) (modeOf (q .mode)) (currentOf (q .current)) ss) (render profile01 (q .start) (q .end) (currentOf (q .current)) ss)
+    seenBy (q .reader) (cond (q .wrapped) (renderWrapped profile01 (q .first) (q .count) (q .width) (modeOf (q .mode)) (currentOf (q .current)) ss) (render profile01 (q .start) (q .end) (currentOf (q .current)) ss))
 
 -- the bytes of changes from the front of a list on, and whether a text is torn
 pub record Drew (cs : List Change) (l l′ : List ℕ) (r : Drawn) : Type 0 where
   pub bytes : sink l′ (r .at) ≡ emit (sink l 0) (encode cs)
   pub torn : r .torn ≡ not (change.whole cs)
 
--- the number: what `read` decides, or else questions 5 and 7, 8 and 9
-unfoldable pub decided : (asked read : ℕ) → Drawn → (room : ℕ) → ℕ
-decided asked read d room = cond (ltb 0 read) read (cond (ltb 0 asked) asked (cond (d .torn) 8 (cond (ltb room (d .at)) 9 0)))
+-- the number: question 18, what `read` decides, or else questions 5 and 7, 8 and 9
+unfoldable pub decided : (reader asked read : ℕ) → Drawn → (room : ℕ) → ℕ
+decided reader asked read d room = cond (ltb 1 reader) 18 (cond (ltb 0 read) read (cond (ltb 0 asked) asked (cond (d .torn) 8 (cond (ltb room (d .at)) 9 0))))
 
 -- an accepted call keeps all, and the bytes of the changes; a refused one nothing
 unfoldable pub outcomeOf : (number bytes : ℕ) → Outcome
@@ -130,5 +133,5 @@ drawnAs a conv spans list = record { number = a .number; count = a .count; conv 
 
 -- what a call leaves that was lent so many bytes, records and bytes of changes
 pub record Called (q : Request) (size places room : ℕ) (matches line : List ℕ) (a : Answer) (conv : List ℕ) (spans : List Record) (list : List ℕ) : Type 0 where
-  pub window : q .wrapped ≡ false → drawnAs a conv spans list ≡ windowCall profile01 size places room (q .start) (q .end) (currentOf (q .current)) matches line
-  pub rows : q .wrapped ≡ true → drawnAs a conv spans list ≡ rowCall profile01 size places room (q .first) (q .count) (q .width) (q .mode) (currentOf (q .current)) matches line
+  pub window : q .wrapped ≡ false → drawnAs a conv spans list ≡ windowCall profile01 (q .reader) size places room (q .start) (q .end) (currentOf (q .current)) matches line
+  pub rows : q .wrapped ≡ true → drawnAs a conv spans list ≡ rowCall profile01 (q .reader) size places room (q .first) (q .count) (q .width) (q .mode) (currentOf (q .current)) matches line

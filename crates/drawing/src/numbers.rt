@@ -11,6 +11,7 @@ ghost use Rattle.drawing.specs.Rendering.{currentOf};
 ghost use Rattle.drawing.specs.Numbers.{DrawnNumbers};
 
 pub fn draw_window_numbers(
+    reader: usize,
     line: &[u8],
     matches: &[usize],
     current: usize,
@@ -20,11 +21,12 @@ pub fn draw_window_numbers(
     numbers: &mut [usize],
     list: &mut [u8],
 ) -> Answer
-    ensures { λ r. ⌜ DrawnNumbers (windowCall profile01 (length (now (conv .entry))) (placesIn (length (now (numbers .entry)))) (length (now (list .entry))) start end (currentOf current) (now (matches .entry)) (now (line .entry))) (length (now (numbers .entry))) r (now (conv .exit)) (now (numbers .exit)) (now (list .exit)) ⌝ }
+    ensures { λ r. ⌜ DrawnNumbers (windowCall profile01 reader (length (now (conv .entry))) (placesIn (length (now (numbers .entry)))) (length (now (list .entry))) start end (currentOf current) (now (matches .entry)) (now (line .entry))) (length (now (numbers .entry))) r (now (conv .exit)) (now (numbers .exit)) (now (list .exit)) ⌝ }
 {
     let mut spans = no_spans();
     let n = places_in(numbers.len());
     let a = super::draw_window(
+        reader,
         line,
         matches,
         current,
@@ -39,6 +41,7 @@ pub fn draw_window_numbers(
 }
 
 pub fn draw_row_numbers(
+    reader: usize,
     line: &[u8],
     matches: &[usize],
     current: usize,
@@ -50,11 +53,12 @@ pub fn draw_row_numbers(
     numbers: &mut [usize],
     list: &mut [u8],
 ) -> Answer
-    ensures { λ r. ⌜ DrawnNumbers (rowCall profile01 (length (now (conv .entry))) (placesIn (length (now (numbers .entry)))) (length (now (list .entry))) first count width mode (currentOf current) (now (matches .entry)) (now (line .entry))) (length (now (numbers .entry))) r (now (conv .exit)) (now (numbers .exit)) (now (list .exit)) ⌝ }
+    ensures { λ r. ⌜ DrawnNumbers (rowCall profile01 reader (length (now (conv .entry))) (placesIn (length (now (numbers .entry)))) (length (now (list .entry))) first count width mode (currentOf current) (now (matches .entry)) (now (line .entry))) (length (now (numbers .entry))) r (now (conv .exit)) (now (numbers .exit)) (now (list .exit)) ⌝ }
 {
     let mut spans = no_spans();
     let n = places_in(numbers.len());
     let a = super::draw_row(
+        reader,
         line,
         matches,
         current,

@@ -28,11 +28,12 @@ ghost use Prim.Native.Nat.{_+_, _≤_, _<_};
 ghost use lib.ListN.{length, take};
 ghost use Rattle.buffer.specs.Sink.{sink, emit};
 ghost use Rattle.drawing.specs.Change.{encode};
+ghost use Rattle.drawing.specs.Reader.HiddenUris.{uriLength};
 ghost use Rattle.drawing.specs.State.{stateOf};
 ghost use Rattle.drawing.specs.Rendering.{recordStyle, Linkable, linkedBy, withLineDrawing, erasedToEnd, SequenceDone, SpanReady, SpanDrawn, Opened, closingWindow, closingRows, closingEdge, Closed, RenderRoom, Rendered};
 
 // What is drawn: the window, the current match, the length of the line in the buffer that holds it; whether an arrow stands at the left
-// edge, whether the window is that of wrapped rows, and whether the line leaves room in them.
+// edge, whether the window is that of wrapped rows, whether the line leaves room in them, and whether the crew reads it.
 pub struct Rendering {
     pub window: Window,
     pub current: usize,
@@ -40,6 +41,7 @@ pub struct Rendering {
     pub arrow: bool,
     pub wrapped: bool,
     pub room: bool,
+    pub crew: bool,
 }
 
 // The style of a Text, a Match and the current match.
@@ -55,10 +57,22 @@ fn text_style(kind: usize, current: usize, matched: usize) -> Style
     Style::Match
 }
 
+// The length of a URI; to the crew there is none.
+fn uri_length(len: usize, crew: bool) -> usize
+    ensures { λ r. ⌜ r ≡ uriLength crew len ⌝ }
+{
+    if crew { 0 } else { len }
+}
+
 // AttributeState::apply_hyperlink, of the sequence at a place.
-fn apply_hyperlink(state: AttributeState, place: BytePlace, sequence: Sequence) -> AttributeState
+fn apply_hyperlink(
+    state: AttributeState,
+    place: BytePlace,
+    sequence: Sequence,
+    crew: bool,
+) -> AttributeState
     requires { ⌜ Linkable (place .0) sequence ⌝ }
-    ensures { λ r. ⌜ r ≡ linkedBy state (place .0) sequence ⌝ }
+    ensures { λ r. ⌜ r ≡ linkedBy crew state (place .0) sequence ⌝ }
 {
     let attrs = state.attrs;
     let own = state.style;
@@ -66,7 +80,7 @@ fn apply_hyperlink(state: AttributeState, place: BytePlace, sequence: Sequence) 
     let position = state.position;
     match sequence {
         Sequence::Hyperlink(from, len, n) => AttributeState {
-            attrs: linked(attrs, BytePlace(place.0 + from), len),
+            attrs: linked(attrs, BytePlace(place.0 + from), uri_length(len, crew)),
             drawing: state.drawing,
             changed: true,
             style: own,
@@ -125,9 +139,10 @@ fn render_sequence(
     kind: usize,
     place: BytePlace,
     state: AttributeState,
+    crew: bool,
 ) -> AttributeState
     requires { ⌜ length (now line) ≤ 32768 ⌝ }
-    ensures { λ r. ⌜ SequenceDone (now (line .entry)) kind (place .0) state r ⌝ }
+    ensures { λ r. ⌜ SequenceDone crew (now (line .entry)) kind (place .0) state r ⌝ }
 {
     let at = place.0;
     if line.len() <= at {
@@ -142,7 +157,7 @@ fn render_sequence(
                 further: true,
             },
         ),
-        7 => apply_hyperlink(state, place, sequence_at(line, at, line.len())),
+        7 => apply_hyperlink(state, place, sequence_at(line, at, line.len()), crew),
         8 => with_line_drawing(state, byte_at(line, at + 2) == b'0'),
         13 => erase_to_end(state),
         _ => state,
@@ -179,7 +194,7 @@ fn render_span(
         let text = text_of(own, place, span.len);
         return write_marks(list, at, text, window, state);
     }
-    let next = render_sequence(own, kind, place, state);
+    let next = render_sequence(own, kind, place, state, rendering.crew);
     Stepped {
         state: next,
         at: at,

@@ -14,6 +14,7 @@ use Rattle.spans.specs.Search as search
 use Rattle.rows.specs.Calls.{modeOf}
 use Rattle.drawing.specs.Change.{Change}
 use Rattle.drawing.specs.Draw.{render, renderWrapped}
+use Rattle.drawing.specs.Reader.{seenBy}
 
 -- a call: the sizes of the memory lent to it and its other arguments, all but the line
 pub data Call : Type 0 where
@@ -21,8 +22,8 @@ pub data Call : Type 0 where
   read : (conv places : ℕ) (matches : List ℕ) → Call
   rows : (conv places numbers width mode : ℕ) → Call
   height : (conv places width mode : ℕ) → Call
-  drawWindow : (conv places room start end : ℕ) (current : Option ℕ) (matches : List ℕ) → Call
-  drawRow : (conv places room first count width mode : ℕ) (current : Option ℕ) (matches : List ℕ) → Call
+  drawWindow : (reader conv places room start end : ℕ) (current : Option ℕ) (matches : List ℕ) → Call
+  drawRow : (reader conv places room first count width mode : ℕ) (current : Option ℕ) (matches : List ℕ) → Call
 
 -- what a call returns, and leaves in the memory lent to it
 pub record Outcome : Type 0 where
@@ -50,8 +51,8 @@ module _ (P : Profile) where
   answer (rows conv places numbers width mode) line =
       let a : Wrapped = rowsCall P conv places numbers width mode line in outcome (a .number) (a .count) (a .conv) (a .spans) (a .rows) []
   answer (height conv places width mode) line = fromRead (heightCall P conv places width mode line)
-  answer (drawWindow conv places room start end current ms) line = fromDrawn (windowCall P conv places room start end current ms line)
-  answer (drawRow conv places room first count width mode current ms) line = fromDrawn (rowCall P conv places room first count width mode current ms line)
+  answer (drawWindow reader conv places room start end current ms) line = fromDrawn (windowCall P reader conv places room start end current ms line)
+  answer (drawRow reader conv places room first count width mode current ms) line = fromDrawn (rowCall P reader conv places room first count width mode current ms line)
 
 -- without search matches
 unfoldable pub noMatches : List ℕ → Bool
@@ -64,8 +65,8 @@ withoutMatches (convert conv) = true
 withoutMatches (read conv places ms) = noMatches ms
 withoutMatches (rows conv places numbers width mode) = true
 withoutMatches (height conv places width mode) = true
-withoutMatches (drawWindow conv places room start end current ms) = noMatches ms
-withoutMatches (drawRow conv places room first count width mode current ms) = noMatches ms
+withoutMatches (drawWindow reader conv places room start end current ms) = noMatches ms
+withoutMatches (drawRow reader conv places room first count width mode current ms) = noMatches ms
 
 -- the places of the span list; conversion is lent none
 unfoldable pub placesOf : Call → Option ℕ
@@ -73,8 +74,8 @@ placesOf (convert conv) = none
 placesOf (read conv places ms) = some places
 placesOf (rows conv places numbers width mode) = some places
 placesOf (height conv places width mode) = some places
-placesOf (drawWindow conv places room start end current ms) = some places
-placesOf (drawRow conv places room first count width mode current ms) = some places
+placesOf (drawWindow reader conv places room start end current ms) = some places
+placesOf (drawRow reader conv places room first count width mode current ms) = some places
 
 -- the bytes of the change list; only drawings are lent one
 unfoldable pub roomOf : Call → ℕ
@@ -82,16 +83,16 @@ roomOf (convert conv) = 0
 roomOf (read conv places ms) = 0
 roomOf (rows conv places numbers width mode) = 0
 roomOf (height conv places width mode) = 0
-roomOf (drawWindow conv places room start end current ms) = room
-roomOf (drawRow conv places room first count width mode current ms) = room
+roomOf (drawWindow reader conv places room start end current ms) = room
+roomOf (drawRow reader conv places room first count width mode current ms) = room
 
--- the changes of a drawing; other calls make none
+-- the changes that a drawing's reader is sent; other calls make none
 unfoldable pub changesOf : Profile → Call → List ℕ → List Change
-unfolding overstrike.convert search.read render renderWrapped modeOf
+unfolding overstrike.convert search.read render renderWrapped modeOf seenBy
 changesOf P (convert conv) line = []
 changesOf P (read conv places ms) line = []
 changesOf P (rows conv places numbers width mode) line = []
 changesOf P (height conv places width mode) line = []
-changesOf P (drawWindow conv places room start end current ms) line = render P start end current (search.read P ms (overstrike.convert P line))
-changesOf P (drawRow conv places room first count width mode current ms) line =
-    renderWrapped P first count width (modeOf mode) current (search.read P ms (overstrike.convert P line))
+changesOf P (drawWindow reader conv places room start end current ms) line = seenBy reader (render P start end current (search.read P ms (overstrike.convert P line)))
+changesOf P (drawRow reader conv places room first count width mode current ms) line =
+    seenBy reader (renderWrapped P first count width (modeOf mode) current (search.read P ms (overstrike.convert P line)))

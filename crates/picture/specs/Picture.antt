@@ -22,7 +22,7 @@ use Rattle.drawing.specs.Attributes.{plain}
 use Rattle.drawing.specs.Change as change
 use Rattle.drawing.specs.Change.{Change, torn, allAttributes, clearToEnd, cursorRight}
 use Rattle.drawing.specs.Draw.{renderWrapped}
-use Rattle.picture.specs.Columns.{lastColumn, EndToEnd}
+use Rattle.columns.specs.Columns.{lastColumn, EndToEnd}
 use Rattle.picture.specs.Conditions.{PlainComposed, WordBreakClasses, UnsharedLine, Drawable, SingleMarks}
 pub mod Window
 pub mod Clipping

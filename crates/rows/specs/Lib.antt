@@ -4,3 +4,5 @@ pub mod Rows
 pub mod Calls
 pub mod Wrap
 pub mod Numbers
+pub mod Narrowest
+pub mod Widths

@@ -14,7 +14,7 @@ use Rattle.spans.specs.Spans.{Record}
 use Rattle.spans.specs.Spans.ContentLaw.{textIn}
 use Rattle.rows.specs.Marks.{drawnColumns}
 use Rattle.rows.specs.Words.{Word, words}
-use Rattle.rows.specs.Rows.{Row, row, Wrap, wrap, unbroken, byClusters, longWord, oneWord, byWords, splitText, tabbed}
+use Rattle.rows.specs.Rows.{Row, row, Wrap, wrap, unbroken, byClusters, longWord, oneWord, byWords, splitText, tabbed, lastRow}
 use Rattle.rows.specs.declared.wrap.RowCounts.{RowCounts}
 use Rattle.rows.specs.declared.wrap.WrapState.{WrapState}
 use Rattle.rows.specs.Words.Contracts.{WordAt}
@@ -160,6 +160,13 @@ module _ (P : Profile) (width : ℕ) where
   unfolding spanOf
   spansOf mode line [] t = t
   spansOf mode line (r ∷ rs) t = spansOf mode line rs (spanOf mode line r t)
+
+  -- the rows that they push, the last one first
+  unfoldable pub rowsOf : ℕ → List ℕ → List Record → List Row
+  unfolding spansOf lastRow
+  rowsOf mode line rs =
+      let t : Wrap = spansOf mode line rs (wrap [] 0 0) in
+      cond (eqb mode 0) (row 0 0xFFFF_FFFF_FFFF_FFFF ∷ []) (lastRow (t .start) (t .position) (t .rows))
 
 -- the last row, unless it is empty and not the only one
 unfoldable pub lastRowList : ℕ → WrapRows → RowList

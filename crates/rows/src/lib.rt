@@ -1,4 +1,4 @@
-// Layer 3, rows: words and wrapping; the calls `rows` and `height`.
+// Layer 3, rows: words and wrapping; the calls `rows`, `height` and `narrowest`.
 use buffer::clear_bytes;
 use buffer::clear_numbers;
 use buffer::smaller;
@@ -7,6 +7,8 @@ use spans::clear_spans;
 use text::Answer;
 use text::Column;
 use text::class::Profile;
+use widths::first_width;
+use widths::plan;
 use wrap::RowCounts;
 use wrap::Wrapping;
 use wrap::begin;
@@ -18,11 +20,14 @@ ghost use Rattle.text.specs.Width.{profile01};
 ghost use Rattle.spans.specs.Calls.{noRecord};
 ghost use Rattle.spans.specs.Calls.Contracts.{readAs};
 ghost use Rattle.rows.specs.Calls.{modeAndWidth, rowsCall, heightCall};
+ghost use Rattle.rows.specs.Narrowest.{narrowestCall};
+ghost use Rattle.rows.specs.Widths.{narrowedAs};
 ghost use Rattle.buffer.specs.Sink.{cleared};
 ghost use Rattle.rows.specs.Calls.Contracts.{wrappingOf, spansWrapped, rowCount, numbersKept, decided, outcomeOf, answerOf, wrappedAs, answered};
 
 pub mod marks;
 pub mod numbers;
+pub mod widths;
 pub mod words;
 pub mod wrap;
 
@@ -41,6 +46,15 @@ pub struct Outcome {
     pub count: usize,
     pub kept: usize,
     pub numbers: usize,
+}
+
+// What `narrowest` returns: 0, the width found or 0 for none, and how many widths were tried; or the number of the question that refuses it,
+// 0 and 0.
+#[repr(C)]
+pub struct WidthAnswer {
+    pub number: usize,
+    pub count: usize,
+    pub tried: usize,
 }
 
 // An empty list of matches: rows and height read without any.
@@ -224,4 +238,28 @@ pub fn height(line: &[u8], width: usize, mode: usize, conv: &mut [u8], spans: &m
             known: 0,
         },
     )
+}
+
+// The call `narrowest`: the line is read once, and its spans are wrapped at one width after the other.
+pub fn narrowest(
+    line: &[u8],
+    mode: usize,
+    wanted: usize,
+    greatest: usize,
+    conv: &mut [u8],
+    spans: &mut [Span],
+) -> WidthAnswer
+    ensures { λ r. ⌜ narrowedAs r (now (conv .exit)) (now (spans .exit)) ≡ narrowestCall profile01 (length (now (conv .entry))) (length (now (spans .entry))) mode wanted greatest (now (line .entry)) ⌝ }
+{
+    let none: [usize; 0] = [];
+    let read = spans::read(line, &none, conv, spans);
+    let plan = plan(read.number, mode, wanted, greatest, conv.len());
+    let widths = first_width(spans, conv, plan.request, read.count);
+    clear_bytes(conv, plan.kept);
+    clear_spans(spans, plan.kept);
+    WidthAnswer {
+        number: plan.number,
+        count: widths.found,
+        tried: widths.tried,
+    }
 }

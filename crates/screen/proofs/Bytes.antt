@@ -12,7 +12,8 @@ use Rattle.text.specs.Tests.{cases}
 use Rattle.buffer.specs.Numbers.{smallerOf, le4}
 use Rattle.buffer.specs.Sink.{Sink, sink, emit}
 use Rattle.buffer.specs.Sink.Laws.{emit-append, emit-none}
-use Rattle.screen.specs.Row.{Cell, bodySize, plain, withBackground, blank, cell, rowBytes}
+use Rattle.screen.specs.WellFormed.{bodySize}
+use Rattle.screen.specs.Row.{Cell, plain, withBackground, blank, cell, rowBytes}
 use Rattle.screen.specs.Row.Contracts.{part, bodyAt, blankAt, cellOf, cellIn, cellsIn, CellReady}
 use Rattle.screen.specs.Row.Contracts.Laws.{cell-at, cells-enough}
 use Rattle.screen.specs.Screen.{rowOf}

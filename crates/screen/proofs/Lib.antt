@@ -10,4 +10,7 @@ pub mod Texts
 pub mod Changes
 pub mod Drawing
 pub mod Bytes
+pub mod Storing
+pub mod Answers
 pub mod RowCall
+pub mod StoreCalls

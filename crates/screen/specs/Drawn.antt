@@ -24,6 +24,7 @@ pub mod Spans
 pub mod WellFormed
 pub mod Cursor
 pub mod Columns
+pub mod Readers
 
 -- what is asked of a profile: ASCII as document 01 has it, symbols of class other and one column, two columns a byte at most
 pub record ProfileLaws (P : Profile) : Type 0 where

@@ -1,9 +1,11 @@
 -- A change list's bytes as records: a little-endian length of the body, a 2-byte kind, the body.
 use Prim.Native.Nat.{ℕ, zero, suc, _+_, _*_}
-use mathlib.Core.Bool.{Bool}
-use mathlib.Core.List.{List, [], _∷_}
+use mathlib.Core.Bool.{Bool, cond}
+use mathlib.Core.List.{List, [], _∷_, _++_}
 use lib.ListN.{length, take, drop}
-use lib.Dec.{leb}
+use lib.Dec.{leb, eqb}
+use Rattle.buffer.specs.Numbers.{le2, le4}
+pub mod Lengths
 pub mod Laws
 pub mod Contracts
 
@@ -37,3 +39,18 @@ recordsFrom n (suc k) (b ∷ s) = recordsFrom n k s
 unfoldable pub records : ℕ → List ℕ → List Record
 unfolding recordsFrom
 records n s = recordsFrom n zero s
+
+-- ---- records in bytes
+
+-- a length in n bytes
+abbrev pub lengthBytes : ℕ → ℕ → List ℕ
+lengthBytes n size = cond (eqb n 2) (le2 size) (le4 size)
+
+unfoldable pub encodeOne : ℕ → Record → List ℕ
+unfolding le2 le4
+encodeOne n r = lengthBytes n (length (r .body)) ++ (le2 (r .kind) ++ r .body)
+
+unfoldable pub encode : ℕ → List Record → List ℕ
+unfolding encodeOne
+encode n [] = []
+encode n (r ∷ rs) = encodeOne n r ++ encode n rs

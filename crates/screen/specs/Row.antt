@@ -9,7 +9,7 @@ use Rattle.text.specs.Class.{Profile}
 use Rattle.text.specs.Width.{widthOf}
 use Rattle.buffer.specs.Numbers.{le4}
 use Rattle.screen.specs.Records.{Record}
-use Rattle.screen.specs.WellFormed.{clustersIn, isBackspace}
+use Rattle.screen.specs.WellFormed.{bodySize, clustersIn, isBackspace}
 pub mod Laws
 pub mod Contracts
 pub mod Put
@@ -23,10 +23,6 @@ pub record Cell : Type 0 where
 
 abbrev pub cell : List ℕ → List ℕ → Cell
 cell g a = record { cluster = g; body = a }
-
--- the size of an attribute body
-abbrev pub bodySize : ℕ
-bodySize = 25
 
 -- default attributes, and these with a background
 abbrev pub plain : List ℕ

@@ -1,7 +1,7 @@
 -- What the contracts of src/screen.rt say: the screen that the code's numbers stand for, and what a change does to it.
 use mathlib.Core.Path.{_≡_}
 use Prim.Native.Nat.{ℕ, _+_, _-_, _*_, _<_, _≤_}
-use mathlib.Core.Bool.{Bool, true, cond, _&&_, _||_}
+use mathlib.Core.Bool.{Bool, true, false, cond, _&&_, _||_}
 use mathlib.Core.Option.{Option, none, some}
 use mathlib.Core.List.{List, [], _∷_, _++_}
 use lib.ListN.{length, take, drop, replicate}
@@ -10,10 +10,9 @@ use lib.Dec.{eqb, ltb}
 use Rattle.text.specs.Utf8.{sameBytes}
 use Rattle.text.specs.Class.{Profile}
 use Rattle.screen.specs.Records.{Record, records}
-use Rattle.screen.specs.WellFormed.{ofKind, utf8, wide, clustersIn, wellFormed, wideTexts}
-use Rattle.screen.specs.Row.{Cell, bodySize, Screen, screen, isLater, back, passes, write, blankScreen, onClusters, onRecord, onRecords}
-use Rattle.screen.specs.Row.Contracts.{part, bodyAt, blankAt, cellsIn, cellIn, firstColumn, laters, sameNumbers}
-use Rattle.screen.specs.declared.records.Head.{Head}
+use Rattle.screen.specs.WellFormed.{bodySizes, ofKind, utf8, wide, clustersIn, wellFormed, wideTexts}
+use Rattle.screen.specs.Row.{Cell, Screen, screen, isLater, back, passes, write, blankScreen, onClusters, onRecord, onRecords}
+use Rattle.screen.specs.Row.Contracts.{bodyAt, blankAt, cellsIn, cellIn, firstColumn, laters, sameNumbers}
 use Rattle.screen.specs.declared.screen.Screen as code
 pub mod Laws
 
@@ -106,10 +105,6 @@ pub record BodyReady (list : List ℕ) (width : ℕ) (row : List ℕ) (t : code.
   pub place : 0 < start
   pub inside : start + len ≤ length list
 
--- the record that a whole head begins
-abbrev pub recordOf : List ℕ → Head → Record
-recordOf list h = record { whole = h .whole; kind = h .kind; body = part list (h .start) (h .len) }
-
 pub record DrawReady (width : ℕ) (row : List ℕ) : Type 0 where
   pub some : 0 < width
   pub room : 3 * width ≤ length row
@@ -135,10 +130,6 @@ clusterOn width g w o =
     let backspace : Bool = sameBytes g (0x08 ∷ []) in
     formed (backspace || ltb 0 w) (λ t. cond backspace (back t) (cond (passes width t w) (pass t) (write width t g w))) o
 
--- the allowed size of an attribute body
-abbrev pub ofBodies : ℕ → Bool
-ofBodies n = eqb n bodySize
-
 module _ (P : Profile) (width : ℕ) where
   unfoldable pub textOn : List ℕ → Option Screen → Option Screen
   unfolding formed utf8 wide clustersIn onClusters
@@ -146,11 +137,11 @@ module _ (P : Profile) (width : ℕ) where
 
   unfoldable pub recordOn : Record → Option Screen → Option Screen
   unfolding formed ofKind wide clustersIn onRecord
-  recordOn r o = formed (r .whole && (ofKind ofBodies (r .kind) (r .body) && cond (eqb (r .kind) 1) (wide P (clustersIn P (r .body))) true)) (λ t. onRecord P width t r) o
+  recordOn r o = formed (r .whole && (ofKind (bodySizes false) (r .kind) (r .body) && cond (eqb (r .kind) 1) (wide P (clustersIn P (r .body))) true)) (λ t. onRecord P width t r) o
 
   unfoldable pub recordsOn : List Record → Option Screen → Option Screen
   unfolding formed wellFormed wideTexts onRecords
-  recordsOn rs o = formed (wellFormed ofBodies rs && wideTexts P rs) (λ t. onRecords P width t rs) o
+  recordsOn rs o = formed (wellFormed (bodySizes false) rs && wideTexts P rs) (λ t. onRecords P width t rs) o
 
 -- the screen that a list leaves
 pub record Drawn (P : Profile) (list : List ℕ) (width : ℕ) (row′ : List ℕ) (r : code.Screen) : Type 0 where

@@ -1,11 +1,14 @@
-// The size and the values that documents 01 and 02 allow in the bodies of kinds 2 and 3.
+// The bodies that documents 01 and 02 allow for each kind.
 use buffer::byte_at;
+use text::utf8::run_end;
 ghost use mathlib.Core.Path.{_≡_};
 ghost use Prim.Native.Nat.{_≤_};
-ghost use Rattle.screen.specs.WellFormed.{color, fields};
+ghost use Rattle.screen.specs.WellFormed.{color, fields, bodySizes, ofKind};
 
-// The size of an attribute body.
+// The size of an attribute body, and of an old one, without alignment.
 pub(crate) const BODY_SIZE: usize = 25;
+
+pub(crate) const OLD_SIZE: usize = 24;
 
 // Is it a colour that stands at a place of a body?
 pub(crate) fn is_color(body: &[u8], at: usize) -> bool
@@ -26,4 +29,24 @@ pub(crate) fn are_fields(body: &[u8]) -> bool
         & ((byte_at(body, 1) <= 2) & ((byte_at(body, 2) <= 2) & flags));
     let alignment = byte_at(body, 24) <= 2;
     font & (is_color(body, 4) & (is_color(body, 8) & (is_color(body, 12) & alignment)))
+}
+
+// Is it a body of its kind? `old` says whether an old attribute body is one.
+pub(crate) fn is_of_kind(kind: usize, body: &[u8], old: bool) -> bool
+    ensures { λ r. ⌜ r ≡ ofKind (bodySizes old) kind (now (body .entry)) ⌝ }
+{
+    let len = body.len();
+    if kind == 1 {
+        return run_end(body, 0) == len;
+    }
+    if kind == 2 {
+        return ((old & (len == OLD_SIZE)) | (len == BODY_SIZE)) & are_fields(body);
+    }
+    if kind == 3 {
+        return (len == 4) & is_color(body, 0);
+    }
+    if kind == 4 {
+        return len == 0;
+    }
+    false
 }

@@ -1,7 +1,5 @@
 // A screen row, and what each change of a list does to it.
-use super::body::BODY_SIZE;
-use super::body::are_fields;
-use super::body::is_color;
+use super::body::is_of_kind;
 use super::records::Head;
 use super::records::head_at;
 use super::row::behind_later;
@@ -15,15 +13,14 @@ use text::class::Profile;
 use text::scalar::scalar_at;
 use text::segmentation::next_cluster;
 ghost use mathlib.Core.Path.{_≡_};
-ghost use mathlib.Core.Bool.{cond, true, _&&_};
+ghost use mathlib.Core.Bool.{cond, true};
 ghost use Prim.Native.Nat.{_+_, _-_, _≤_, _<_};
-ghost use lib.ListN.{length};
 ghost use lib.Dec.{eqb, ltb};
-ghost use Rattle.screen.specs.WellFormed.{color, fields};
 ghost use Rattle.text.specs.Class.Code.{profileOf};
-ghost use Rattle.screen.specs.Row.{bodySize, write, clear};
+ghost use Rattle.screen.specs.Records.Contracts.{recordOf};
+ghost use Rattle.screen.specs.Row.{write, clear};
 ghost use Rattle.screen.specs.Row.Contracts.{part, CellsReady};
-ghost use Rattle.screen.specs.Screen.{withAt, withEnd, withAttributesAt, withRefusal, largerOf, cursorOf, Reached, cutLeft, cutRight, RowReady, WriteReady, ClearReady, ClusterOnReady, TextReady, BodyReady, DrawReady, Drawn, Stepped, formed, clusterOn, textOn, recordOf, recordOn};
+ghost use Rattle.screen.specs.Screen.{withAt, withEnd, withAttributesAt, withRefusal, largerOf, cursorOf, Reached, cutLeft, cutRight, WriteReady, ClearReady, ClusterOnReady, TextReady, BodyReady, DrawReady, Drawn, Stepped, formed, clusterOn, textOn, recordOn};
 
 // Question 10's refusal, and question 11's.
 pub(crate) const MALFORMED: usize = 10;
@@ -57,6 +54,19 @@ fn with_at(t: Screen, at: usize) -> Screen
     Screen {
         at: at,
         attributes: t.attributes,
+        end: t.end,
+        color: t.color,
+        refusal: t.refusal,
+    }
+}
+
+// Kind 2 sets the attributes written from then on.
+fn with_attributes(t: Screen, at: usize) -> Screen
+    ensures { λ r. ⌜ r ≡ withAttributesAt t at ⌝ }
+{
+    Screen {
+        at: t.at,
+        attributes: at,
         end: t.end,
         color: t.color,
         refusal: t.refusal,
@@ -275,53 +285,6 @@ fn on_text(
     t
 }
 
-// Kind 2 sets the attributes written from then on.
-fn on_attributes(list: &[u8], t: Screen, start: usize, len: usize) -> Screen
-    requires { ⌜ start + len ≤ length (now list) ⌝ }
-    ensures { λ r. ⌜ r ≡ cond (eqb len bodySize && fields (part (now (list .entry)) start len)) (withAttributesAt t start) (withRefusal t 10) ⌝ }
-{
-    let body = &list[start..start + len];
-    if (len == BODY_SIZE) & are_fields(body) {
-        return Screen {
-            at: t.at,
-            attributes: start,
-            end: t.end,
-            color: t.color,
-            refusal: t.refusal,
-        };
-    }
-    with_refusal(t, MALFORMED)
-}
-
-fn on_clear(
-    list: &[u8],
-    row: &mut [usize],
-    width: usize,
-    t: Screen,
-    start: usize,
-    len: usize,
-) -> Screen
-    requires { ⌜ BodyReady (now list) width (now row) t start len ⌝ }
-    ensures { λ r. ⌜ Stepped (now (list .entry)) width (now (row .entry)) t (formed (eqb len 4 && color (part (now (list .entry)) start len) 0) (λ u. clear width u (part (now (list .entry)) start len))) (now (row .exit)) r ⌝ }
-{
-    let body = &list[start..start + len];
-    if (len == 4) & is_color(body, 0) {
-        return clear_to_end(list, row, width, t, start);
-    }
-    with_refusal(t, MALFORMED)
-}
-
-// Kind 4; others are malformed.
-fn on_right(width: usize, t: Screen, kind: usize, len: usize) -> Screen
-    requires { ⌜ t .at ≤ width ⌝ }
-    ensures { λ r. ⌜ r ≡ cond (eqb kind 4 && eqb len 0) (withAt t (cond (ltb (t .at + 1) width) (t .at + 1) (t .at))) (withRefusal t 10) ⌝ }
-{
-    if (kind == 4) & (len == 0) {
-        return right(width, t);
-    }
-    with_refusal(t, MALFORMED)
-}
-
 // A change whose head and body lie within the list.
 fn on_record(
     profile: Profile,
@@ -336,18 +299,21 @@ fn on_record(
     ensures { λ r. ⌜ Stepped (now (list .entry)) width (now (row .entry)) t (recordOn (profileOf profile) width (recordOf (now (list .entry)) head)) (now (row .exit)) r ⌝ }
 {
     let start = head.start;
-    let len = head.len;
+    let end = start + head.len;
     let kind = head.kind;
     if kind == 1 {
-        return on_text(profile, list, row, width, t, start, start + len);
+        return on_text(profile, list, row, width, t, start, end);
     }
-    if kind == 2 {
-        return on_attributes(list, t, start, len);
+    if is_of_kind(kind, &list[start..end], false) {
+        if kind == 2 {
+            return with_attributes(t, start);
+        }
+        if kind == 3 {
+            return clear_to_end(list, row, width, t, start);
+        }
+        return right(width, t);
     }
-    if kind == 3 {
-        return on_clear(list, row, width, t, start, len);
-    }
-    on_right(width, t, kind, len)
+    with_refusal(t, MALFORMED)
 }
 
 // All changes of a list, on a row that is blank at first.

@@ -12,6 +12,7 @@ use lib.Seq.{drop-cons, drop-drop, drop-nil, getD-drop}
 use lib.Dec.{eqb, leb, ltb, eqb→eq, ltb→lt, nltb→le}
 use borrow.Author.Tests.{eq-eqb, ne-eqb, lt-ltb, le-ltb}
 use Rattle.text.specs.Tests.{cases, and-T, true-T}
+use Rattle.text.specs.Places.{last-at, two-at}
 use Rattle.spans.specs.Sequence.{leading, past}
 use Rattle.spans.specs.Search.{EscapeRange, escapeRange, sequenceByte, escapeMatch, addEscape, escapesFrom, trimmed, escapes, lengthOf, searchedLength, inOrder, offsetFrom}
 use Rattle.spans.specs.Sequence.Contracts.{Skipped}
@@ -234,12 +235,6 @@ pub record OrderLoop (m : List ℕ) (most i e : ℕ) : Type 0 where
 pub order-begins : (m : List ℕ) (most : ℕ) → OrderLoop m most 0 0
 order-begins m most = record { same = refl; low = omega arith }
 
-two-at : (m : List ℕ) (i : ℕ) → i + 1 < length m → drop i m ≡ getD m i 0 ∷ getD m (i + 1) 0 ∷ drop (i + 2) m
-two-at m i h =
-    let k : suc i < length m = omega arith in
-    let q : suc (suc i) ≡ i + 2 = omega arith in
-    drop-cons m i 0 (omega arith) ∙ ap (λ (l : List ℕ). getD m i 0 ∷ l) (drop-cons m (suc i) 0 k ∙ ap₂ (λ (j n : ℕ). getD m j 0 ∷ drop n m) (sym (add-one i)) q)
-
 pair-and : (a b c d : Bool) → a && (b && (c && d)) ≡ (a && (b && c)) && d
 pair-and true true c d = refl
 pair-and true false c d = refl
@@ -252,9 +247,7 @@ module _ (m : List ℕ) (most i e : ℕ) (z : OrderLoop m most i e) where
 
   pub order-odd : i < length m → length m - i ≡ 1 → false ≡ inOrder most 0 m
   unfolding inOrder
-  order-odd h k =
-      let d : drop i m ≡ getD m i 0 ∷ [] = drop-cons m i 0 h ∙ ap (λ (l : List ℕ). getD m i 0 ∷ l) (drop-of-length-le m {i = suc i} (omega arith)) in
-      sym (sym (z .same) ∙ rw d)
+  order-odd h k = sym (sym (z .same) ∙ rw (last-at m i h k))
 
   pub order-more : (r : Bool) → i < length m → (length m - i ≡ 1 → ⊥) → r ≡ pairInOrder e (getD m i 0) (getD m (i + 1) 0) most → r ≡ true → OrderLoop m most (i + 2) (getD m (i + 1) 0)
   order-more r h k p q =

@@ -7,6 +7,8 @@ use lib.Dec.{eqb, leb}
 use Rattle.spans.specs.Sgr.{digit, parameters, allowed, orders}
 use Rattle.spans.specs.declared.sgr.Sgr.{Sgr}
 pub mod Laws
+pub mod Until
+pub mod Hyperlink
 pub mod Contracts
 
 -- what a sequence is; the place of a hyperlink's URI is counted from the ESC

@@ -17,6 +17,7 @@ pub mod ContentLaw
 pub mod FirstSpan
 pub mod RecordSpans
 pub mod Inside
+pub mod AroundSequences
 pub mod SpanCount
 pub mod PlainClusters
 pub mod ContentKinds

@@ -17,13 +17,14 @@ use Rattle.text.specs.Utf8.Code.{firstSequence, sequenceOf, size, whole}
 use Rattle.text.specs.Class.Code.{profileOf}
 use Rattle.text.specs.Overstrike.{backspace, eraseFrom}
 use Rattle.text.specs.Overstrike.Code.{BackReady, Front, FrontParity}
+use Rattle.text.specs.Overstrike.Laws.{push-reverse}
 use Rattle.text.specs.Segmentation.{neverJoinsBefore}
 use Rattle.text.specs.Tests.{and-T, cases, is-true, true-T}
 use Rattle.text.specs.Utf8.{Scalar, ascii, bytesOf, decode, decodeFrom, runOf}
 use Rattle.text.specs.declared.backward.Erasure.{Erasure}
 use Rattle.text.specs.declared.utf8.Sequence.{Sequence}
 use Rattle.text.proofs.BackwardWalk.{last-lone}
-use Rattle.text.proofs.RegionalIndicators.{parity-front, parity-more, parity-zero, indicator-back, indicator-class, indicator-control, pair-by, pair-front, pair-odd, push-reversed}
+use Rattle.text.proofs.RegionalIndicators.{parity-front, parity-more, parity-zero, indicator-back, indicator-class, indicator-control, pair-by, pair-front, pair-odd}
 use Rattle.text.proofs.Runs.{back-scalar, run-drop, run-head, run-inside, size-reverse}
 use Rattle.text.proofs.Texts.{run-append, run-prefix, whole-append, whole-prefix}
 use Rattle.text.specs.declared.class.Profile as code
@@ -262,7 +263,7 @@ erase-add P l len i k h w m =
     let f = front-byte l len 0x08 (h .room) (h .valid) backspace-alone in
     let t : take (k .at) (take len l) ≡ take len l = take-all (k .at) (take len l) (omega arith) in
     let r : runOf (decode (take (len + 1) (set l len 0x08))) ≡ runOf (decode (take len l)) ++ (ascii 0x08 ∷ []) =
-    sym (reverse-reverse (runOf (decode (take (len + 1) (set l len 0x08))))) ∙ ap reverse (f .scalars) ∙ push-reversed (ascii 0x08 ∷ []) (reverse (runOf (decode (take len l)))) ∙ ap (λ (x : List Scalar). x ++ (ascii 0x08 ∷ [])) (reverse-reverse (runOf (decode (take len l)))) in
+    sym (reverse-reverse (runOf (decode (take (len + 1) (set l len 0x08))))) ∙ ap reverse (f .scalars) ∙ push-reverse (ascii 0x08 ∷ []) (reverse (runOf (decode (take len l)))) ∙ ap (λ (x : List Scalar). x ++ (ascii 0x08 ∷ [])) (reverse-reverse (runOf (decode (take len l)))) in
     record {
       front = record { inside = f .inside; scalars = f .scalars ∙ w .kept .added (rw n m); valid = f .valid };
       parity = parity-more (take len l) (take (len + 1) (set l len 0x08)) (ascii 0x08 ∷ []) (k .parity) r (rw t at (w .parity));

@@ -14,3 +14,5 @@ pub mod Pushing
 pub mod OverstrikeSteps
 pub mod Converting
 pub mod ConvertCall
+pub mod CellLoops
+pub mod WriteCellsCall

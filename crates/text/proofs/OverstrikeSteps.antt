@@ -16,6 +16,7 @@ use Rattle.text.specs.Backward.{ParityPlace, backward}
 use Rattle.text.specs.Utf8.Code.{whole}
 use Rattle.text.specs.Overstrike.Code.{BackReady, BackspaceStep, FinishReady, Finished, Front, FrontParity, Part, Pushed, Sound, StepReady, Stepped, Strike, StruckStep, backspaceOn, clusterOn, conversion, finishOn, orderOf, partOf, pendingOf, plain, pushedOn, stateOf, styleOf}
 use Rattle.text.specs.Overstrike.{State, Style, ambiguous, backspace, bold, boldUnderline, bolded, finish, held, none, normal, onBackspace, onCluster, order, push, state, step, strike, struck, underline, underlined}
+use Rattle.text.specs.Overstrike.Laws.{push-reverse}
 use Rattle.text.specs.Overstrike.Length.{cost, cost-normal, order-size, waiting, weight}
 use Rattle.text.specs.Tests.{cases}
 use Rattle.text.specs.Utf8.{Scalar, asciis, bytesOf, decode, decodeFrom, reads, runOf, sameBytes, within}
@@ -23,7 +24,7 @@ use Rattle.text.specs.Utf8.Valid.{valid}
 use Rattle.text.specs.declared.overstrike.Conversion.{Conversion}
 use Rattle.text.specs.declared.backward.Erasure.{Erasure}
 use Rattle.text.specs.declared.overstrike.Overstrike.{Overstrike}
-use Rattle.text.proofs.RegionalIndicators.{parity-more, push-reversed}
+use Rattle.text.proofs.RegionalIndicators.{parity-more}
 use Rattle.text.proofs.Pushing.{front-push}
 use Rattle.text.proofs.Runs.{part-slice, size-reverse}
 use Rattle.text.proofs.Texts.{run-append, whole-append}
@@ -164,7 +165,7 @@ parity-pushed line l l′ st n w f =
     let g : List Scalar = partOf line (st .at) (st .end) in
     let o : List Scalar = asciis (orderOf (st .before) (st .style)) in
     let r : runOf (decode (take n l′)) ≡ runOf (decode (take (st .len) l)) ++ (o ++ g) =
-    front-text l′ n _ f ∙ push-reversed g (push o (reverse (runOf (decode (take (st .len) l))))) ∙ ap (λ (x : List Scalar). x ++ g) (push-reversed o (reverse (runOf (decode (take (st .len) l)))) ∙ ap (λ (x : List Scalar). x ++ o) (reverse-reverse (runOf (decode (take (st .len) l)))))
+    front-text l′ n _ f ∙ push-reverse g (push o (reverse (runOf (decode (take (st .len) l))))) ∙ ap (λ (x : List Scalar). x ++ g) (push-reverse o (reverse (runOf (decode (take (st .len) l)))) ∙ ap (λ (x : List Scalar). x ++ o) (reverse-reverse (runOf (decode (take (st .len) l)))))
     ∙ append-assoc (runOf (decode (take (st .len) l))) o g in
     parity-more (take (st .len) l) (take n l′) (o ++ g) (st .parity) r (w .parity)
 

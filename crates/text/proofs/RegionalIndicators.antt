@@ -3,7 +3,7 @@ use Prim.Native.Nat.{_%_, _+_, _-_, _/_, _<_, _≤_, ℕ}
 use native.Mathlib.Nat.{add-zero}
 use native.Mathlib.Omega.{arith}
 use mathlib.Core.Bool.{Bool, _||_, and-false, cond, false, not, true, true≢false}
-use mathlib.Core.List.{List, [], _++_, _∷_, append-assoc, reverse, reverse-append, reverse-reverse, reverseAux, reverseAux-eq}
+use mathlib.Core.List.{List, [], _++_, _∷_, append-assoc, reverse, reverseAux, reverseAux-eq}
 use mathlib.Core.Logic.{_≢_, ⊎-elim}
 use mathlib.Core.Path.{_∙_, _≡_, ap, ap₂, refl, sym}
 use lib.Dec.{T, eqb, leb}
@@ -15,7 +15,6 @@ use Rattle.text.specs.Class.{Class, Profile, among, class01, classL, cla
 use Rattle.text.specs.Cluster.{Context, classOf, context, joined, joins}
 use Rattle.text.specs.Utf8.Code.{firstSequence, size}
 use Rattle.text.specs.Class.Code.{profileOf}
-use Rattle.text.specs.Overstrike.{push}
 use Rattle.text.specs.Scalar.{packedAt}
 use Rattle.text.specs.Scalar.Laws.{NoScalar, PackedScalar, packed-inside, packed-view}
 use Rattle.text.specs.Tests.{cases, in-range, every, every-one}
@@ -158,10 +157,6 @@ module _ (v : code.Profile) (t : List ℕ) (i : ℕ) (odd total : Bool) (l : Odd
 pub parity-zero : (t : List ℕ) → ParityPlace t 0
 unfolding size
 parity-zero t = record { rest = []; es = runOf (decode t); parts = refl; place = refl; parity = λ v. context-none (profileOf v) }
-
--- push_str on the reversed result
-pub push-reversed : (g out : List Scalar) → reverse (push g out) ≡ reverse out ++ g
-push-reversed g out = ap reverse (reverseAux-eq g out) ∙ reverse-append (reverse g) out ∙ ap (λ (l : List Scalar). reverse out ++ l) (reverse-reverse g)
 
 -- with more behind it
 pub parity-more : (t u : List ℕ) (ys : List Scalar) (i : ℕ) → runOf (decode u) ≡ runOf (decode t) ++ ys → ParityPlace t i → ParityPlace u i

@@ -1,4 +1,4 @@
--- Document 01's questions, what a call leaves in lent memory, and the call `convert`.
+-- Document 01's questions, what a call leaves in lent memory, and the calls `convert` and `write_cells`.
 use Prim.Native.Nat.{ℕ, zero, suc, _-_, _*_}
 use mathlib.Core.Bool.{Bool, cond}
 use mathlib.Core.List.{List, [], _∷_, _++_}
@@ -6,6 +6,7 @@ use lib.ListN.{length, replicate}
 use lib.Dec.{leb}
 use Rattle.text.specs.Class.{Profile}
 use Rattle.text.specs.Overstrike.{convert}
+use Rattle.text.specs.Cells.{areCells, overstruckCells}
 pub mod Laws
 pub mod Code
 
@@ -51,3 +52,17 @@ convertCall P conv line =
     let s : List ℕ = convert P line in
     let r : ℕ = decide (question1 line ∷ question2 conv line ∷ []) in
     record { number = r; count = counted (length s) r; conv = lent 0 conv s r }
+
+-- what a call that writes bytes returns and leaves
+pub record Written : Type 0 where
+  pub number : ℕ
+  pub count : ℕ
+  pub out : List ℕ
+
+-- the call `write_cells`, lent a buffer of `room` bytes
+unfoldable pub writeCellsCall : (room : ℕ) (cells : List ℕ) → Written
+unfolding decide lent counted areCells overstruckCells
+writeCellsCall room cells =
+    let s : List ℕ = overstruckCells cells in
+    let r : ℕ = decide (ask 16 (areCells cells) ∷ question1 s ∷ ask 17 (leb (length s) room) ∷ []) in
+    record { number = r; count = counted (length s) r; out = lent 0 room s r }

@@ -6,6 +6,7 @@ pub mod Class
 pub mod Width
 pub mod Cluster
 pub mod Overstrike
+pub mod Cells
 pub mod Calls
 pub mod Rules
 pub mod Scalar

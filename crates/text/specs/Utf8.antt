@@ -9,6 +9,7 @@ pub mod Noise
 pub mod Valid
 pub mod Runs
 pub mod Ascii
+pub mod Separation
 pub mod AsciiTexts
 pub mod FirstByte
 pub mod Code

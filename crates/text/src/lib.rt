@@ -2,10 +2,11 @@
 ghost use mathlib.Core.Path.{_≡_};
 ghost use lib.ListN.{length};
 ghost use Rattle.text.specs.Width.{profile01};
-ghost use Rattle.text.specs.Calls.{convertCall};
-ghost use Rattle.text.specs.Calls.Code.{converted, refusal};
+ghost use Rattle.text.specs.Calls.{convertCall, writeCellsCall};
+ghost use Rattle.text.specs.Calls.Code.{converted, refusal, written};
 
 mod backward;
+mod cells;
 pub mod class;
 pub mod overstrike;
 mod rules;
@@ -61,4 +62,26 @@ pub fn convert(line: &[u8], conv: &mut [u8]) -> Answer
         number: 0,
         count: n,
     }
+}
+
+// The call `write_cells`: what is written for the cells in out and zeros after it.
+pub fn write_cells(cells: &[u8], out: &mut [u8]) -> Answer
+    ensures { λ r. ⌜ written r (now (out .exit)) ≡ writeCellsCall (length (now (out .entry))) (now (cells .entry)) ⌝ }
+{
+    if cells::are_cells(cells) {
+        let len = cells::written_len(cells);
+        if len > 4096 {
+            return refuse(out, 1);
+        }
+        if out.len() < len {
+            return refuse(out, 17);
+        }
+        let n = cells::push_cells(out, cells);
+        buffer::clear_bytes(out, n);
+        return Answer {
+            number: 0,
+            count: n,
+        };
+    }
+    refuse(out, 16)
 }

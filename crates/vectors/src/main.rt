@@ -1,8 +1,9 @@
 // Answers recorded cases, one a line of standard input, and prints each with its answer: oracle/README.md has the form of a line. What
-// is printed is compared with the recorded answers of the Rust source and of the models of screen_row and of kept wraps, published vectors and the rows
+// is printed is compared with the recorded answers of the Rust source and of the models of calls that it has not, published vectors and the rows
 // program's stated answers.
 mod cached;
 mod fields;
+mod models;
 mod output;
 mod program;
 mod published;
@@ -56,12 +57,11 @@ fn answer(s: &[u8]) {
         program::answer(s);
     } else if same(name, b"scalars") | same(name, b"clusters") {
         published::answer(name, s);
-    } else if same(name, b"screen_row") {
-        recorded::screen_row(s);
     } else if same(name, b"cached") {
         cached::answer(s);
     } else {
         recorded::answer(name, s);
+        models::answer(name, s);
     }
     io::write_all(STDOUT_FILENO, b"\n");
 }

@@ -1,10 +1,9 @@
 // The rows program: an input, handed over in parts, and what is printed for it. The input is some bytes, one byte repeated, and more
 // bytes.
 ghost use mathlib.Core.Path.{_≡_};
-ghost use Prim.Native.Nat.{_+_, _-_, _≤_};
-ghost use lib.ListN.{length};
+ghost use Prim.Native.Nat.{_-_};
 ghost use Rattle.vectors.specs.Fields.{Kept};
-ghost use Rattle.vectors.specs.Program.{inputAt, partOf};
+ghost use Rattle.vectors.specs.Program.{inputAt, inputLen, partOf};
 use super::fields;
 use super::fields::field;
 use super::fields::number;
@@ -30,6 +29,13 @@ fn input_byte(prefix: &[u8], byte: u8, times: usize, suffix: &[u8], at: usize) -
         return byte;
     }
     byte_at(suffix, behind - times)
+}
+
+// How many bytes the input has, as far as a case may have them.
+fn input_len(prefix: usize, times: usize, suffix: usize) -> usize
+    ensures { λ r. ⌜ r ≡ inputLen prefix times suffix ⌝ }
+{
+    smaller(prefix, 64) + smaller(times, 10000000) + smaller(suffix, 64)
 }
 
 // The bytes from `at` to `end`, as many as `part` holds; how many.
@@ -67,13 +73,11 @@ fn print_text(line: &[u8], state: Input) {
 }
 
 // The same for an input, handed over in a first part of `first` bytes and later parts of `later`. The last is the first that is shorter,
-// of no bytes where the others have them all.
-fn print_rows(prefix: &[u8], byte: u8, times: usize, suffix: &[u8], first: usize, later: usize)
-    requires { ⌜ length (now prefix) + times + length (now suffix) ≤ 4294967296 ⌝ }
-{
+// of no bytes where the others have them all. An input has at most 10,000,128 bytes.
+fn print_rows(prefix: &[u8], byte: u8, times: usize, suffix: &[u8], first: usize, later: usize) {
     let mut line = [170u8; 4097];
     let mut part = io::buffer();
-    let total = prefix.len() + times + suffix.len();
+    let total = input_len(prefix.len(), times, suffix.len());
     let mut at = fill(
         prefix,
         byte,
@@ -109,9 +113,6 @@ pub(crate) fn answer(s: &[u8]) {
     fields::bytes(field(s, 2), &mut byte);
     let times = number(s, 3);
     let m = fields::bytes(field(s, 4), &mut suffix);
-    if 10000000 < times {
-        return;
-    }
     let first = number(s, 5);
     let later = number(s, 6);
     print_rows(&prefix[..n], byte[0], times, &suffix[..m], first, later);

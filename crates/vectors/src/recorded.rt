@@ -1,4 +1,5 @@
-// Calls with recorded answers, those of the Rust source or of the model of screen_row: each is answered, and every lent buffer printed.
+// Calls with recorded answers of the Rust source: each is answered, and every lent buffer printed.
+// `view_window` and `view_row` are drawings whose last field is their reader; the others are for the bench.
 ghost use Prim.Native.Nat.{_*_};
 ghost use Rattle.vectors.specs.Fields.{fieldOf, decimal};
 ghost use Rattle.vectors.specs.Recorded.{Lent};
@@ -17,7 +18,7 @@ use rows::numbers::rows_numbers;
 use spans::numbers::read_numbers;
 
 // How much of a buffer is lent: as many bytes as the n-th field says. Where there are fewer, `too large` is printed, and all are lent.
-fn lent_bytes(s: &[u8], n: usize, buf: &[u8]) -> usize
+pub(crate) fn lent_bytes(s: &[u8], n: usize, buf: &[u8]) -> usize
     ensures { λ r. ⌜ Lent (decimal 0 (fieldOf (now (s .entry)) n)) (now (buf .entry)) r ⌝ }
 {
     let size = number(s, n);
@@ -41,7 +42,7 @@ fn lent_numbers(s: &[u8], n: usize, buf: &[usize]) -> usize
 }
 
 // The same for spans, of four numbers each.
-fn lent_spans(s: &[u8], n: usize, buf: &[usize]) -> usize
+pub(crate) fn lent_spans(s: &[u8], n: usize, buf: &[usize]) -> usize
     ensures { λ r. ⌜ Lent (4 * decimal 0 (fieldOf (now (s .entry)) n)) (now (buf .entry)) r ⌝ }
 {
     let count = number(s, n);
@@ -113,7 +114,9 @@ fn draw_window(s: &[u8], line: &[u8], matches: &[usize]) {
     let c = lent_bytes(s, 6, &conv);
     let p = lent_spans(s, 7, &spans);
     let b = lent_bytes(s, 8, &list);
+    let reader = number(s, 9);
     let a = draw_window_numbers(
+        reader,
         line,
         matches,
         current,
@@ -140,7 +143,9 @@ fn draw_row(s: &[u8], line: &[u8], matches: &[usize]) {
     let c = lent_bytes(s, 8, &conv);
     let p = lent_spans(s, 9, &spans);
     let b = lent_bytes(s, 10, &list);
+    let reader = number(s, 11);
     let a = draw_row_numbers(
+        reader,
         line,
         matches,
         current,
@@ -157,14 +162,13 @@ fn draw_row(s: &[u8], line: &[u8], matches: &[usize]) {
     print_bytes(&list, b);
 }
 
-pub(crate) fn screen_row(s: &[u8]) {
-    let mut list = [0u8; 5000];
-    let mut out = [170u8; 32776];
-    let n = fields::bytes(field(s, 1), &mut list);
-    let width = number(s, 2);
-    let c = lent_bytes(s, 3, &out);
-    let a = screen::screen_row(&list[..n], width, &mut out[..c]);
-    print_answer(a, &out, c);
+// The answer to a drawing of this name; to another call, nothing.
+fn draw(name: &[u8], s: &[u8], line: &[u8], matches: &[usize]) {
+    if same(name, b"draw_window") | same(name, b"view_window") {
+        draw_window(s, line, matches);
+    } else if same(name, b"draw_row") | same(name, b"view_row") {
+        draw_row(s, line, matches);
+    }
 }
 
 // The answer to a call of this name; of another, nothing.
@@ -181,9 +185,7 @@ pub(crate) fn answer(name: &[u8], s: &[u8]) {
         rows(s, &line[..n]);
     } else if same(name, b"height") {
         height(s, &line[..n]);
-    } else if same(name, b"draw_window") {
-        draw_window(s, &line[..n], &matches[..m]);
-    } else if same(name, b"draw_row") {
-        draw_row(s, &line[..n], &matches[..m]);
+    } else {
+        draw(name, s, &line[..n], &matches[..m]);
     }
 }

@@ -23,5 +23,9 @@ returns-5 : tie.Need-returns-5
 unfolding decided
 returns-5 c = search branch depth 10 fits 20000
 
+returns-6 : tie.Need-returns-6
+unfolding decided
+returns-6 c = search branch depth 10 fits 20000
+
 pub decide-spec : {M : Type 1} → statement M
-decide-spec = tie.close (tie.spec returns returns-2 returns-3 returns-4 returns-5)
+decide-spec = tie.close (tie.spec returns returns-2 returns-3 returns-4 returns-5 returns-6)

@@ -1,6 +1,7 @@
--- A drawing by what the call `read` answers: the same refusals first, then its own questions.
+-- A drawing by what the call `read` answers: behind question 18 the same refusals first, then its own questions.
 use mathlib.Core.Path.{_≡_, refl, sym, ap, _∙_}
 use Prim.Native.Nat.{ℕ, suc, _-_}
+use mathlib.Core.Bool.{true, false}
 use mathlib.Core.List.{List, [], _∷_, _++_}
 use lib.ListN.{length, replicate}
 use lib.Dec.{leb}
@@ -13,9 +14,9 @@ use Rattle.spans.specs.Search.{read}
 use Rattle.spans.specs.Calls.{noRecord, readCall}
 use Rattle.spans.specs.Calls.Laws.{read-accepted, read-number, readQuestions}
 use Rattle.drawing.specs.Change.{Change, whole, encode}
-use Rattle.drawing.specs.Calls.{Drawn, drawing}
+use Rattle.drawing.specs.Calls.{Drawn, question18, drawing}
 
-module _ (P : Profile) (conv places room : ℕ) (matches : List ℕ) (qs : List Question) (draw : List Span → List Change) (line : List ℕ) where
+module _ (P : Profile) (reader conv places room : ℕ) (matches : List ℕ) (qs : List Question) (draw : List Span → List Change) (line : List ℕ) where
   abbrev found : List Span
   found = read P matches (convert P line)
 
@@ -33,7 +34,7 @@ module _ (P : Profile) (conv places room : ℕ) (matches : List ℕ) (qs : List 
   abbrev drawnBy : ℕ → Drawn
   drawnBy r = record { number = r; count = counted (length list) r; conv = lent 0 conv (convert P line) r; spans = lent noRecord places (records found) r; list = lent 0 room list r }
 
-  drawing-by : drawing P conv places room matches qs draw line ≡ drawnBy (decide (readQuestions P conv places matches line ++ others))
+  drawing-by : drawing P reader conv places room matches qs draw line ≡ drawnBy (decide (question18 reader ∷ readQuestions P conv places matches line ++ others))
   unfolding drawing
   drawing-by = refl
 
@@ -44,16 +45,25 @@ module _ (P : Profile) (conv places room : ℕ) (matches : List ℕ) (qs : List 
   no-drawing : (r : ℕ) → drawnBy (suc r) ≡ undrawn (suc r)
   no-drawing r = simp (lent-refused, counted-refused)
 
-  pub drawing-unread : (r : ℕ) → readCall P conv places matches line .number ≡ suc r → drawing P conv places room matches qs draw line ≡ undrawn (suc r)
-  drawing-unread r e = drawing-by ∙ ap drawnBy (decided-before (readQuestions P conv places matches line) others r (sym (read-number P conv places matches line) ∙ e)) ∙ no-drawing r
+  pub drawing-unknown : leb reader 1 ≡ false → drawing P reader conv places room matches qs draw line ≡ undrawn 18
+  unfolding decide
+  drawing-unknown e = drawing-by ∙ rw e (no-drawing 17)
 
-  module _ (fine : readCall P conv places matches line .number ≡ 0) where
-    accepting : decide (readQuestions P conv places matches line ++ others) ≡ further
-    accepting = decided-behind (readQuestions P conv places matches line) others tt (sym (read-number P conv places matches line) ∙ fine)
+  module _ (known : leb reader 1 ≡ true) where
+    drawing-known : drawing P reader conv places room matches qs draw line ≡ drawnBy (decide (readQuestions P conv places matches line ++ others))
+    unfolding decide
+    drawing-known = drawing-by ∙ rw known
 
-    pub drawing-refused : (r : ℕ) → further ≡ suc r → drawing P conv places room matches qs draw line ≡ undrawn (suc r)
-    drawing-refused r e = drawing-by ∙ ap drawnBy (accepting ∙ e) ∙ no-drawing r
+    pub drawing-unread : (r : ℕ) → readCall P conv places matches line .number ≡ suc r → drawing P reader conv places room matches qs draw line ≡ undrawn (suc r)
+    drawing-unread r e = drawing-known ∙ ap drawnBy (decided-before (readQuestions P conv places matches line) others r (sym (read-number P conv places matches line) ∙ e)) ∙ no-drawing r
 
-    pub drawing-accepted : further ≡ 0
-        → drawing P conv places room matches qs draw line ≡ record { number = 0; count = length list; conv = readCall P conv places matches line .conv; spans = readCall P conv places matches line .spans; list = list ++ replicate (room - length list) 0 }
-    drawing-accepted e = rw (read-accepted P conv places matches line fine) (drawing-by ∙ ap drawnBy (accepting ∙ e) ∙ simp (lent-accepted, counted-accepted))
+    module _ (fine : readCall P conv places matches line .number ≡ 0) where
+      accepting : decide (readQuestions P conv places matches line ++ others) ≡ further
+      accepting = decided-behind (readQuestions P conv places matches line) others tt (sym (read-number P conv places matches line) ∙ fine)
+
+      pub drawing-refused : (r : ℕ) → further ≡ suc r → drawing P reader conv places room matches qs draw line ≡ undrawn (suc r)
+      drawing-refused r e = drawing-known ∙ ap drawnBy (accepting ∙ e) ∙ no-drawing r
+
+      pub drawing-accepted : further ≡ 0
+          → drawing P reader conv places room matches qs draw line ≡ record { number = 0; count = length list; conv = readCall P conv places matches line .conv; spans = readCall P conv places matches line .spans; list = list ++ replicate (room - length list) 0 }
+      drawing-accepted e = rw (read-accepted P conv places matches line fine) (drawing-known ∙ ap drawnBy (accepting ∙ e) ∙ simp (lent-accepted, counted-accepted))

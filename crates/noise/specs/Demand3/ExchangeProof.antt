@@ -24,8 +24,9 @@ use Rattle.rows.specs.Rows.Noise.{rows-twin}
 use Rattle.rows.specs.Calls.{modeOf, modeAndWidth, numbersOf, question6, rowsCall, heightCall}
 use Rattle.drawing.specs.Change.{Change, whole, encode}
 use Rattle.drawing.specs.Draw.{render, renderWrapped}
-use Rattle.drawing.specs.Draw.Noise.{PlainDigits, TwinChange, MarkByte, render-twin, renderWrapped-twin, whole-twin, encode-twin}
-use Rattle.drawing.specs.Calls.{Drawn, drawing, windowQuestions, rowQuestions, windowCall, rowCall}
+use Rattle.drawing.specs.Draw.Noise.{PlainDigits, TwinChange, MarkByte, render-twin, renderWrapped-twin, seen-twin, whole-twin, encode-twin}
+use Rattle.drawing.specs.Reader.{seenBy}
+use Rattle.drawing.specs.Calls.{Drawn, question18, drawing, windowQuestions, rowQuestions, windowCall, rowCall}
 use Rattle.noise.specs.Calls.{Call, answer, noMatches, withoutMatches, changesOf}
 use Rattle.noise.specs.Calls as calls
 use Rattle.noise.specs.Demand3.{Alike, Exchange}
@@ -84,13 +85,13 @@ module _ (P : Profile) (H : PlainDigits P) {s t : List ℕ} (e : Twin s t) where
     list : Each (MarkByte l m) (a .list) (b .list)
 
   -- both kinds of drawing, with the questions qs between 4 and 8
-  drawn : (b p r : ℕ) (qs : List Question) (draw : List Span → List Change) → Each (TwinChange P l m) (draw (spans P l)) (draw (spans P m))
-      → TwinDrawn (drawing P b p r [] qs draw s) (drawing P b p r [] qs draw t)
+  drawn : (v b p r : ℕ) (qs : List Question) (draw : List Span → List Change) → Each (TwinChange P l m) (draw (spans P l)) (draw (spans P m))
+      → TwinDrawn (drawing P v b p r [] qs draw s) (drawing P v b p r [] qs draw t)
   unfolding drawing search.read search.inOrder
-  drawn b p r qs draw y =
+  drawn v b p r qs draw y =
       let z = encode-twin P H l m y in
-      let d : decide (question1 s ∷ question2 b s ∷ question3 [] l ∷ question4 p (spans P l) ∷ qs ++ (ask 8 (whole (draw (spans P l))) ∷ ask 9 (leb (length (encode (draw (spans P l)))) r) ∷ []))
-      ≡ decide (question1 t ∷ question2 b t ∷ question3 [] m ∷ question4 p (spans P m) ∷ qs ++ (ask 8 (whole (draw (spans P m))) ∷ ask 9 (leb (length (encode (draw (spans P m)))) r) ∷ [])) =
+      let d : decide (question18 v ∷ question1 s ∷ question2 b s ∷ question3 [] l ∷ question4 p (spans P l) ∷ qs ++ (ask 8 (whole (draw (spans P l))) ∷ ask 9 (leb (length (encode (draw (spans P l)))) r) ∷ []))
+      ≡ decide (question18 v ∷ question1 t ∷ question2 b t ∷ question3 [] m ∷ question4 p (spans P m) ∷ qs ++ (ask 8 (whole (draw (spans P m))) ∷ ask 9 (leb (length (encode (draw (spans P m)))) r) ∷ [])) =
       rw (line, each-length read, whole-twin P H l m y, each-length z) in
       record { number = d; count = ap₂ counted (each-length z) d; conv = lent-conv b _ _ d; spans = lent-spans p _ _ d; list = lent-twin (λ x. MarkByte.same) 0 r _ _ d z }
 
@@ -112,16 +113,16 @@ module _ (P : Profile) (H : PlainDigits P) {s t : List ℕ} (e : Twin s t) where
       let g : rows P w (modeOf k) (spans P l) ≡ rows P w (modeOf k) (spans P m) = rows-twin P w (modeOf k) read in
       let d : decide (question1 s ∷ question2 b s ∷ question4 p (spans P l) ∷ ask 5 (modeAndWidth k w) ∷ []) ≡ decide (question1 t ∷ question2 b t ∷ question4 p (spans P m) ∷ ask 5 (modeAndWidth k w) ∷ []) = rw (line, each-length read) in
       record { number = d; count = ap₂ counted (ap length g) d; spans = lent-spans p _ _ d; rows = refl; conv = lent-conv b _ _ d; changes = nil; list = nil }
-  alike (calls.drawWindow b p r x y now []) h =
-      let c = render-twin P H l m x y now read in
-      let f = drawn b p r (windowQuestions x y) (render P x y now) c in
+  alike (calls.drawWindow v b p r x y now []) h =
+      let c = seen-twin P H l m v (render-twin P H l m x y now read) in
+      let f = drawn v b p r (windowQuestions x y) (λ ss. seenBy v (render P x y now ss)) c in
       record { number = f .number; count = f .count; spans = f .spans; rows = refl; conv = f .conv; changes = c; list = f .list }
-  alike (calls.drawWindow b p r x y now (k ∷ ks)) h = absurd h
-  alike (calls.drawRow b p r x n w k now []) h =
-      let c = renderWrapped-twin P H l m x n w (modeOf k) now read in
-      let f = drawn b p r (rowQuestions x n w k) (renderWrapped P x n w (modeOf k) now) c in
+  alike (calls.drawWindow v b p r x y now (k ∷ ks)) h = absurd h
+  alike (calls.drawRow v b p r x n w k now []) h =
+      let c = seen-twin P H l m v (renderWrapped-twin P H l m x n w (modeOf k) now read) in
+      let f = drawn v b p r (rowQuestions x n w k) (λ ss. seenBy v (renderWrapped P x n w (modeOf k) now ss)) c in
       record { number = f .number; count = f .count; spans = f .spans; rows = refl; conv = f .conv; changes = c; list = f .list }
-  alike (calls.drawRow b p r x n w k now (y ∷ ys)) h = absurd h
+  alike (calls.drawRow v b p r x n w k now (y ∷ ys)) h = absurd h
 
 pub exchange-of : (P : Profile) → PlainDigits P → Exchange P
 exchange-of P H c h s t e = alike P H (twin-of s t (e .length) (e .differ)) c h

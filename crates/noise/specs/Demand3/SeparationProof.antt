@@ -92,10 +92,10 @@ module _ (P : Profile) where
   leaves-records (calls.read b k (m ∷ ms)) n s p h e = absurd h
   leaves-records (calls.rows b k w x y) n s p h e = ap₂ (λ (x r : ℕ). lent noRecord x (recordsOf s) r) (cc) e
   leaves-records (calls.height b k x y) n s p h e = ap₂ (λ (x r : ℕ). lent noRecord x (recordsOf s) r) (cc) e
-  leaves-records (calls.drawWindow b k r x y now []) n s p h e = ap₂ (λ (x r : ℕ). lent noRecord x (recordsOf s) r) (cc) e
-  leaves-records (calls.drawWindow b k r x y now (m ∷ ms)) n s p h e = absurd h
-  leaves-records (calls.drawRow b k r f c w x now []) n s p h e = ap₂ (λ (x r : ℕ). lent noRecord x (recordsOf s) r) (cc) e
-  leaves-records (calls.drawRow b k r f c w x now (m ∷ ms)) n s p h e = absurd h
+  leaves-records (calls.drawWindow v b k r x y now []) n s p h e = ap₂ (λ (x r : ℕ). lent noRecord x (recordsOf s) r) (cc) e
+  leaves-records (calls.drawWindow v b k r x y now (m ∷ ms)) n s p h e = absurd h
+  leaves-records (calls.drawRow v b k r f c w x now []) n s p h e = ap₂ (λ (x r : ℕ). lent noRecord x (recordsOf s) r) (cc) e
+  leaves-records (calls.drawRow v b k r f c w x now (m ∷ ms)) n s p h e = absurd h
 
   -- the records of a line that is two parts with noise between them
   records-together : (a : List ℕ) (n : ℕ) (ns b : List ℕ) → T (allNoise (n ∷ ns)) → recordsOf (a ++ ((n ∷ ns) ++ b)) ≡ together P a (n ∷ ns) b (recordsOf a) (recordsOf b)

@@ -16,7 +16,7 @@ use Rattle.text.specs.Cluster.{clusters, joinAll}
 use Rattle.text.specs.Cluster.Laws.{clusters-all, clusters-nil}
 use Rattle.text.specs.Cluster.Parts.{Ends, ends-none, ends-same, Clustered, none, more, clustered, first-before}
 use Rattle.drawing.specs.Clip.{clip, clipStart, clipEnd, spaces}
-use Rattle.picture.specs.Columns.Wrapping.{widths, widths-total}
+use Rattle.columns.specs.Columns.Wrapping.{widths, widths-total}
 use Rattle.picture.specs.Picture.Window.{SomeWidth, inside, inside-right, inside-all, Outside}
 
 module _ (P : Profile) where

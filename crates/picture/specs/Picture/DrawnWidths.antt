@@ -25,8 +25,8 @@ use Rattle.drawing.specs.declared.attributes.Attributes.{Attributes}
 use Rattle.drawing.specs.Attributes.{Style, control, styled}
 use Rattle.drawing.specs.Clip.{spaces}
 use Rattle.drawing.specs.Marks.{hexDigit, byteMark, upperDigits, scalarMark, lineDrawn}
-use Rattle.picture.specs.Columns.{spanColumns, lastColumnFrom}
-use Rattle.picture.specs.Columns.Wrapping.{total, widths, widths-total}
+use Rattle.columns.specs.Columns.{spanColumns, lastColumnFrom}
+use Rattle.columns.specs.Columns.Wrapping.{total, widths, widths-total}
 use Rattle.picture.specs.Conditions.{composed, replacement, PlainComposed, Drawable}
 use Rattle.picture.specs.Picture.{Cell}
 use Rattle.picture.specs.Picture.Window.{SomeWidth, total-append, columns, columns-append}

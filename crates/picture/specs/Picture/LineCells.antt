@@ -18,7 +18,7 @@ use Rattle.drawing.specs.Attributes.{Style, file, styled, applyAll, linked}
 use Rattle.drawing.specs.Clip.{spaces}
 use Rattle.drawing.specs.Marks.{byteMark, scalarMark, lineDrawn}
 use Rattle.drawing.specs.Draw.{State, textStyle}
-use Rattle.picture.specs.Columns.Wrapping.{widths}
+use Rattle.columns.specs.Columns.Wrapping.{widths}
 use Rattle.picture.specs.Picture.{Cell, cell}
 use Rattle.picture.specs.Picture.Window.{columns, inside}
 

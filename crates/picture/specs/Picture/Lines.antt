@@ -26,7 +26,7 @@ use Rattle.spans.specs.Calls.Laws.{read-passed}
 use Rattle.rows.specs.Marks.{drawnColumns}
 use Rattle.rows.specs.Marks.Laws.{mark-small}
 use Rattle.rows.specs.Calls.Reading.{unmatched-spans}
-use Rattle.picture.specs.Columns.{spanColumns, lastColumnFrom}
+use Rattle.columns.specs.Columns.{spanColumns, lastColumnFrom}
 use Rattle.picture.specs.Conditions.{Unshared, UnsharedPiece, UnsharedLine, Drawable}
 use Rattle.picture.specs.Picture.{RowsShowLines}
 use Rattle.picture.specs.Picture.TextSpans.{TextClusters, run-texts}

@@ -15,8 +15,8 @@ use Rattle.rows.specs.Marks.{drawnColumns}
 use Rattle.drawing.specs.Marks.{lineDrawn}
 use Rattle.drawing.specs.Attributes.{styled}
 use Rattle.drawing.specs.Draw.{textStyle}
-use Rattle.picture.specs.Columns.{spanColumns}
-use Rattle.picture.specs.Columns.Wrapping.{total, EachEnd, widths, TextEnds, Stops}
+use Rattle.columns.specs.Columns.{spanColumns}
+use Rattle.columns.specs.Columns.Wrapping.{total, EachEnd, widths, TextEnds, Stops}
 use Rattle.picture.specs.Conditions.{PlainComposed, WordBreakClasses, Drawable}
 use Rattle.picture.specs.Picture.{Cell}
 use Rattle.picture.specs.Picture.Window.{columns, columns-append, Outside, outside-before, outside-behind, outside-append}

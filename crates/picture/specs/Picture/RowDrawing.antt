@@ -14,7 +14,7 @@ use Rattle.drawing.specs.declared.attributes.Attributes.{Attributes}
 use Rattle.drawing.specs.Attributes.{plain, styled}
 use Rattle.drawing.specs.Change.{whole}
 use Rattle.drawing.specs.Draw.{State, initial, renderSpans, endOf, startOf, closeRows, renderWrapped}
-use Rattle.picture.specs.Columns.Wrapping.{Run, last, next}
+use Rattle.columns.specs.Columns.Wrapping.{Run, last, next}
 use Rattle.picture.specs.Picture.{Cell, shownFrom, shown, rowsShown}
 use Rattle.picture.specs.Picture.Window.{inside, inside-parts, SomeWidth}
 use Rattle.picture.specs.Picture.AttributesInForce.{InForce}

@@ -9,7 +9,7 @@ use borrow.Author.Tests.{leb-true, leb-false, le-leb, lt-leb, lt-ltb, le-ltb}
 use Rattle.text.specs.Tests.{cases}
 use Rattle.text.specs.Each.{All, all-cons}
 use Rattle.spans.specs.Spans.Laws.{map-append}
-use Rattle.picture.specs.Columns.Wrapping.{total}
+use Rattle.columns.specs.Columns.Wrapping.{total}
 
 within-window : (o l c : ℕ) → o ≤ c → c < l → leb o c && ltb c l ≡ true
 within-window o l c h k = rw (le-leb o c h, lt-ltb c l k)

@@ -24,7 +24,7 @@ use Rattle.drawing.specs.Marks.{byteMark, scalarMark, lineDrawn}
 use Rattle.drawing.specs.Change as change
 use Rattle.drawing.specs.Change.{Change, clipped, whole}
 use Rattle.drawing.specs.Draw.{State, Sent, sent, style, move, meets, windowed, writeTruncated, writeMarks, renderSequence, textStyle, renderSpan, renderSpans}
-use Rattle.picture.specs.Columns.Wrapping.{total, widths, widths-total}
+use Rattle.columns.specs.Columns.Wrapping.{total, widths, widths-total}
 use Rattle.picture.specs.Picture.{Cell, cell, shownFrom}
 use Rattle.picture.specs.Picture.Window.{columns, inside, columns-append, inside-append, inside-right, inside-left, SomeWidth, Outside, outside-parts}
 use Rattle.picture.specs.Picture.Clipping.{clip-inside, inside-clusters}

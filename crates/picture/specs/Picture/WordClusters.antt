@@ -16,7 +16,7 @@ use Rattle.text.specs.Cluster.{Context, start, after, classOf, context, joins, 
 use Rattle.text.specs.Cluster.Laws.{clusters-nil, clusters-first}
 use Rattle.rows.specs.Words.{Word, aWord, words}
 use Rattle.rows.specs.Words.Laws.{belongs, leading, beyond, leading-beyond, wordFrom, restFrom, firstWord, restWords, words-first}
-use Rattle.picture.specs.Columns.Wrapping.{total, EachEnd, widths, widths-total, behind, WordEnds, TextEnds}
+use Rattle.columns.specs.Columns.Wrapping.{total, EachEnd, widths, widths-total, behind, WordEnds, TextEnds}
 use Rattle.picture.specs.Conditions.{wordBreak, WordBreakClasses, Unshared}
 use Rattle.picture.specs.Picture.AppendedClusters.{appendClusters, clusters-append, same-after}
 

@@ -10,7 +10,7 @@ use mathlib.Core.Option.{none, some}
 use lib.ListN.{length, drop, set, getD, length-append, length-drop, length-reverse}
 use lib.Seq.{set-append-seam, drop-cons}
 use lib.Dec.{eqb, ltb}
-use borrow.Author.Tests.{lt-ltb, le-ltb, eq-eqb, ne-eqb, ltb-true, ltb-false}
+use borrow.Author.Tests.{lt-ltb, le-ltb, eq-eqb, ne-eqb, eqb-true, eqb-false, ltb-true, ltb-false}
 use Rattle.text.specs.Tests.{cases}
 use Rattle.text.specs.Each.{all-nil, all-cons}
 use Rattle.text.specs.Utf8.{Scalar}
@@ -21,7 +21,7 @@ use Rattle.spans.specs.Spans.{Content, text, control, invalid, unprintable, esc
 use Rattle.spans.specs.Spans.ContentLaw.{textIn, contentIn, contentOf}
 use Rattle.rows.specs.Rows.{Row, Wrap, wrap, unbroken, split, splits, splitText, lastRow, wrapped, rows}
 use Rattle.rows.specs.Calls.{modeOf, numbersOf}
-use Rattle.rows.specs.Wrap.{nextCount, countedRow, pairAt, RowList, rowList, withRow, withRows, wrapRows, on, recordIn, wordMode, countOf, spanOf, spansOf, lastRowList, beginning}
+use Rattle.rows.specs.Wrap.{nextCount, countedRow, pairAt, RowList, rowList, withRow, withRows, wrapRows, on, recordIn, wordMode, countOf, spanOf, spansOf, rowsOf, lastRowList, beginning}
 use Rattle.rows.specs.declared.wrap.RowCounts.{RowCounts}
 
 -- ---- what a record does is what its span does
@@ -86,27 +86,42 @@ last-written k z mode h s p (r ∷ rs) =
 abbrev none-yet : List ℕ → ℕ → ℕ → RowList
 none-yet l first last = rowList l (beginning first last .tally)
 
-module _ (P : Profile) (width : ℕ) (line l : List ℕ) (first last : ℕ) (ss : List Span) where
-  wrapped-written : (mode : ℕ) → (mode ≢ 0) → HasContents line ss
-      → lastRowList mode (on (spansOf P width mode line (records ss)) (wrapRows l (beginning first last))) ≡ withRows (none-yet l first last) (reverse (wrapped P (countOf mode) width (wordMode mode) ss))
-  unfolding on wrapped
-  wrapped-written mode z a =
-      let t : Wrap = splits P (countOf mode) width (wordMode mode) (wrap [] 0 0) ss in
-      ap (λ (x : Wrap). lastRowList mode (record { rows = withRows (none-yet l first last) (x .rows); start = x .start; position = x .position })) (records-split P width mode line z a (wrap [] 0 0))
-      ∙ last-written (none-yet l first last) refl mode z (t .start) (t .position) (t .rows)
-      ∙ ap (withRows (none-yet l first last)) (sym (reverse-reverse (lastRow (t .start) (t .position) (t .rows))))
+module _ (P : Profile) (width : ℕ) (line : List ℕ) where
+  module _ (l : List ℕ) (first last mode : ℕ) (rs : List Record) where
+    unwrapped-pushed : mode ≡ 0 → lastRowList mode (on (spansOf P width mode line rs) (wrapRows l (beginning first last))) ≡ withRows (none-yet l first last) (rowsOf P width mode line rs)
+    unfolding on lastRowList withRows rowsOf
+    unwrapped-pushed z = rw (z, records-unwrapped P width 0 line refl rs (wrap [] 0 0)) refl
 
-  -- the rows that the spans of a line push are its rows
-  pub rows-written : (mode : ℕ) → mode ≤ 4 → HasContents line ss
-      → lastRowList mode (on (spansOf P width mode line (records ss)) (wrapRows l (beginning first last))) ≡ withRows (none-yet l first last) (reverse (rows P width (modeOf mode) ss))
-  unfolding rows modeOf on lastRowList withRows wordMode countOf
-  rows-written zero h a =
-      ap (λ (x : Wrap). lastRowList 0 (record { rows = withRows (none-yet l first last) (x .rows); start = x .start; position = x .position })) (records-unwrapped P width 0 line refl (records ss) (wrap [] 0 0))
-  rows-written (suc zero) h a = wrapped-written 1 (λ e. omega arith) a
-  rows-written (suc (suc zero)) h a = wrapped-written 2 (λ e. omega arith) a
-  rows-written (suc (suc (suc zero))) h a = wrapped-written 3 (λ e. omega arith) a
-  rows-written (suc (suc (suc (suc zero)))) h a = wrapped-written 4 (λ e. omega arith) a
-  rows-written (suc (suc (suc (suc (suc n))))) h a = absurd (omega arith)
+    -- what records do is to push their rows
+    pub rows-pushed : lastRowList mode (on (spansOf P width mode line rs) (wrapRows l (beginning first last))) ≡ withRows (none-yet l first last) (rowsOf P width mode line rs)
+    unfolding on rowsOf
+    rows-pushed =
+        let t : Wrap = spansOf P width mode line rs (wrap [] 0 0) in
+        cases (eqb mode 0)
+        (λ e. unwrapped-pushed (eqb-true mode 0 e))
+        (λ e. rw e (last-written (none-yet l first last) refl mode (eqb-false mode 0 e) (t .start) (t .position) (t .rows)))
+
+  -- the rows of the records of a line's spans are its rows
+  module _ (ss : List Span) (a : HasContents line ss) where
+    wrapped-rows : (mode : ℕ) → (mode ≢ 0) → rowsOf P width mode line (records ss) ≡ reverse (wrapped P (countOf mode) width (wordMode mode) ss)
+    unfolding rowsOf wrapped
+    wrapped-rows mode z =
+        let t : Wrap = splits P (countOf mode) width (wordMode mode) (wrap [] 0 0) ss in
+        rw (ne-eqb mode 0 z, records-split P width mode line z a (wrap [] 0 0)) (sym (reverse-reverse (lastRow (t .start) (t .position) (t .rows))))
+
+    pub rows-of-spans : (mode : ℕ) → mode ≤ 4 → rowsOf P width mode line (records ss) ≡ reverse (rows P width (modeOf mode) ss)
+    unfolding rows modeOf rowsOf wordMode countOf
+    rows-of-spans zero h = refl
+    rows-of-spans (suc zero) h = wrapped-rows 1 (λ e. omega arith)
+    rows-of-spans (suc (suc zero)) h = wrapped-rows 2 (λ e. omega arith)
+    rows-of-spans (suc (suc (suc zero))) h = wrapped-rows 3 (λ e. omega arith)
+    rows-of-spans (suc (suc (suc (suc zero)))) h = wrapped-rows 4 (λ e. omega arith)
+    rows-of-spans (suc (suc (suc (suc (suc n))))) h = absurd (omega arith)
+
+-- the rows that the spans of a line push are its rows
+pub rows-written : (P : Profile) (width : ℕ) (line l : List ℕ) (first last : ℕ) (ss : List Span) (mode : ℕ) → mode ≤ 4 → HasContents line ss
+    → lastRowList mode (on (spansOf P width mode line (records ss)) (wrapRows l (beginning first last))) ≡ withRows (none-yet l first last) (reverse (rows P width (modeOf mode) ss))
+rows-written P width line l first last ss mode h a = rows-pushed P width line l first last mode (records ss) ∙ ap (withRows (none-yet l first last)) (rows-of-spans P width line ss a mode h)
 
 -- ---- the list of pairs
 

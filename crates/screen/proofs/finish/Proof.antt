@@ -1,4 +1,4 @@
-use Rattle.screen.proofs.RowCall.{finish-malformed, finish-passed, finish-short, finish-whole}
+use Rattle.screen.proofs.RowCall.{finish-malformed, finish-passed, finish-row}
 use borrow.Author.Needs.{needs}
 use Rattle.screen.proofs.finish.Statement.{statement}
 use Rattle.screen.proofs.finish.Tie as tie
@@ -24,23 +24,14 @@ returns-2 c = search finish-passed
 write-row-requires : tie.Need-write-row-requires
 write-row-requires c κs = search needs
 
-refuse-requires-3 : tie.Need-refuse-requires-3
-refuse-requires-3 c κs = search needs
+answer-bytes-requires : tie.Need-answer-bytes-requires
+answer-bytes-requires c κs = search needs
 
 same-length-3 : tie.Need-same-length-3
 same-length-3 c = search needs
 
 returns-3 : tie.Need-returns-3
-returns-3 c = search finish-short
-
-clear-bytes-requires : tie.Need-clear-bytes-requires
-clear-bytes-requires c κs = search needs
-
-same-length-4 : tie.Need-same-length-4
-same-length-4 c = search needs
-
-returns-4 : tie.Need-returns-4
-returns-4 c = search finish-whole
+returns-3 c = search finish-row
 
 pub finish-spec : {M : Type 1} → statement M
 finish-spec =
@@ -53,9 +44,6 @@ finish-spec =
     same-length-2
     returns-2
     write-row-requires
-    refuse-requires-3
+    answer-bytes-requires
     same-length-3
-    returns-3
-    clear-bytes-requires
-    same-length-4
-    returns-4)
+    returns-3)

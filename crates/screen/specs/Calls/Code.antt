@@ -3,24 +3,32 @@ use Prim.Native.Nat.{ℕ, _-_}
 use mathlib.Core.Bool.{cond}
 use mathlib.Core.Option.{Option, none, some}
 use mathlib.Core.List.{List, _++_}
-use lib.ListN.{length, replicate}
+use lib.ListN.{length, take, replicate}
 use lib.Dec.{leb}
-use Rattle.text.specs.declared.Answer.{Answer}
+use Rattle.text.specs.Calls.{Written}
 use Rattle.screen.specs.Row.{Screen, rowBytes}
-use Rattle.screen.specs.Calls.{Shown}
 pub mod Laws
 
-abbrev pub shown : Answer → List ℕ → Shown
-shown r l = record { number = r .number; count = r .count; out = l }
-
-abbrev pub refusal : ℕ → ℕ → Shown
+abbrev pub refusal : ℕ → ℕ → Written
 refusal r room = record { number = r; count = 0; out = replicate room 0 }
 
--- a row's bytes, where there is room for them
-abbrev pub rowShown : List ℕ → ℕ → Shown
-rowShown row room = cond (leb (length row) room) (record { number = 0; count = length row; out = row ++ replicate (room - length row) 0 }) (refusal 9 room)
+-- bytes, and zeros after them
+abbrev pub accepted : List ℕ → ℕ → Written
+accepted bytes room = record { number = 0; count = length bytes; out = bytes ++ replicate (room - length bytes) 0 }
 
-unfoldable pub shownOf : Option Screen → ℕ → Shown
+-- bytes, where there is room for them
+abbrev pub inRoom : List ℕ → ℕ → Written
+inRoom bytes room = cond (leb (length bytes) room) (accepted bytes room) (refusal 9 room)
+
+-- the first n bytes of a buffer, where it has them all
+abbrev pub kept : List ℕ → ℕ → Written
+kept l n = cond (leb n (length l)) (record { number = 0; count = n; out = take n l ++ replicate (length l - n) 0 }) (refusal 9 (length l))
+
+-- what an accepted call leaves
+abbrev pub leftBy : Written → List ℕ
+leftBy w = take (w .count) (w .out)
+
+unfoldable pub shownOf : Option Screen → ℕ → Written
 unfolding rowBytes
 shownOf none room = refusal 10 room
-shownOf (some t) room = cond (t .passed) (refusal 11 room) (rowShown (rowBytes (t .cells)) room)
+shownOf (some t) room = cond (t .passed) (refusal 11 room) (inRoom (rowBytes (t .cells)) room)

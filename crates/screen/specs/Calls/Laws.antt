@@ -32,7 +32,8 @@ use Rattle.rows.specs.Calls.{modeOf}
 use Rattle.drawing.specs.Change.{Change, encode}
 use Rattle.drawing.specs.Draw.{render, renderWrapped}
 use Rattle.drawing.specs.Calls.{Drawn, drawing, windowQuestions, rowQuestions, windowCall, rowCall}
-use Rattle.drawing.specs.Calls.Laws.{drawing-unread}
+use Rattle.drawing.specs.Calls.Laws.{drawing-unknown, drawing-unread}
+use Rattle.drawing.specs.Reader.{seenBy}
 use Rattle.screen.specs.Records.{records}
 use Rattle.screen.specs.Row.{rowBytes}
 use Rattle.screen.specs.Calls.{screenOf, screenCall}
@@ -43,6 +44,7 @@ use Rattle.screen.specs.Drawn.Spans.{read-fit}
 use Rattle.screen.specs.Drawn.WellFormed.{DrawnList, list-records, never-malformed}
 use Rattle.screen.specs.Drawn.Cursor.{list-passed}
 use Rattle.screen.specs.Drawn.Columns.{window-list, rows-list}
+use Rattle.screen.specs.Drawn.Readers.{seen-list, seen-columns}
 
 -- a change list drawn into n columns, of which its texts take c, in a row of W columns
 pub record InRow (P : Profile) (n c : ℕ) (list : List ℕ) : Type 0 where
@@ -56,27 +58,27 @@ abbrev pub listOf : Drawn → List ℕ
 listOf d = take (d .count) (d .list)
 
 module _ (P : Profile) where
-  -- a window drawing of any converted line
+  -- a window drawing of any converted line, for any reader
   abbrev pub WindowInRow : Type 0
-  WindowInRow = (s : List ℕ) → Line s → (start end : ℕ) (current : Option ℕ) (matches : List ℕ)
-      → let cs : List Change = render P start end current (read P matches s) in InRow P (end - start) (columns P cs) (encode cs)
+  WindowInRow = (s : List ℕ) → Line s → (reader start end : ℕ) (current : Option ℕ) (matches : List ℕ)
+      → let cs : List Change = render P start end current (read P matches s) in InRow P (end - start) (columns P cs) (encode (seenBy reader cs))
 
   -- a row drawing
   abbrev pub RowsInRow : Type 0
-  RowsInRow = (s : List ℕ) → Line s → (first count width : ℕ) (mode : Mode) (current : Option ℕ) (matches : List ℕ)
+  RowsInRow = (s : List ℕ) → Line s → (reader first count width : ℕ) (mode : Mode) (current : Option ℕ) (matches : List ℕ)
       → let ss : List Span = read P matches s in
-      let cs : List Change = renderWrapped P first count width mode current ss in InRow P (rowColumns P first count width mode ss) (columns P cs) (encode cs)
+      let cs : List Change = renderWrapped P first count width mode current ss in InRow P (rowColumns P first count width mode ss) (columns P cs) (encode (seenBy reader cs))
 
   -- what an accepted `draw_window` leaves, of any line of bytes
   abbrev pub WindowCallInRow : Type 0
-  WindowCallInRow = (line : List ℕ) → All Byte line → (conv places room start end : ℕ) (current : Option ℕ) (matches : List ℕ) → windowCall P conv places room start end current matches line .number ≡ 0
-      → InRow P (end - start) (columns P (render P start end current (read P matches (convert P line)))) (listOf (windowCall P conv places room start end current matches line))
+  WindowCallInRow = (line : List ℕ) → All Byte line → (reader conv places room start end : ℕ) (current : Option ℕ) (matches : List ℕ) → windowCall P reader conv places room start end current matches line .number ≡ 0
+      → InRow P (end - start) (columns P (render P start end current (read P matches (convert P line)))) (listOf (windowCall P reader conv places room start end current matches line))
 
   -- what an accepted `draw_row` leaves
   abbrev pub RowCallInRow : Type 0
-  RowCallInRow = (line : List ℕ) → All Byte line → (conv places room first count width mode : ℕ) (current : Option ℕ) (matches : List ℕ) → rowCall P conv places room first count width mode current matches line .number ≡ 0
+  RowCallInRow = (line : List ℕ) → All Byte line → (reader conv places room first count width mode : ℕ) (current : Option ℕ) (matches : List ℕ) → rowCall P reader conv places room first count width mode current matches line .number ≡ 0
       → let ss : List Span = read P matches (convert P line) in
-      InRow P (rowColumns P first count width (modeOf mode) ss) (columns P (renderWrapped P first count width (modeOf mode) current ss)) (listOf (rowCall P conv places room first count width mode current matches line))
+      InRow P (rowColumns P first count width (modeOf mode) ss) (columns P (renderWrapped P first count width (modeOf mode) current ss)) (listOf (rowCall P reader conv places room first count width mode current matches line))
 
 -- ---- questions 10 and 11
 
@@ -123,34 +125,42 @@ module _ (P : Profile) (H : ProfileLaws P) (cs : List Change) (d : DrawnList P c
 -- ---- lists that drawings send
 
 module _ (P : Profile) (H : ProfileLaws P) where
+  seen-in-row : (reader : ℕ) (cs : List Change) → DrawnList P cs → (n : ℕ) → columns P cs ≤ max 1 n → InRow P n (columns P cs) (encode (seenBy reader cs))
+  seen-in-row reader cs d n c =
+      let e = seen-columns P reader cs in
+      subst (λ (k : ℕ). InRow P n k (encode (seenBy reader cs))) e (in-row P H (seenBy reader cs) (seen-list P reader d) n (rw e c))
+
   pub window-in-row : WindowInRow P
-  window-in-row s l start end current matches = let w = window-list P H start end current (read-fit P s l matches) in in-row P H _ (w .list) (end - start) (w .few)
+  window-in-row s l reader start end current matches = let w = window-list P H start end current (read-fit P s l matches) in seen-in-row reader _ (w .list) (end - start) (w .few)
 
   pub rows-in-row : RowsInRow P
-  rows-in-row s l first count width mode current matches =
+  rows-in-row s l reader first count width mode current matches =
       let w = rows-list P H first count width mode current (read-fit P s l matches) in
-      in-row P H _ (w .list) (rowColumns P first count width mode (read P matches s)) (omega (arith, w .few))
+      seen-in-row reader _ (w .list) (rowColumns P first count width mode (read P matches s)) (omega (arith, w .few))
 
 -- ---- lists that accepted drawings leave
 
 left-list : (r room : ℕ) (list : List ℕ) → r ≡ 0 → take (counted (length list) r) (lent 0 room list r) ≡ list
 left-list r room list e = rw (e, counted-accepted (length list), lent-accepted 0 room list) (take-append-seam list (replicate (room - length list) 0))
 
-module _ (P : Profile) (conv places room : ℕ) (matches : List ℕ) (qs : List Question) (draw : List Span → List Change) (line : List ℕ) where
+module _ (P : Profile) (reader conv places room : ℕ) (matches : List ℕ) (qs : List Question) (draw : List Span → List Change) (line : List ℕ) where
   abbrev called : Drawn
-  called = drawing P conv places room matches qs draw line
+  called = drawing P reader conv places room matches qs draw line
 
   called-list : called .number ≡ 0 → listOf called ≡ encode (draw (read P matches (convert P line)))
   unfolding drawing
   called-list e = left-list _ room (encode (draw (read P matches (convert P line)))) e
 
-  -- reading was accepted
+  -- the reader is known, and reading was accepted
+  called-known : called .number ≡ 0 → leb reader 1 ≡ true
+  called-known e = cases (leb reader 1) (λ k. k) (λ k. absurd (omega (arith, sym (ap (λ (d : Drawn). d .number) (drawing-unknown P reader conv places room matches qs draw line k)) ∙ e)))
+
   called-read : called .number ≡ 0 → readCall P conv places matches line .number ≡ 0
   called-read e = go (readCall P conv places matches line .number) refl
     where
       go : (n : ℕ) → readCall P conv places matches line .number ≡ n → readCall P conv places matches line .number ≡ 0
       go zero q = q
-      go (suc r) q = absurd (omega (arith, sym (ap (λ (d : Drawn). d .number) (drawing-unread P conv places room matches qs draw line r q)) ∙ e))
+      go (suc r) q = absurd (omega (arith, sym (ap (λ (d : Drawn). d .number) (drawing-unread P reader conv places room matches qs draw line (called-known e) r q)) ∙ e))
 
   called-line : called .number ≡ 0 → All Byte line → Line (convert P line)
   called-line e a = record { bytes = converted-bytes P line a; short = omega (arith, convert-size P line, read-passed P conv places matches line (called-read e) .short) }
@@ -158,19 +168,19 @@ module _ (P : Profile) (conv places room : ℕ) (matches : List ℕ) (qs : List 
 module _ (P : Profile) (H : ProfileLaws P) where
   pub window-call-in-row : WindowCallInRow P
   unfolding windowCall
-  window-call-in-row line bytes conv places room start end current matches e =
+  window-call-in-row line bytes reader conv places room start end current matches e =
       let qs : List Question = windowQuestions start end in
-      let draw : List Span → List Change = render P start end current in
-      subst (InRow P (end - start) (columns P (draw (read P matches (convert P line))))) (sym (called-list P conv places room matches qs draw line e))
-      (window-in-row P H (convert P line) (called-line P conv places room matches qs draw line e bytes) start end current matches)
+      let draw : List Span → List Change = λ ss. seenBy reader (render P start end current ss) in
+      subst (InRow P (end - start) (columns P (render P start end current (read P matches (convert P line))))) (sym (called-list P reader conv places room matches qs draw line e))
+      (window-in-row P H (convert P line) (called-line P reader conv places room matches qs draw line e bytes) reader start end current matches)
 
   pub row-call-in-row : RowCallInRow P
   unfolding rowCall
-  row-call-in-row line bytes conv places room first count width mode current matches e =
+  row-call-in-row line bytes reader conv places room first count width mode current matches e =
       let qs : List Question = rowQuestions first count width mode in
-      let draw : List Span → List Change = renderWrapped P first count width (modeOf mode) current in
-      subst (InRow P _ (columns P (draw (read P matches (convert P line))))) (sym (called-list P conv places room matches qs draw line e))
-      (rows-in-row P H (convert P line) (called-line P conv places room matches qs draw line e bytes) first count width (modeOf mode) current matches)
+      let draw : List Span → List Change = λ ss. seenBy reader (renderWrapped P first count width (modeOf mode) current ss) in
+      subst (InRow P _ (columns P (renderWrapped P first count width (modeOf mode) current (read P matches (convert P line))))) (sym (called-list P reader conv places room matches qs draw line e))
+      (rows-in-row P H (convert P line) (called-line P reader conv places room matches qs draw line e bytes) reader first count width (modeOf mode) current matches)
 
 -- ---- document 01's profile
 

@@ -23,9 +23,8 @@ use Rattle.drawing.specs.Attributes.{plain, arrows}
 use Rattle.drawing.specs.Change as change
 use Rattle.drawing.specs.Change.{Change, allAttributes, clearToEnd, cursorRight, colorBytes, flag, flagByte, attributeBytes, kindOf, body, encode}
 use Rattle.screen.specs.Records.{records}
-use Rattle.screen.specs.Records.Laws.{Short, recordOf, records-encode}
-use Rattle.screen.specs.WellFormed.{color, fields, utf8, ofKind, wellFormed, clustersIn, isBackspace, wide, wideTexts}
-use Rattle.screen.specs.Row.{bodySize}
+use Rattle.screen.specs.Records.Laws.{Short, recordOf, records-changes}
+use Rattle.screen.specs.WellFormed.{color, fields, utf8, bodySize, bodySizes, ofKind, wellFormed, clustersIn, isBackspace, wide, wideTexts}
 use Rattle.text.specs.Cluster.Parts.{Wide}
 use Rattle.screen.specs.Drawn.{ProfileLaws}
 use Rattle.screen.specs.Drawn.Texts.{Text, printable-one}
@@ -98,7 +97,7 @@ module _ (P : Profile) where
 
   record WellFormedChange (c : Change) : Type 0 where
     short : Short c
-    kind : ofKind (λ n. eqb n bodySize) (kindOf c) (body c) ≡ true
+    kind : ofKind (bodySizes false) (kindOf c) (body c) ≡ true
     wide : cond (eqb (kindOf c) 1) (wide P (clustersIn P (body c))) true ≡ true
 
   -- a change that a drawing sends, a right arrow's apart
@@ -141,12 +140,12 @@ module _ (P : Profile) where
         (all-cons (sendable-formed (arrow-sendable 0x3E refl)) (all-cons (sendable-formed (attributes plain-limits)) all-nil))))
 
     pub list-records : {cs : List Change} → DrawnList cs → records 4 (encode cs) ≡ map recordOf cs
-    list-records d = records-encode (all-map (λ c w. w .short) (list-formed d))
+    list-records d = records-changes (all-map (λ c w. w .short) (list-formed d))
 
-    formed : {cs : List Change} → All WellFormedChange cs → (wellFormed (λ n. eqb n bodySize) (map recordOf cs) ≡ true) × (wideTexts P (map recordOf cs) ≡ true)
+    formed : {cs : List Change} → All WellFormedChange cs → (wellFormed (bodySizes false) (map recordOf cs) ≡ true) × (wideTexts P (map recordOf cs) ≡ true)
     unfolding wellFormed wideTexts
     formed all-nil = (refl, refl)
     formed (all-cons w a) = let f = formed a in (rw (w .kind, f .0), rw (w .wide, f .1))
 
-    pub never-malformed : {cs : List Change} → DrawnList cs → (wellFormed (λ n. eqb n bodySize) (records 4 (encode cs)) && wideTexts P (records 4 (encode cs))) ≡ true
+    pub never-malformed : {cs : List Change} → DrawnList cs → (wellFormed (bodySizes false) (records 4 (encode cs)) && wideTexts P (records 4 (encode cs))) ≡ true
     never-malformed d = let f = formed (list-formed d) in rw (list-records d, f .0, f .1)

@@ -4,7 +4,8 @@ use mathlib.Core.Bool.{cond}
 use mathlib.Core.List.{List, [], _∷_}
 use lib.ListN.{length, take, drop, getD, set}
 use lib.Dec.{eqb}
-use Rattle.screen.specs.Row.{Cell, bodySize, plain, withBackground, blank, cell, isLater, allLater}
+use Rattle.screen.specs.WellFormed.{bodySize}
+use Rattle.screen.specs.Row.{Cell, plain, withBackground, blank, cell, isLater, allLater}
 pub mod Laws
 
 -- the part of a list that begins at a place

@@ -18,9 +18,9 @@ use Rattle.text.specs.Cluster.{clusters}
 use Rattle.text.specs.Cluster.Laws.{clusters-nil}
 use Rattle.text.specs.Utf8.Code.Laws.{run-nil}
 use Rattle.screen.specs.Records.{Record}
-use Rattle.screen.specs.WellFormed.{color, fields, ofKind, utf8, wide, clustersIn, isBackspace, wellFormed, wideTexts}
-use Rattle.screen.specs.Row.{Screen, withAttributes, clear, right, onCluster, onClusters, onRecord, onRecords}
-use Rattle.screen.specs.Screen.{formed, clusterOn, textOn, recordOn, recordsOn, ofBodies}
+use Rattle.screen.specs.WellFormed.{bodySizes, ofKind, utf8, wide, clustersIn, isBackspace, wellFormed, wideTexts}
+use Rattle.screen.specs.Row.{Screen, onCluster, onClusters, onRecord, onRecords}
+use Rattle.screen.specs.Screen.{formed, clusterOn, textOn, recordOn, recordsOn}
 
 -- one change, then others
 formed-then : (a b : Bool) (f g : Screen → Screen) (o : Option Screen) → formed (a && b) (λ t. g (f t)) o ≡ formed b g (formed a f o)
@@ -102,8 +102,8 @@ module _ (P : Profile) (width : ℕ) where
   unfolding recordsOn recordOn wellFormed wideTexts onRecords
   records-step r rs o =
       let own : Bool = cond (eqb (r .kind) 1) (wide P (clustersIn P (r .body))) true in
-      ap (λ (b : Bool). formed b (λ t. onRecords P width (onRecord P width t r) rs) o) (shuffle (r .whole) (ofKind ofBodies (r .kind) (r .body)) (wellFormed ofBodies rs) own (wideTexts P rs))
-      ∙ formed-then (r .whole && (ofKind ofBodies (r .kind) (r .body) && own)) (wellFormed ofBodies rs && wideTexts P rs) (λ t. onRecord P width t r) (λ t. onRecords P width t rs) o
+      ap (λ (b : Bool). formed b (λ t. onRecords P width (onRecord P width t r) rs) o) (shuffle (r .whole) (ofKind (bodySizes false) (r .kind) (r .body)) (wellFormed (bodySizes false) rs) own (wideTexts P rs))
+      ∙ formed-then (r .whole && (ofKind (bodySizes false) (r .kind) (r .body) && own)) (wellFormed (bodySizes false) rs && wideTexts P rs) (λ t. onRecord P width t r) (λ t. onRecords P width t rs) o
 
   pub record-cut : (r : Record) → r .whole ≡ false → (o : Option Screen) → recordOn P width r o ≡ none
   unfolding recordOn
@@ -120,18 +120,8 @@ module _ (P : Profile) (width : ℕ) where
     unfolding recordOn textOn ofKind onRecord
     text-record = refl
 
-    pub attributes-record : recordOn P width (record { whole = true; kind = 2; body = b }) o ≡ formed (ofBodies (length b) && fields b) (λ t. withAttributes t b) o
-    unfolding recordOn ofKind onRecord
-    attributes-record = ap (λ (x : Bool). formed x (λ t. withAttributes t b) o) (and-true (ofBodies (length b) && fields b))
-
-    pub clear-record : recordOn P width (record { whole = true; kind = 3; body = b }) o ≡ formed (eqb (length b) 4 && color b 0) (λ t. clear width t b) o
-    unfolding recordOn ofKind onRecord
-    clear-record = ap (λ (x : Bool). formed x (λ t. clear width t b) o) (and-true (eqb (length b) 4 && color b 0))
-
-    pub other-record : (k : ℕ) → (k ≢ 1) → (k ≢ 2) → (k ≢ 3) → recordOn P width (record { whole = true; kind = k; body = b }) o ≡ formed (eqb k 4 && eqb (length b) 0) (right width) o
-    unfolding recordOn ofKind onRecord
-    other-record k n m l = rw (ne-eqb k 1 n, ne-eqb k 2 m, ne-eqb k 3 l) (ap (λ (x : Bool). formed x (right width) o) (and-true (cond (eqb k 4) (eqb (length b) 0) false) ∙ both (eqb k 4)))
-      where
-        both : (x : Bool) → cond x (eqb (length b) 0) false ≡ (x && eqb (length b) 0)
-        both true = refl
-        both false = refl
+    pub body-record : (k : ℕ) → (k ≢ 1) → let r : Record = record { whole = true; kind = k; body = b } in recordOn P width r o ≡ formed (ofKind (bodySizes false) k b) (λ t. onRecord P width t r) o
+    unfolding recordOn
+    body-record k n =
+        let e : cond (eqb k 1) (wide P (clustersIn P b)) true ≡ true = rw (ne-eqb k 1 n) refl in
+        ap (λ (x : Bool). formed x (λ t. onRecord P width t (record { whole = true; kind = k; body = b })) o) (ap (λ (x : Bool). ofKind (bodySizes false) k b && x) e ∙ and-true (ofKind (bodySizes false) k b))

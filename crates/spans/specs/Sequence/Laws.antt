@@ -1,16 +1,18 @@
 -- A sequence stays what it is, whatever follows it; it lies inside the bytes, which tell what it says.
-use mathlib.Core.Path.{_≡_, refl, sym, ap, _∙_}
+use mathlib.Core.Path.{_≡_, refl, sym, ap, ap₂, _∙_}
 use Prim.Native.Nat.{ℕ, suc, _+_, _-_, _*_, _≤_, _<_, zero-le, suc-le-suc}
+use native.Mathlib.Numerals.{add-one}
 use native.Mathlib.Omega.{arith}
 use native.Mathlib.Nat.{le-of-suc-le-suc, not-suc-le-zero}
 use mathlib.Core.Logic.{_⊎_, inl, inr}
 use mathlib.Core.Bool.{Bool, true, false, true≢false, not, cond, _&&_, _||_, and-false}
 use mathlib.Core.List.{List, [], _∷_, _++_}
-use lib.ListN.{length, drop, getD, length-drop, List·getD-append, List·getD-eq-default}
-use lib.Seq.{drop-append-le}
+use lib.ListN.{length, take, drop, getD, length-drop, take-append-drop, List·getD-append, List·getD-eq-default}
+use lib.Seq.{drop-append-le, drop-cons, drop-drop, length-take-le}
 use lib.Dec.{T, eqb, leb, ltb, eqb→eq, ltb→lt, nltb→le}
-use borrow.Author.Tests.{ltb-false, lt-leb, ne-eqb}
+use borrow.Author.Tests.{eqb-true, ltb-false, lt-leb, ne-eqb}
 use Rattle.text.specs.Tests.{cases, and-T, is-true, true-T, every, every-one}
+use Rattle.text.specs.Each.{All, all-nil, all-cons}
 use Rattle.text.specs.Segmentation.{neverJoinsBefore}
 use Rattle.spans.specs.Sgr.{digit, parameters, allowed, orders}
 use Rattle.spans.specs.declared.sgr.Sgr.{Sgr}
@@ -275,13 +277,71 @@ parse-last s q n e = rw e at (ends s)
 
 -- ---- what is found is told by the bytes
 
--- of the bytes behind ESC: the orders, and whether line drawing goes on; a URI begins inside the sequence
+-- BEL or ST
+pub data Terminator : List ℕ → Type 0 where
+  bel : Terminator (0x07 ∷ [])
+  st : Terminator (0x1B ∷ 0x5C ∷ [])
+
+-- behind the ESC: `] 8 ; id ; uri` and a terminator; place and length of the URI and length of the whole, counted from the ESC
+pub record Hyperlink (s : List ℕ) (a m n : ℕ) : Type 0 where
+  pub id : List ℕ
+  pub uri : List ℕ
+  pub end : List ℕ
+  pub rest : List ℕ
+  pub bytes : s ≡ 0x5D ∷ 0x38 ∷ 0x3B ∷ (id ++ 0x3B ∷ (uri ++ (end ++ rest)))
+  pub ids : All (λ (b : ℕ). idByte b ≡ true) id
+  pub terminator : Terminator end
+  pub place : a ≡ 5 + length id
+  pub size : m ≡ length uri
+  pub len : n ≡ 5 + length id + length uri + length end
+
+leading-all : (p : ℕ → Bool) (s : List ℕ) → All (λ (b : ℕ). p b ≡ true) (take (leading p s) s)
+unfolding leading
+leading-all p [] = all-nil
+leading-all p (b ∷ s) = cases (p b) (λ e. rw e (all-cons e (leading-all p s))) (λ e. rw e all-nil)
+
+byte-there : (s : List ℕ) (i v : ℕ) → T (eqb (getD s i 0) (suc v)) → drop i s ≡ suc v ∷ drop (i + 1) s
+byte-there s i v e = drop-cons s i 0 (byte-inside s i v e) ∙ ap₂ (λ (b j : ℕ). b ∷ drop j s) (eqb→eq (getD s i 0) (suc v) e) (sym (add-one i))
+
+-- what stands from i on: the bytes that pass, and what stands behind them
+past-split : (p : ℕ → Bool) (s : List ℕ) (i : ℕ) → drop i s ≡ take (leading p (drop i s)) (drop i s) ++ drop (past p s i) s
+unfolding past
+past-split p s i = sym (take-append-drop (leading p (drop i s)) (drop i s)) ∙ ap (λ (l : List ℕ). take (leading p (drop i s)) (drop i s) ++ l) (drop-drop (leading p (drop i s)) i s)
+
+link-form : (s : List ℕ) {end : List ℕ} (rest : List ℕ) (n : ℕ) → let i : ℕ = past idByte s 2 in let e : ℕ = past uriByte s (i + 1) in
+    T (eqb (getD s 0 0) 0x38 && (eqb (getD s 1 0) 0x3B && eqb (getD s i 0) 0x3B)) → Terminator end → drop e s ≡ end ++ rest → n ≡ 2 + e + length end → Hyperlink (0x5D ∷ s) (2 + (i + 1)) (e - (i + 1)) n
+unfolding past
+link-form s {end} rest n t f d k =
+    let i : ℕ = past idByte s 2 in
+    let e : ℕ = past uriByte s (i + 1) in
+    let q = and-T (eqb (getD s 0 0) 0x38) _ t in
+    let r = and-T (eqb (getD s 1 0) 0x3B) _ (q .1) in
+    let x : List ℕ = drop 2 s in
+    let y : List ℕ = drop (i + 1) s in
+    let l = length-take-le (leading idByte x) x (leading-le idByte x) in
+    let m = length-take-le (leading uriByte y) y (leading-le uriByte y) in
+    record {
+      id = take (leading idByte x) x;
+      uri = take (leading uriByte y) y;
+      end = end;
+      rest = rest;
+      bytes = ap (λ (v : List ℕ). 0x5D ∷ v) (byte-there s 0 0x37 (q .0) ∙ ap (λ (v : List ℕ). 0x38 ∷ v) (byte-there s 1 0x3A (r .0)
+          ∙ ap (λ (v : List ℕ). 0x3B ∷ v) (past-split idByte s 2 ∙ ap (λ (v : List ℕ). take (leading idByte x) x ++ v) (byte-there s i 0x3A (r .1)
+          ∙ ap (λ (v : List ℕ). 0x3B ∷ v) (past-split uriByte s (i + 1) ∙ ap (λ (v : List ℕ). take (leading uriByte y) y ++ v) d)))));
+      ids = leading-all idByte x;
+      terminator = f;
+      place = omega arith;
+      size = omega arith;
+      len = omega arith;
+    }
+
+-- of the bytes behind ESC: the orders, whether line drawing goes on, and the parts of a hyperlink
 unfoldable Told : List ℕ → Found → Type 0
 Told s (found (sgr os) n) = os ≡ orders (parameters 0 (drop 1 s))
 Told s (found (lineDrawing b) n) = b ≡ eqb (getD s 1 0) 0x30
 Told s (found eraseToEnd n) = Unit {0}
 Told s (found ignored n) = Unit {0}
-Told s (found (hyperlink a m) n) = a ≤ n
+Told s (found (hyperlink a m) n) = Hyperlink s a m n
 Told s missing = Unit {0}
 
 known-told : (s : List ℕ) (os : List Sgr) (n : ℕ) → os ≡ orders (parameters 0 (drop 1 s)) → Told s (ifKnown os n)
@@ -308,7 +368,11 @@ told (a ∷ s) =
     (λ g. cond-found Q (eqb (getD s 0 0) 0x30) _ _ (λ h. sym h) (λ h. cond-found Q (eqb (getD s 0 0) 0x42) _ _ (λ j. sym h) (λ j. tt)))
     (λ g. cond-found Q (eqb a 0x5D) _ _
     (λ h. cond-found Q (eqb (getD s 0 0) 0x38 && (eqb (getD s 1 0) 0x3B && eqb (getD s i 0) 0x3B)) _ _
-    (λ j. cond-found Q (eqb (getD s e 0) 0x07) _ _ (λ k. omega (arith, past-from uriByte s (i + 1))) (λ k. cond-found Q (eqb (getD s e 0) 0x1B && eqb (getD s (e + 1) 0) 0x5C) _ _ (λ l. omega (arith, past-from uriByte s (i + 1))) (λ l. tt)))
+    (λ j. cond-found Q (eqb (getD s e 0) 0x07) _ _ (λ k. rw (eqb-true a 0x5D h) (link-form s (drop (e + 1) s) (3 + e) (true-T j) bel (byte-there s e 0x06 (true-T k)) (omega arith)))
+    (λ k. cond-found Q (eqb (getD s e 0) 0x1B && eqb (getD s (e + 1) 0) 0x5C) _ _
+    (λ l. let q = and-T (eqb (getD s e 0) 0x1B) _ (true-T l) in
+    rw (eqb-true a 0x5D h) (link-form s (drop (e + 1 + 1) s) (4 + e) (true-T j) st (byte-there s e 0x1A (q .0) ∙ ap (λ (r : List ℕ). 0x1B ∷ r) (byte-there s (e + 1) 0x5B (q .1))) (omega arith)))
+    (λ l. tt)))
     (λ j. tt))
     (λ h. tt)))
 
@@ -322,10 +386,14 @@ pub parse-drawing : (s : List ℕ) (b : Bool) (n : ℕ) → parse s ≡ found (l
 unfolding Told
 parse-drawing s b n e = rw e at (told s)
 
--- the URI of a hyperlink begins inside the sequence
-pub parse-link : (s : List ℕ) (a m n : ℕ) → parse s ≡ found (hyperlink a m) n → a ≤ n
+-- a hyperlink's parts
+pub parse-hyperlink : (s : List ℕ) (a m n : ℕ) → parse s ≡ found (hyperlink a m) n → Hyperlink s a m n
 unfolding Told
-parse-link s a m n e = rw e at (told s)
+parse-hyperlink s a m n e = rw e at (told s)
+
+-- its URI begins inside the sequence
+pub parse-link : (s : List ℕ) (a m n : ℕ) → parse s ≡ found (hyperlink a m) n → a ≤ n
+parse-link s a m n e = let h = parse-hyperlink s a m n e in omega (arith, h .place, h .len)
 
 -- a sequence is found only where there are bytes
 pub parse-some : (s : List ℕ) (q : Sequence) (n : ℕ) → parse s ≡ found q n → 1 ≤ length s

@@ -19,7 +19,7 @@ use Rattle.text.specs.Class.{Profile}
 use Rattle.text.specs.Width.{widthOf}
 use Rattle.text.specs.Cluster.{clusters, joinAll}
 use Rattle.text.specs.Cluster.Laws.{clusters-all, join-bytes, join-cons}
-use Rattle.spans.specs.Sequence.{sgr, eraseToEnd, ignored, hyperlink, lineDrawing, Found, found, missing, parse}
+use Rattle.spans.specs.Sequence.{Sequence, sgr, eraseToEnd, ignored, hyperlink, lineDrawing, Found, found, missing, parse}
 use Rattle.spans.specs.Sequence.Laws.{parse-stable}
 use Rattle.spans.specs.Search.{EscapeRange, offsetFrom, escapes, readPart, readMatches, read}
 use Rattle.spans.specs.Spans.{Content, text, control, invalid, unprintable, escape, tab, crlf, lf, Span, span, ClusterKind, plain, special, escapeKind, controlKind, joinText, addText, addCluster, clusterKind, readFrom, readPieces, spansAt, spans, Record, aRecord, kindOf, matchOf, recordOf}
@@ -59,13 +59,26 @@ record TextAt (line : List ℕ) (p n : ℕ) (t : List Scalar) : Type 0 where
   len : n ≡ length (bytesOf t)
   valid : All Valid t
 
+-- a sequence at place p: an ESC, and behind it in its run the text that it was found in
+pub record SequenceAt (line : List ℕ) (p : ℕ) (e : Sequence) : Type 0 where
+  pub text : List Scalar
+  pub valid : All Valid text
+  pub len : ℕ
+  pub parses : parse (bytesOf text) ≡ found e len
+  pub rest : List ℕ
+  pub bytes : drop p line ≡ 0x1B ∷ (bytesOf text ++ rest)
+
+sequence-in : (line : List ℕ) (p : ℕ) (e : Sequence) → SequenceAt line p e → sequenceIn (parse (drop 1 (drop p line))) ≡ escape e
+unfolding sequenceIn
+sequence-in line p e h = rw (h .bytes, parse-stable (bytesOf (h .text)) (h .rest) e (h .len) (h .parses))
+
 -- the content c of n bytes at place p, in its own words
 unfoldable Stands : List ℕ → ℕ → ℕ → Content → Type 0
 Stands line p n (text m t) = TextAt line p n t
 Stands line p n (control b) = getD (drop p line) 0 0 ≡ b
 Stands line p n (invalid b) = getD (drop p line) 0 0 ≡ b
 Stands line p n (unprintable t) = TextAt line p n t
-Stands line p n (escape e) = sequenceIn (parse (drop 1 (drop p line))) ≡ escape e
+Stands line p n (escape e) = SequenceAt line p e
 Stands line p n tab = Unit {0}
 Stands line p n crlf = Unit {0}
 Stands line p n lf = Unit {0}
@@ -85,11 +98,11 @@ stands-content line p n (text (some k) t) h = ap (text (some k)) (text-in line p
 stands-content line p n (control b) h = ap control h
 stands-content line p n (invalid b) h = ap invalid h
 stands-content line p n (unprintable t) h = ap unprintable (text-in line p n t h)
-stands-content line p n (escape (sgr os)) h = h
-stands-content line p n (escape (hyperlink a m)) h = h
-stands-content line p n (escape (lineDrawing b)) h = h
-stands-content line p n (escape ignored) h = h
-stands-content line p n (escape eraseToEnd) h = h
+stands-content line p n (escape (sgr os)) h = sequence-in line p (sgr os) h
+stands-content line p n (escape (hyperlink a m)) h = sequence-in line p (hyperlink a m) h
+stands-content line p n (escape (lineDrawing b)) h = sequence-in line p (lineDrawing b) h
+stands-content line p n (escape ignored) h = sequence-in line p ignored h
+stands-content line p n (escape eraseToEnd) h = sequence-in line p eraseToEnd h
 stands-content line p n tab h = refl
 stands-content line p n crlf h = refl
 stands-content line p n lf h = refl
@@ -168,10 +181,10 @@ cond-stands line p true x y f g = f refl
 cond-stands line p false x y f g = g refl
 
 module _ (line : List ℕ) (p : ℕ) (after : List ℕ) where
-  escape-stands : (f : Found) (s : List ℕ) → parse s ≡ f → drop p line ≡ 0x1B ∷ (s ++ after) → KindStands line p (escapeKind f)
-  unfolding KindStands escapeKind Stands sequenceIn
-  escape-stands (found e n) s h d = rw (d, parse-stable s after e n h)
-  escape-stands missing s h d = rw d
+  escape-stands : (f : Found) (t : List Scalar) → parse (bytesOf t) ≡ f → All Valid t → drop p line ≡ 0x1B ∷ (bytesOf t ++ after) → KindStands line p (escapeKind f)
+  unfolding KindStands escapeKind Stands
+  escape-stands (found e n) t h v d = record { text = t; valid = v; len = n; parses = h; rest = after; bytes = d }
+  escape-stands missing t h v d = rw d
 
   control-stands : (g : List ℕ) (w : ClusterKind) → drop p line ≡ g ++ after → KindStands line p w → KindStands line p (controlKind g w)
   unfolding controlKind KindStands Stands
@@ -180,11 +193,12 @@ module _ (line : List ℕ) (p : ℕ) (after : List ℕ) where
   control-stands (b ∷ c ∷ g) w d h = h
 
 module _ (P : Profile) (line : List ℕ) where
-  kind-stands : (p : ℕ) (g : List Scalar) (s after : List ℕ) → drop p line ≡ bytesOf g ++ (s ++ after) → All Valid g → KindStands line p (clusterKind P g s)
+  kind-stands : (p : ℕ) (g t : List Scalar) (after : List ℕ) → drop p line ≡ bytesOf g ++ (bytesOf t ++ after) → All Valid g → All Valid t → KindStands line p (clusterKind P g (bytesOf t))
   unfolding clusterKind KindStands Stands
-  kind-stands p g s after d v =
+  kind-stands p g t after d v w =
+      let s : List ℕ = bytesOf t in
       cond-stands line p (reads g (0x1B ∷ [])) _ _
-      (λ e. escape-stands line p after (parse s) s refl (d ∙ ap (λ (l : List ℕ). l ++ (s ++ after)) (reads-is g (0x1B ∷ []) e)))
+      (λ e. escape-stands line p after (parse s) t refl w (d ∙ ap (λ (l : List ℕ). l ++ (s ++ after)) (reads-is g (0x1B ∷ []) e)))
       (λ e. cond-stands line p (reads g (0x0D ∷ 0x0A ∷ [])) _ _ (λ e. tt)
       (λ e. cond-stands line p (reads g (0x0A ∷ [])) _ _ (λ e. tt)
       (λ e. cond-stands line p (reads g (0x09 ∷ [])) _ _ (λ e. tt)
@@ -213,7 +227,7 @@ module _ (P : Profile) (line : List ℕ) where
       let w = all-split g (rw (join-cons g gs) at v) in
       let e : drop p line ≡ bytesOf g ++ (bytesOf (joinAll gs) ++ after) = d ∙ ap (λ (l : List ℕ). l ++ after) (join-bytes g gs) ∙ append-assoc (bytesOf g) (bytesOf (joinAll gs)) after in
       let f = behind p line (bytesOf g) (bytesOf (joinAll gs) ++ after) e in
-      addCluster-stands m p g (clusterKind P g (bytesOf (joinAll gs))) (λ k. readFrom P m (p + length (bytesOf g)) k gs) (e ∙ ap (λ (l : List ℕ). bytesOf g ++ l) (sym f)) (w .0) (kind-stands p g (bytesOf (joinAll gs)) after e (w .0))
+      addCluster-stands m p g (clusterKind P g (bytesOf (joinAll gs))) (λ k. readFrom P m (p + length (bytesOf g)) k gs) (e ∙ ap (λ (l : List ℕ). bytesOf g ++ l) (sym f)) (w .0) (kind-stands p g (joinAll gs) after e (w .0) (w .1))
       (readFrom-begins m (p + length (bytesOf g)) gs)
       (λ k. readFrom-stands m (p + length (bytesOf g)) k gs after f (w .1))
   readFrom-stands m p (suc k) (g ∷ gs) after d v =
@@ -269,3 +283,8 @@ content-front P matches s after = all-map (λ x h. stands-content (s ++ after) (
 -- and of the line itself
 pub content : (P : Profile) (matches line : List ℕ) → All (λ (s : Span). contentOf line (recordOf s) ≡ s .content) (read P matches line)
 content P matches line = rw (append-nil line) at (content-front P matches line [])
+
+-- a sequence that was read stands in its run
+pub sequences : (P : Profile) (line : List ℕ) → All (λ (s : Span). (e : Sequence) → s .content ≡ escape e → SequenceAt line (s .place) e) (spans P line)
+unfolding Stands spans
+sequences P line = all-map (λ s h e q. rw q at h) (spansAt-stands P line none 0 line [] (sym (append-nil line)))

@@ -2,14 +2,14 @@
 use mathlib.Core.Path.{_≡_, refl, ap, _∙_}
 use Prim.Native.Nat.{ℕ, zero, suc, _+_, _-_, _≤_}
 use native.Mathlib.Omega.{arith}
-use mathlib.Core.Bool.{Bool, true, false, cond, _||_}
+use mathlib.Core.Bool.{_||_}
 use mathlib.Core.List.{List, [], _∷_, _++_}
 use mathlib.Core.Option.{Option, none, some}
 use lib.ListN.{length, take, drop, length-append, length-drop, drop-of-length-le}
 use lib.Seq.{take-nil, length-take-le, take-all}
 use lib.Dec.{eqb, leb}
 use borrow.Author.Tests.{leb-true, leb-false}
-use Rattle.text.specs.Tests.{cases}
+use Rattle.text.specs.Tests.{by-case, cases}
 use Rattle.text.specs.Each.{All, all-nil, all-cons, all-append, all-map}
 use Rattle.text.specs.Utf8.{Scalar, decode, Piece, run, bytesOf, reads}
 use Rattle.text.specs.Utf8.Laws.{pieceBytes, pieces-damaged, pieces-run, reads-is, pieceBytes-runs, decodedBytes-decode}
@@ -18,7 +18,6 @@ use Rattle.text.specs.Class.{Profile}
 use Rattle.text.specs.Width.{widthOf}
 use Rattle.text.specs.Cluster.{clusters, joinAll}
 use Rattle.text.specs.Cluster.Laws.{clusters-all, join-length}
-use Rattle.text.specs.Cluster.Walk.{clusters-some}
 use Rattle.spans.specs.Sequence.{Found, found, missing, parse}
 use Rattle.spans.specs.Sequence.Laws.{parse-length}
 use Rattle.spans.specs.Search.{EscapeRange, offsetFrom, escapes, readPart, readMatches, read}
@@ -58,35 +57,32 @@ addText-inside m p q g (s ∷ ss) h (all-cons z a) = joinText-inside m p q g s (
 -- ---- clusters
 
 -- a cluster's span has at most n bytes
-unfoldable AtMost : ℕ → ClusterKind → Type 0
+unfoldable pub AtMost : ℕ → ClusterKind → Type 0
 AtMost n plain = Unit {0}
 AtMost n (special c k) = k ≤ n
-
-cond-most : (n : ℕ) (b : Bool) (x y : ClusterKind) → (b ≡ true → AtMost n x) → (b ≡ false → AtMost n y) → AtMost n (cond b x y)
-cond-most n true x y f g = f refl
-cond-most n false x y f g = g refl
 
 escape-most : (n : ℕ) (s : List ℕ) (f : Found) → parse s ≡ f → 1 + length s ≤ n → AtMost n (escapeKind f)
 unfolding AtMost escapeKind
 escape-most n s (found e k) q h = omega (arith, parse-length s e k q)
 escape-most n s missing q h = omega arith
 
-control-most : (n : ℕ) (g : List ℕ) (w : ClusterKind) → 1 ≤ n → AtMost n w → AtMost n (controlKind g w)
+control-most : (n : ℕ) (g : List ℕ) (w : ClusterKind) → length g ≤ n → AtMost n w → AtMost n (controlKind g w)
 unfolding controlKind AtMost
 control-most n [] w h z = z
-control-most n (b ∷ []) w h z = cond-most n (leb b 0x1F || eqb b 0x7F) (special (control b) 1) w (λ e. h) (λ e. z)
+control-most n (b ∷ []) w h z = by-case (AtMost n) (leb b 0x1F || eqb b 0x7F) (λ e. h) (λ e. z)
 control-most n (b ∷ c ∷ g) w h z = z
 
 module _ (P : Profile) where
-  kind-most : (g : List Scalar) (s : List ℕ) → 1 ≤ length (bytesOf g) → AtMost (length (bytesOf g) + length s) (clusterKind P g s)
+  pub kind-most : (g : List Scalar) (s : List ℕ) → AtMost (length (bytesOf g) + length s) (clusterKind P g s)
   unfolding clusterKind AtMost
-  kind-most g s h =
+  kind-most g s =
       let n : ℕ = length (bytesOf g) + length s in
-      cond-most n (reads g (0x1B ∷ [])) _ _ (λ e. escape-most n s (parse s) refl (omega arith))
-      (λ e. cond-most n (reads g (0x0D ∷ 0x0A ∷ [])) _ _ (λ e. omega (arith, ap length (reads-is g (0x0D ∷ 0x0A ∷ []) e)))
-      (λ e. cond-most n (reads g (0x0A ∷ [])) _ _ (λ e. omega arith)
-      (λ e. cond-most n (reads g (0x09 ∷ [])) _ _ (λ e. omega arith)
-      (λ e. control-most n (bytesOf g) _ (omega arith) (cond-most n (eqb (widthOf P g) 0) _ _ (λ e. omega arith) (λ e. tt))))))
+      let Q : ClusterKind → Type 0 = AtMost n in
+      by-case Q (reads g (0x1B ∷ [])) (λ e. escape-most n s (parse s) refl (omega (arith, ap length (reads-is g (0x1B ∷ []) e))))
+      (λ e. by-case Q (reads g (0x0D ∷ 0x0A ∷ [])) (λ e. omega (arith, ap length (reads-is g (0x0D ∷ 0x0A ∷ []) e)))
+      (λ e. by-case Q (reads g (0x0A ∷ [])) (λ e. omega (arith, ap length (reads-is g (0x0A ∷ []) e)))
+      (λ e. by-case Q (reads g (0x09 ∷ [])) (λ e. omega (arith, ap length (reads-is g (0x09 ∷ []) e)))
+      (λ e. control-most n (bytesOf g) _ (omega arith) (by-case Q (eqb (widthOf P g) 0) (λ e. omega arith) (λ e. tt))))))
 
   addCluster-inside : (m : Option ℕ) (p q : ℕ) (g : List Scalar) (n : ℕ) (w : ClusterKind) (go : ℕ → List Span) → p + length (bytesOf g) ≤ q → p + n ≤ q → AtMost n w → ((k : ℕ) → All (Between (p + length (bytesOf g)) q) (go k))
       → All (Between p q) (addCluster m p g (length (bytesOf g)) w go)
@@ -94,20 +90,16 @@ module _ (P : Profile) where
   addCluster-inside m p q g n plain go h k z a = addText-inside m p q g (go zero) h (a zero)
   addCluster-inside m p q g n (special c j) go h k z a = all-cons (between p q j c (omega arith)) (later p (p + length (bytesOf g)) q (omega arith) (a (j - length (bytesOf g))))
 
-  readFrom-inside : (gs : List (List Scalar)) → (m : Option ℕ) (p k q : ℕ) → All (λ (g : List Scalar). 1 ≤ length (bytesOf g)) gs → p + length (bytesOf (joinAll gs)) ≤ q → All (Between p q) (readFrom P m p k gs)
+  readFrom-inside : (gs : List (List Scalar)) (m : Option ℕ) (p k q : ℕ) → p + length (bytesOf (joinAll gs)) ≤ q → All (Between p q) (readFrom P m p k gs)
   unfolding readFrom
-  readFrom-inside [] = λ m p k q a h. all-nil
-  readFrom-inside (g ∷ gs) = λ m p k q a h. go (λ m p k q a h. readFrom-inside gs m p k q a h) m p k q a h
-    where
-      go : ((m : Option ℕ) (p k q : ℕ) → All (λ (g : List Scalar). 1 ≤ length (bytesOf g)) gs → p + length (bytesOf (joinAll gs)) ≤ q → All (Between p q) (readFrom P m p k gs))
-          → (m : Option ℕ) (p k q : ℕ) → All (λ (g : List Scalar). 1 ≤ length (bytesOf g)) (g ∷ gs) → p + length (bytesOf (joinAll (g ∷ gs))) ≤ q → All (Between p q) (readFrom P m p k (g ∷ gs))
-      go ih m p zero q (all-cons s a) h =
-          let n = join-length g gs in
-          addCluster-inside m p q g (length (bytesOf g) + length (bytesOf (joinAll gs))) (clusterKind P g (bytesOf (joinAll gs))) (λ k. readFrom P m (p + length (bytesOf g)) k gs) (omega arith) (omega arith) (kind-most g (bytesOf (joinAll gs)) s)
-          (λ k. ih m (p + length (bytesOf g)) k q a (omega arith))
-      go ih m p (suc k) q (all-cons s a) h =
-          let n = join-length g gs in
-          later p (p + length (bytesOf g)) q (omega arith) (ih m (p + length (bytesOf g)) (suc k - length (bytesOf g)) q a (omega arith))
+  readFrom-inside [] m p k q h = all-nil
+  readFrom-inside (g ∷ gs) m p zero q h =
+      let n = join-length g gs in
+      addCluster-inside m p q g (length (bytesOf g) + length (bytesOf (joinAll gs))) (clusterKind P g (bytesOf (joinAll gs))) (λ k. readFrom P m (p + length (bytesOf g)) k gs) (omega arith) (omega arith) (kind-most g (bytesOf (joinAll gs)))
+      (λ k. readFrom-inside gs m (p + length (bytesOf g)) k q (omega arith))
+  readFrom-inside (g ∷ gs) m p (suc k) q h =
+      let n = join-length g gs in
+      later p (p + length (bytesOf g)) q (omega arith) (readFrom-inside gs m (p + length (bytesOf g)) (suc k - length (bytesOf g)) q (omega arith))
 
   -- ---- lines, and lines with matches
 
@@ -116,7 +108,7 @@ module _ (P : Profile) where
   readPieces-inside m p q all-nil h = all-nil
   readPieces-inside m p q (all-cons {s = ps} (ValidPiece.valid {s = s} v) a) h =
       let n : length (pieceBytes (run s ∷ ps)) ≡ length (bytesOf s) + length (pieceBytes ps) = ap length (pieces-run s ps) ∙ length-append (bytesOf s) (pieceBytes ps) in
-      all-append (readFrom-inside (clusters P s) m p zero q (clusters-some P (clusters P s) s refl v) (rw (clusters-all P s) (omega arith)))
+      all-append (readFrom-inside (clusters P s) m p zero q (rw (clusters-all P s) (omega arith)))
       (later p (p + length (bytesOf s)) q (omega arith) (readPieces-inside m (p + length (bytesOf s)) q a (omega arith)))
   readPieces-inside m p q (all-cons {s = ps} (ValidPiece.ill {b = b}) a) h =
       let n = ap length (pieces-damaged b ps) in

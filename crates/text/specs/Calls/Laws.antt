@@ -1,15 +1,16 @@
 -- Questions put one after the other, and what a call that was accepted or refused leaves.
-use mathlib.Core.Path.{_≡_, refl, ap, _∙_}
+use mathlib.Core.Path.{_≡_, refl, sym, ap, _∙_}
 use Prim.Native.Nat.{ℕ, suc, _-_, _<_}
 use native.Mathlib.Omega.{arith}
 use mathlib.Core.Bool.{Bool, true, false, _&&_}
 use mathlib.Core.List.{List, [], _∷_, _++_}
 use lib.ListN.{length, replicate}
-use lib.Dec.{T, ltb, ltb→lt}
+use lib.Dec.{T, leb, ltb, ltb→lt}
 use Rattle.text.specs.Tests.{and-T, cases}
 use Rattle.text.specs.Class.{Profile}
 use Rattle.text.specs.Overstrike.{convert}
-use Rattle.text.specs.Calls.{Converted, Question, convertCall, counted, decide, lent, question1, question2}
+use Rattle.text.specs.Cells.{areCells, overstruckCells}
+use Rattle.text.specs.Calls.{Converted, Question, Written, ask, convertCall, counted, decide, lent, question1, question2, writeCellsCall}
 
 -- each refusal has a number
 abbrev pub numbered : List Question → Bool
@@ -92,3 +93,32 @@ module _ (P : Profile) (conv : ℕ) (line : List ℕ) where
   pub convert-refused : (r : ℕ) → decide convertQuestions ≡ suc r → convertCall P conv line ≡ record { number = suc r; count = 0; conv = replicate conv 0 }
   unfolding counted lent
   convert-refused r e = convert-by ∙ ap convertBy e
+
+-- ---- the call `write_cells`
+
+-- what an accepted one says
+pub record WrittenAll (room : ℕ) (cells : List ℕ) : Type 0 where
+  pub whole : areCells cells ≡ true
+  pub short : leb (length (overstruckCells cells)) 4096 ≡ true
+  pub count : writeCellsCall room cells .count ≡ length (overstruckCells cells)
+  pub out : writeCellsCall room cells .out ≡ overstruckCells cells ++ replicate (room - length (overstruckCells cells)) 0
+
+module _ (room : ℕ) (cells : List ℕ) where
+  -- what it leaves if it decides r
+  abbrev writtenBy : ℕ → Written
+  writtenBy r = record { number = r; count = counted (length (overstruckCells cells)) r; out = lent 0 room (overstruckCells cells) r }
+
+  abbrev writeCellsQuestions : List Question
+  writeCellsQuestions = ask 16 (areCells cells) ∷ question1 (overstruckCells cells) ∷ ask 17 (leb (length (overstruckCells cells)) room) ∷ []
+
+  written-by : writeCellsCall room cells ≡ writtenBy (decide writeCellsQuestions)
+  unfolding writeCellsCall
+  written-by = refl
+
+  pub written-accepted : writeCellsCall room cells .number ≡ 0 → WrittenAll room cells
+  unfolding counted lent
+  written-accepted e =
+      let d : decide writeCellsQuestions ≡ 0 = ap (λ (w : Written). w .number) (sym written-by) ∙ e in
+      let w : writeCellsCall room cells ≡ writtenBy 0 = written-by ∙ ap writtenBy d in
+      let y = first-yes (ask 16 (areCells cells)) _ tt d in
+      record { whole = y .0; short = first-yes (question1 (overstruckCells cells)) _ tt (y .1) .0; count = ap (λ (v : Written). v .count) w; out = ap (λ (v : Written). v .out) w }

@@ -25,12 +25,12 @@ unfolding joined among number
 after-control p k c h = cases (eqb p 1) (λ e. rw (eqb-true p 1 e)) (λ e. rw (eqb-true p 2 (rw e at h)))
 
 -- GB5
-before-control : (p : ℕ) (k : Context) (c : ℕ) → syllableOrOther p ≡ true → among c (control ∷ cr ∷ lf ∷ []) ≡ true → joined p k c ≡ false
+pub before-control : (p : ℕ) (k : Context) (c : ℕ) → syllableOrOther p ≡ true → among c (control ∷ cr ∷ lf ∷ []) ≡ true → joined p k c ≡ false
 unfolding joined among number
 before-control p k c h e = by-syllable (λ (n : ℕ). joined n k c ≡ false) p h (rw e) (rw e) (rw e)
 
 -- GB999
-between-syllables : (p : ℕ) (k : Context) (c : ℕ) → syllableOrOther p ≡ true → syllableOrOther c ≡ true → joined p k c ≡ false
+pub between-syllables : (p : ℕ) (k : Context) (c : ℕ) → syllableOrOther p ≡ true → syllableOrOther c ≡ true → joined p k c ≡ false
 unfolding joined among number
 between-syllables p k c h g =
     by-syllable (λ (n : ℕ). joined p k n ≡ false) c g

@@ -2,7 +2,7 @@
 use mathlib.Core.Path.{_≡_, refl, sym, ap, ap₂, _∙_}
 use Prim.Native.Nat.{ℕ, suc, _+_}
 use mathlib.Core.Bool.{Bool, true, false, not, cond, _&&_, true≢false}
-use mathlib.Core.List.{List, [], _∷_, _++_, reverse, reverseAux}
+use mathlib.Core.List.{List, [], _∷_, _++_, append-assoc, reverse, reverseAux}
 use lib.ListN.{length, take, drop, length-append}
 use lib.Dec.{T, eqb, eqb→eq}
 use Rattle.text.specs.Tests.{and-T, is-true, true-T, cases}
@@ -25,6 +25,13 @@ join-bytes g gs = ap bytesOf (join-cons g gs) ∙ bytesOf-append g (joinAll gs)
 
 pub join-length : (g : List Scalar) (gs : List (List Scalar)) → length (bytesOf (joinAll (g ∷ gs))) ≡ length (bytesOf g) + length (bytesOf (joinAll gs))
 join-length g gs = ap length (join-bytes g gs) ∙ length-append (bytesOf g) (bytesOf (joinAll gs))
+
+pub join-append : (gs hs : List (List Scalar)) → bytesOf (joinAll (gs ++ hs)) ≡ bytesOf (joinAll gs) ++ bytesOf (joinAll hs)
+unfolding joinAll bytesOf
+join-append [] hs = refl
+join-append (g ∷ gs) hs =
+    join-bytes g (gs ++ hs) ∙ ap (λ (l : List ℕ). bytesOf g ++ l) (join-append gs hs)
+    ∙ sym (ap (λ (l : List ℕ). l ++ bytesOf (joinAll hs)) (join-bytes g gs) ∙ append-assoc (bytesOf g) (bytesOf (joinAll gs)) (bytesOf (joinAll hs)))
 
 module _ (P : Profile) where
   addToCluster-all : (w : Bool) (c : Scalar) (gs : List (List Scalar)) → joinAll (addToCluster P w c gs) ≡ c ∷ joinAll gs

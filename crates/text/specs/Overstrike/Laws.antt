@@ -5,6 +5,7 @@ use mathlib.Core.Bool.{false, _||_}
 use mathlib.Core.List.{List, [], _∷_, _++_, append-assoc, append-nil, reverse, reverseAux, reverseAux-eq, reverse-append, reverse-reverse}
 use lib.Dec.{eqb}
 use Rattle.text.specs.Tests.{or-false, cases}
+use Rattle.text.specs.Each.{All, all-nil, all-cons}
 use Rattle.text.specs.Utf8.{Scalar, decode, Piece, run, damaged, runs, bytesOf, sameBytes, reads}
 use Rattle.text.specs.Utf8.Laws.{bytesOf-append, decodedBytes-decode, pieceBytes, pieceBytes-runs}
 use Rattle.text.specs.Class.{Profile}
@@ -14,13 +15,18 @@ use Rattle.text.specs.Overstrike.{normal, Pending, none, held, struck, S
 
 -- ---- a text without the byte 08
 
-none-append : (s t : List ℕ) → hasBackspace (s ++ t) ≡ false → (hasBackspace s ≡ false) × (hasBackspace t ≡ false)
+pub backspace-append : (s t : List ℕ) → hasBackspace (s ++ t) ≡ (hasBackspace s || hasBackspace t)
 unfolding hasBackspace
-none-append [] t e = (refl, e)
-none-append (b ∷ s) t e =
-    let p = or-false (eqb b 0x08) (hasBackspace (s ++ t)) e in
-    let q = none-append s t (p .1) in
-    (rw (p .0) (q .0), q .1)
+backspace-append [] t = refl
+backspace-append (b ∷ s) t = cases (eqb b 0x08) (λ e. rw e) (λ e. rw e (backspace-append s t))
+
+pub no-backspace : {s : List ℕ} → All (λ (b : ℕ). eqb b 0x08 ≡ false) s → hasBackspace s ≡ false
+unfolding hasBackspace
+no-backspace all-nil = refl
+no-backspace (all-cons e a) = rw (e, no-backspace a)
+
+none-append : (s t : List ℕ) → hasBackspace (s ++ t) ≡ false → (hasBackspace s ≡ false) × (hasBackspace t ≡ false)
+none-append s t e = or-false (hasBackspace s) (hasBackspace t) (sym (backspace-append s t) ∙ e)
 
 none-same : (s : List ℕ) → hasBackspace s ≡ false → sameBytes s (0x08 ∷ []) ≡ false
 unfolding hasBackspace sameBytes
@@ -33,7 +39,8 @@ taken out none = reverse out
 taken out (held g) = reverse out ++ g
 taken out (struck g) = reverse out ++ g
 
-push-reverse : (g out : List Scalar) → reverse (reverseAux g out) ≡ reverse out ++ g
+-- push_str on the reversed result
+pub push-reverse : (g out : List Scalar) → reverse (reverseAux g out) ≡ reverse out ++ g
 push-reverse g out = ap reverse (reverseAux-eq g out) ∙ reverse-append (reverse g) out ∙ ap (λ (l : List Scalar). reverse out ++ l) (reverse-reverse g)
 
 module _ (P : Profile) where
@@ -81,6 +88,11 @@ module _ (P : Profile) where
       let q = none-append (bytesOf s) (pieceBytes ps) e in
       ap₂ (λ (x : List Scalar) (l : List ℕ). bytesOf x ++ l) (convertRun-plain s (q .0)) (convertPieces-plain ps (q .1))
   convertPieces-plain (damaged b ∷ ps) e = ap (λ (l : List ℕ). b ∷ l) (convertPieces-plain ps (or-false (eqb b 0x08) (hasBackspace (pieceBytes ps)) e .1))
+
+  -- a line without backspaces too
+  pub convert-plain : (s : List ℕ) → hasBackspace s ≡ false → convert P s ≡ s
+  unfolding convert
+  convert-plain s e = rw e
 
   -- the test for 08 over the whole line is a short cut: conversion is piece by piece
   pub convert-pieces : (s : List ℕ) → convert P s ≡ convertPieces P (runs (decode s))

@@ -74,7 +74,8 @@ module _ (P : Profile) (a : AsciiClasses P) where
   pub breaks : (b : ℕ) (k : Context) (c : ℕ) → b < 0x20 → b ≢ 0x0D → joined (number (P .class b)) k c ≡ false
   breaks b k c h n = after-control (number (P .class b)) k c (c0-class P a b h n)
 
-  lone-joins : (c : Scalar) → neverJoinsBefore (c .code) ≡ true → (before : List Scalar) → joins P before c ≡ false
+  -- a byte below 80, LF apart, joins nothing before it
+  pub lone-joins : (c : Scalar) → neverJoinsBefore (c .code) ≡ true → (before : List Scalar) → joins P before c ≡ false
   unfolding joins
   lone-joins c e [] = refl
   lone-joins c e (p ∷ ps) = alone-numbers (number (P .class (p .code))) (context P (p ∷ ps)) (number (P .class (c .code))) (lone (c .code) e)

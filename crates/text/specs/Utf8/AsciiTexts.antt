@@ -2,10 +2,10 @@
 use mathlib.Core.Path.{_≡_, refl, sym, ap, _∙_}
 use Prim.Native.Nat.{ℕ, zero, suc, _<_}
 use native.Mathlib.Omega.{arith}
-use mathlib.Core.List.{List, [], _∷_, _++_}
+use mathlib.Core.List.{List, [], _∷_, _++_, map}
 use lib.ListN.{length, replicate}
 use Rattle.text.specs.Each.{All, all-nil, all-cons}
-use Rattle.text.specs.Utf8.{Scalar, scalar, value, ascii, asciis, decode, runOf, bytesOf}
+use Rattle.text.specs.Utf8.{Decoded, Scalar, addToRun, ascii, asciis, bytesOf, decode, run, runOf, runs, scalar, value, wellFormed}
 use Rattle.text.specs.Utf8.Ascii.{low-sequence}
 use Rattle.text.specs.Utf8.Laws.{decode-good}
 use Rattle.text.specs.Utf8.Valid.{Valid, run-text}
@@ -43,7 +43,7 @@ unfolding size asciis
 asciis-size [] = refl
 asciis-size (b ∷ s) = omega (arith, asciis-size s)
 
-asciis-valid : {s : List ℕ} → All (λ (b : ℕ). b < 0x80) s → All Valid (asciis s)
+pub asciis-valid : {s : List ℕ} → All (λ (b : ℕ). b < 0x80) s → All Valid (asciis s)
 unfolding asciis
 asciis-valid all-nil = all-nil
 asciis-valid (all-cons {a = b} h a) = all-cons (ascii-valid b h) (asciis-valid a)
@@ -51,3 +51,18 @@ asciis-valid (all-cons {a = b} h a) = all-cons (ascii-valid b h) (asciis-valid a
 -- bytes below 80 are such a text
 pub run-asciis : {s : List ℕ} → All (λ (b : ℕ). b < 0x80) s → runOf (decode s) ≡ asciis s
 run-asciis {s} a = ap (λ (l : List ℕ). runOf (decode l)) (sym (asciis-bytes s)) ∙ run-text (asciis-valid a)
+
+decode-asciis : {s : List ℕ} → All (λ (b : ℕ). b < 0x80) s → decode s ≡ map wellFormed (asciis s)
+unfolding asciis decode scalar value
+decode-asciis all-nil = refl
+decode-asciis (all-cons {a = b} {s = s} h a) = decode-good b s 0 (low-sequence b s h) ∙ ap (λ (l : List Decoded). wellFormed (ascii b) ∷ l) (decode-asciis a)
+
+runs-text : (c : Scalar) (s : List Scalar) → runs (map wellFormed (c ∷ s)) ≡ run (c ∷ s) ∷ []
+unfolding runs addToRun
+runs-text c [] = refl
+runs-text c (d ∷ s) = ap (addToRun c) (runs-text d s)
+
+-- and one run
+pub runs-asciis : (b : ℕ) (s : List ℕ) → All (λ (b : ℕ). b < 0x80) (b ∷ s) → runs (decode (b ∷ s)) ≡ run (asciis (b ∷ s)) ∷ []
+unfolding asciis
+runs-asciis b s a = ap runs (decode-asciis a) ∙ runs-text (ascii b) (asciis s)

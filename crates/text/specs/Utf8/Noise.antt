@@ -1,17 +1,16 @@
 -- A noise byte stands in no sequence: it separates what stands before it and behind it, and which one it is does not matter.
 use mathlib.Core.Path.{_≡_, refl, sym, ap, ap₂, _∙_, subst}
-use Prim.Native.Nat.{ℕ, zero, suc, _≤_, _<_, zero-le}
-use native.Mathlib.Nat.{le-of-suc-le-suc, not-suc-le-zero}
+use Prim.Native.Nat.{ℕ, zero, suc, _≤_, _<_}
 use native.Mathlib.Omega.{arith}
 use mathlib.Core.Bool.{Bool, true, false, cond, _&&_, _||_}
 use mathlib.Core.List.{List, [], _∷_, _++_}
 use lib.ListN.{length, take}
-use lib.Seq.{take-append-le}
 use lib.Dec.{T, leb, ltb, eqb, leb→le, ltb→lt, eqb→eq}
 use Rattle.text.specs.Tests.{and-T, or-T, is-false, true-T, cases}
 use Rattle.text.specs.Each.{Each, nil, cons}
 use Rattle.text.specs.Utf8.{Range, within, table, fits, lengthIn, sequence, decodedAs, decodeFrom, decode, Decoded, wellFormed, illFormed, scalar, Scalar, Piece, run, damaged, addToRun, runs, noise, allNoise}
-use Rattle.text.specs.Utf8.Laws.{sequence-le}
+use Rattle.text.specs.Utf8.Laws.{decode-bad}
+use Rattle.text.specs.Utf8.Separation.{decode-apart}
 
 -- ---- ranges in which no noise byte lies
 
@@ -74,48 +73,28 @@ within-noise r n c t =
     let h₃ : 0xF5 ≤ n = noise-either n t (omega arith) in
     omega arith))
 
--- ---- a noise byte is in no sequence, so it ends the one before it
+-- ---- a noise byte begins no sequence
 
-fits-noise : (row : List Range) (a : List ℕ) (n : ℕ) (t : List ℕ) → T (cleanRow row) → T (noise n)
-    → fits row (a ++ n ∷ t) ≡ fits row a
+fits-noise : (row : List Range) (n : ℕ) (t : List ℕ) → T (cleanRow row) → T (noise n) → fits row (n ∷ t) ≡ fits row []
 unfolding fits cleanRow
-fits-noise [] a n t c h = refl
-fits-noise (r ∷ rs) [] n t c h = ap (λ (w : Bool). _&&_ w (fits rs t)) (within-noise r n (and-T (clean r) (cleanRow rs) c .0) h)
-fits-noise (r ∷ rs) (b ∷ a) n t c h = ap (_&&_ (within r b)) (fits-noise rs a n t (and-T (clean r) (cleanRow rs) c .1) h)
+fits-noise [] n t c h = refl
+fits-noise (r ∷ rs) n t c h = ap (λ (w : Bool). _&&_ w (fits rs t)) (within-noise r n (and-T (clean r) (cleanRow rs) c .0) h)
 
-lengthIn-noise : (rows : List (List Range)) (a : List ℕ) (n : ℕ) (t : List ℕ) → T (cleanTable rows) → T (noise n)
-    → lengthIn rows (a ++ n ∷ t) ≡ lengthIn rows a
+lengthIn-noise : (rows : List (List Range)) (n : ℕ) (t : List ℕ) → T (cleanTable rows) → T (noise n) → lengthIn rows (n ∷ t) ≡ lengthIn rows []
 unfolding lengthIn cleanTable
-lengthIn-noise [] a n t c h = refl
-lengthIn-noise (row ∷ rows) a n t c h =
+lengthIn-noise [] n t c h = refl
+lengthIn-noise (row ∷ rows) n t c h =
     let p = and-T (cleanRow row) (cleanTable rows) c in
-    ap₂ (λ (w : Bool) (k : ℕ). cond w (length row) k) (fits-noise row a n t (p .0) h) (lengthIn-noise rows a n t (p .1) h)
+    ap₂ (λ (w : Bool) (k : ℕ). cond w (length row) k) (fits-noise row n t (p .0) h) (lengthIn-noise rows n t (p .1) h)
 
-pub sequence-noise : (a : List ℕ) (n : ℕ) (t : List ℕ) → T (noise n) → sequence (a ++ n ∷ t) ≡ sequence a
+sequence-noise : (n : ℕ) (t : List ℕ) → T (noise n) → sequence (n ∷ t) ≡ 0
 unfolding sequence
-sequence-noise a n t h = lengthIn-noise table a n t table-clean h
-
-pub decodeFrom-noise : (k : ℕ) (a : List ℕ) (n : ℕ) (t : List ℕ) → k ≤ length a → T (noise n)
-    → decodeFrom k (a ++ n ∷ t) ≡ decodeFrom k a ++ illFormed n ∷ decode t
-unfolding decode decodeFrom
-decodeFrom-noise zero [] n t l h = ap (λ (m : ℕ). decodedAs m n t (λ k. decodeFrom k t)) (sequence-noise [] n t h)
-decodeFrom-noise (suc k) [] n t l h = absurd (not-suc-le-zero l)
-decodeFrom-noise zero (b ∷ s) n t l h =
-    ap (λ (m : ℕ). decodedAs m b (s ++ n ∷ t) (λ k. decodeFrom k (s ++ n ∷ t))) (sequence-noise (b ∷ s) n t h)
-    ∙ go (sequence (b ∷ s)) (sequence-le (b ∷ s)) (λ k q. decodeFrom-noise k s n t q h)
-  where
-    go : (m : ℕ) → m ≤ length (b ∷ s)
-        → ((k : ℕ) → k ≤ length s → decodeFrom k (s ++ n ∷ t) ≡ decodeFrom k s ++ illFormed n ∷ decodeFrom zero t)
-        → decodedAs m b (s ++ n ∷ t) (λ k. decodeFrom k (s ++ n ∷ t)) ≡ decodedAs m b s (λ k. decodeFrom k s) ++ illFormed n ∷ decodeFrom zero t
-    go zero q ih = ap (λ (us : List Decoded). illFormed b ∷ us) (ih zero zero-le)
-    go (suc m) q ih =
-        ap₂ (λ (x : List ℕ) (us : List Decoded). wellFormed (scalar (b ∷ x)) ∷ us) (take-append-le m s (n ∷ t) (le-of-suc-le-suc q)) (ih m (le-of-suc-le-suc q))
-decodeFrom-noise (suc k) (b ∷ s) n t l h = decodeFrom-noise k s n t (le-of-suc-le-suc l) h
+sequence-noise n t h = lengthIn-noise table n t table-clean h
 
 -- separation: the decode of the parts, and the noise byte between them
 pub decode-noise : (a : List ℕ) (n : ℕ) (t : List ℕ) → T (noise n) → decode (a ++ n ∷ t) ≡ decode a ++ illFormed n ∷ decode t
-unfolding decode
-decode-noise a n t h = decodeFrom-noise zero a n t zero-le h
+decode-noise a n t h =
+    decode-apart n t (λ c. let r = noise-range n h in omega (arith, c .1)) a ∙ ap (λ (us : List Decoded). decode a ++ us) (decode-bad n t (sequence-noise n t h))
 
 addToRun-noise : (c : Scalar) (ps : List Piece) (n : ℕ) (qs : List Piece) → addToRun c (ps ++ damaged n ∷ qs) ≡ addToRun c ps ++ damaged n ∷ qs
 unfolding addToRun

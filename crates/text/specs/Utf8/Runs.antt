@@ -2,7 +2,7 @@
 use mathlib.Core.Path.{_≡_, refl, sym, ap, _∙_}
 use Prim.Native.Nat.{ℕ, zero, suc, _+_, _-_, _≤_}
 use native.Mathlib.Omega.{arith}
-use mathlib.Core.List.{List, [], _∷_, _++_, map, append-assoc, append-cancel-left}
+use mathlib.Core.List.{List, [], _∷_, _++_, map, append-assoc, append-cancel-left, append-nil}
 use lib.ListN.{length, take, drop, length-append}
 use lib.Seq.{take-append-seam, drop-append-seam, take-at}
 use Rattle.text.specs.Each.{All, all-nil, all-cons, all-split}
@@ -102,10 +102,10 @@ runs-damaged b s e = go (sequence (b ∷ s)) refl
 run-stops : (s : List ℕ) → runOf (decode (drop (length (bytesOf (runOf (decode s)))) s)) ≡ []
 run-stops s = ap runOf (sym (after-decode s)) ∙ after-none (decode s)
 
-run-of-wells : (s : List Scalar) (ds : List Decoded) → runOf ds ≡ [] → runOf (map wellFormed s ++ ds) ≡ s
+runOf-wells : (s : List Scalar) (ds : List Decoded) → runOf (map wellFormed s ++ ds) ≡ s ++ runOf ds
 unfolding runOf
-run-of-wells [] ds e = e
-run-of-wells (c ∷ s) ds e = ap (λ (l : List Scalar). c ∷ l) (run-of-wells s ds e)
+runOf-wells [] ds = refl
+runOf-wells (c ∷ s) ds = ap (λ (l : List Scalar). c ∷ l) (runOf-wells s ds)
 
 -- behind the scalars g that a run begins with stands the rest of it
 module _ (s : List ℕ) (g r : List Scalar) (e : runOf (decode s) ≡ g ++ r) where
@@ -120,7 +120,7 @@ module _ (s : List ℕ) (g r : List Scalar) (e : runOf (decode s) ≡ g ++ r) wh
       let t : List ℕ = drop (length (bytesOf (runOf (decode s)))) s in
       ap (λ (l : List ℕ). runOf (decode l)) behind-bytes
       ∙ ap runOf (decode-text (all-split g (rw e at (run-valid s)) .1) t)
-      ∙ run-of-wells r (decode t) (run-stops s)
+      ∙ runOf-wells r (decode t) ∙ ap (λ (l : List Scalar). r ++ l) (run-stops s) ∙ append-nil r
 
   pub front-bytes : take (length (bytesOf g)) s ≡ bytesOf g
   front-bytes =
@@ -143,3 +143,30 @@ module _ (s : List ℕ) (g r : List Scalar) (e : runOf (decode s) ≡ g ++ r) wh
 
 pub run-fits : (s : List ℕ) → length (bytesOf (runOf (decode s))) ≤ length s
 run-fits s = omega (arith, simp length-append at (ap length (run-bytes s)))
+
+-- ---- a text in a line
+
+afterRun-wells : (s : List Scalar) (ds : List Decoded) → afterRun (map wellFormed s ++ ds) ≡ afterRun ds
+unfolding afterRun
+afterRun-wells [] ds = refl
+afterRun-wells (c ∷ s) ds = afterRun-wells s ds
+
+-- the pieces before the text's run, and the scalars of its run before it
+pub record Around (ds : List Decoded) : Type 0 where
+  pub before : List Piece
+  pub front : List Scalar
+  pub pieces : (c : Scalar) (s : List Scalar) (es : List Decoded) → runs (ds ++ (map wellFormed (c ∷ s) ++ es)) ≡ before ++ run (front ++ c ∷ (s ++ runOf es)) ∷ runs (afterRun es)
+
+pub runs-around : (ds : List Decoded) → Around ds
+unfolding runs addToRun
+runs-around [] = record { before = []; front = []; pieces = λ c s es. runs-more c (map wellFormed s ++ es) ∙ rw (runOf-wells s es, afterRun-wells s es) }
+runs-around (illFormed b ∷ ds) =
+    let a = runs-around ds in
+    record { before = damaged b ∷ a .before; front = a .front; pieces = λ c s es. ap (λ (ps : List Piece). damaged b ∷ ps) (a .pieces c s es) }
+runs-around (wellFormed d ∷ ds) = let a = runs-around ds in add (a .before) (a .front) (a .pieces)
+  where
+    add : (before : List Piece) (front : List Scalar)
+        → ((c : Scalar) (s : List Scalar) (es : List Decoded) → runs (ds ++ (map wellFormed (c ∷ s) ++ es)) ≡ before ++ run (front ++ c ∷ (s ++ runOf es)) ∷ runs (afterRun es)) → Around (wellFormed d ∷ ds)
+    add [] front f = record { before = []; front = d ∷ front; pieces = λ c s es. ap (addToRun d) (f c s es) }
+    add (run t ∷ before) front f = record { before = run (d ∷ t) ∷ before; front = front; pieces = λ c s es. ap (addToRun d) (f c s es) }
+    add (damaged b ∷ before) front f = record { before = run (d ∷ []) ∷ damaged b ∷ before; front = front; pieces = λ c s es. ap (addToRun d) (f c s es) }

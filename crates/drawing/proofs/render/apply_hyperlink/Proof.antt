@@ -7,8 +7,11 @@ use Rattle.drawing.proofs.render.apply_hyperlink.Tie as tie
 enum-known-sequence : tie.Need-enum-known-sequence
 enum-known-sequence c = search needs
 
-add-t18 : tie.Need-add-t18
-add-t18 c = record { fits = search link-fits }
+add-t19 : tie.Need-add-t19
+add-t19 c = record { fits = search link-fits }
+
+uri-length-requires : tie.Need-uri-length-requires
+uri-length-requires c κs = search needs
 
 linked-requires : tie.Need-linked-requires
 linked-requires c κs = search needs
@@ -57,7 +60,8 @@ apply-hyperlink-spec =
     tie.close
     (tie.spec
     enum-known-sequence
-    add-t18
+    add-t19
+    uri-length-requires
     linked-requires
     enum-told
     enum-known-sequence-2

@@ -6,8 +6,8 @@ use Rattle.drawing.proofs.render.render_sequence.Tie as tie
 returns : tie.Need-returns
 returns c = search sequence-past
 
-add-t9 : tie.Need-add-t9
-add-t9 c = search needs
+add-t10 : tie.Need-add-t10
+add-t10 c = search needs
 
 with-sgr-sequence-requires : tie.Need-with-sgr-sequence-requires
 with-sgr-sequence-requires c κs = search needs
@@ -50,7 +50,7 @@ render-sequence-spec =
     tie.close
     (tie.spec
     returns
-    add-t9
+    add-t10
     with-sgr-sequence-requires
     sequence-at-requires
     apply-hyperlink-requires

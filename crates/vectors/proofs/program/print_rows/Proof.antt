@@ -3,12 +3,13 @@ use mathlib.Core.Path.{_≡_}
 use Prim.Native.Nat.{_+_, _-_, _≤_}
 use lib.ListN.{length}
 use Rattle.vectors.proofs.FieldText.{smaller-inside}
+use Rattle.vectors.proofs.InputParts.{input-bound}
 use borrow.Author.Needs.{needs}
 use Rattle.vectors.proofs.program.print_rows.Statement.{statement}
 use Rattle.vectors.proofs.program.print_rows.Tie as tie
 
 abbrev Inv-loop : tie.InvT-loop
-Inv-loop prefix byte times suffix first later line₀ part₀ total at₀ state₀ line part at state = (length line ≡ 4097) × (length part ≡ 4096) × (total ≤ 4294967296)
+Inv-loop prefix byte times suffix first later line₀ part₀ total at₀ state₀ line part at state = (length line ≡ 4097) × (length part ≡ 4096) × (total ≤ 10000128)
 
 abbrev μ-loop : tie.MeasureT-loop
 μ-loop prefix byte times suffix first later line₀ part₀ total at₀ state₀ line part at state = total + 1 - at
@@ -16,11 +17,8 @@ abbrev μ-loop : tie.MeasureT-loop
 buffer-requires : tie.Need-buffer-requires Inv-loop μ-loop
 buffer-requires c κs = search needs
 
-add-total : tie.Need-add-total Inv-loop μ-loop
-add-total c = search needs
-
-add-total-2 : tie.Need-add-total-2 Inv-loop μ-loop
-add-total-2 c = search needs
+input-len-requires : tie.Need-input-len-requires Inv-loop μ-loop
+input-len-requires c κs = search needs
 
 smaller-requires : tie.Need-smaller-requires Inv-loop μ-loop
 smaller-requires c κs = search needs
@@ -47,7 +45,7 @@ with-part-requires : tie.Need-with-part-requires Inv-loop μ-loop
 with-part-requires c κs = search needs
 
 loop-holds : tie.Need-loop-holds Inv-loop μ-loop
-loop-holds c = search needs
+loop-holds c = (search needs, search needs, search input-bound)
 
 slice-aggregate-print-text : tie.Need-slice-aggregate-print-text Inv-loop μ-loop
 slice-aggregate-print-text c = search needs
@@ -62,7 +60,7 @@ smaller-requires-2 : tie.Need-smaller-requires-2 Inv-loop μ-loop
 smaller-requires-2 c κs = search needs
 
 add-end : tie.Need-add-end Inv-loop μ-loop
-add-end c = let a = c .before .before .before .before .before .before .before .before .before .before .before .before .before .before .before .before .before .args in let l = c .before .before .before .before .loop in omega (arith, smaller-inside (a .later) (length (a .prefix .now) + a .times + length (a .suffix .now) - l .at) (c .smaller2 .result) (c .smaller2 .ensures), c .before .before .before .loop-test .taken, l .inv)
+add-end c = let total = c .before .before .before .before .before .before .before .before .before .before .before .before .before .before .input-len .result in let later = c .before .before .before .before .before .before .before .before .before .before .before .before .before .before .before .before .before .before .args .later in let l = c .before .before .before .before .loop in omega (arith, smaller-inside later (total - l .at) (c .smaller2 .result) (c .smaller2 .ensures), c .before .before .before .loop-test .taken, l .inv)
 
 slice-aggregate-fill-2 : tie.Need-slice-aggregate-fill-2 Inv-loop μ-loop
 slice-aggregate-fill-2 c = search needs
@@ -113,8 +111,7 @@ print-rows-spec =
     Inv-loop
     μ-loop
     buffer-requires
-    add-total
-    add-total-2
+    input-len-requires
     smaller-requires
     slice-aggregate-fill
     fill-requires

@@ -1,0 +1,1 @@
+// What a change of reader, and of a URI, leaves of a drawing.
