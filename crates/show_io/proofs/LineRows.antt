@@ -22,21 +22,22 @@ use Rattle.rows.specs.Calls.{Wrapped, rowsCall, heightCall}
 use Rattle.rows.specs.Numbers.{RowsNumbers}
 use Rattle.drawing.specs.Calls.{Drawn, windowCall, rowCall}
 use Rattle.drawing.specs.Numbers.{DrawnNumbers}
-use Rattle.screen.specs.Calls.{Shown, screenCall}
-use Rattle.screen.specs.Calls.Code.{shown}
+use Rattle.screen.specs.Calls.{screenCall}
+use Rattle.text.specs.Calls.{Written}
+use Rattle.text.specs.Calls.Code.{written}
 use Rattle.show_io.specs.Ansi.{cells, rowText}
-use Rattle.show_io.specs.Lines.{Printed, printed, drawnRow, screenText, listText, rowOf, columnsIn, columnsOf, smallRow, largeRow, lineRow, heightOf, rowsFrom, allRows, lineText, refusalText}
+use Rattle.show_io.specs.Lines.{Printed, printed, bench, drawnRow, screenText, listText, rowOf, columnsIn, columnsOf, smallRow, largeRow, lineRow, heightOf, rowsFrom, allRows, lineText, refusalText}
 use Rattle.show_io.specs.Lines.Contracts.{PrintedTo, AnswerOf}
 use Rattle.show_io.specs.declared.lines.RowPrinted.{RowPrinted}
 
 -- ---- draw
 
 module _ (c p l width mode first n : ℕ) (line : List ℕ) (r : Answer) (conv numbers list : List ℕ) where
-  pub window-drawn : mode ≡ 0 → DrawnNumbers (windowCall profile01 c p l 0 width none [] line) n r conv numbers list → DrawnNumbers (drawnRow c p l width mode first line) n r conv numbers list
+  pub window-drawn : mode ≡ 0 → DrawnNumbers (windowCall profile01 bench c p l 0 width none [] line) n r conv numbers list → DrawnNumbers (drawnRow c p l width mode first line) n r conv numbers list
   unfolding drawnRow
   window-drawn e d = rw (eq-eqb mode 0 e) d
 
-  pub row-drawn : (mode ≢ 0) → DrawnNumbers (rowCall profile01 c p l first 1 width mode none [] line) n r conv numbers list → DrawnNumbers (drawnRow c p l width mode first line) n r conv numbers list
+  pub row-drawn : (mode ≢ 0) → DrawnNumbers (rowCall profile01 bench c p l first 1 width mode none [] line) n r conv numbers list → DrawnNumbers (drawnRow c p l width mode first line) n r conv numbers list
   unfolding drawnRow
   row-drawn e d = rw (ne-eqb mode 0 e) d
 
@@ -45,7 +46,7 @@ module _ (c p l width mode first n : ℕ) (line : List ℕ) (r : Answer) (conv n
 take-smaller : (n : ℕ) (l : List ℕ) → take (smallerOf n (length l)) l ≡ take n l
 take-smaller n l = cases (leb n (length l)) (λ e. rw e refl) (λ e. let h = leb-false n (length l) e in rw e (take-all (length l) l (omega arith) ∙ sym (take-all n l (omega arith))))
 
-module _ (line out : List ℕ) (t : Shown) where
+module _ (line out : List ℕ) (t : Written) where
   screen-printed : (n z : ℕ) (s a : Sink) → t .number ≡ 0 → n ≡ smallerOf (t .count) (length (t .out)) → a ≡ emit s (rowText line (cells (take n (t .out)))) → sink out z ≡ put a 0x0A → PrintedTo (screenText line t) s out (record { number = 0; at = z })
   unfolding screenText
   screen-printed n z s a e m f g =
@@ -56,14 +57,14 @@ module _ (line out : List ℕ) (t : Shown) where
   unfolding screenText
   screen-refused at e = rw (ne-eqb (t .number) 0 e) record { number = refl; text = sym (emit-none (sink out at)) }
 
-module _ (room columns : ℕ) (line list out : List ℕ) (t : Answer) (after : List ℕ) (is : shown t after ≡ screenCall profile01 columns room list) where
+module _ (room columns : ℕ) (line list out : List ℕ) (t : Answer) (after : List ℕ) (is : written t after ≡ screenCall profile01 columns room list) where
   pub list-printed : (n z : ℕ) (s a : Sink) → t .number ≡ 0 → n ≡ smallerOf (t .count) (length after) → a ≡ emit s (rowText line (cells (take n after))) → sink out z ≡ put a 0x0A → PrintedTo (listText room columns line list) s out (record { number = 0; at = z })
   unfolding listText
-  list-printed n z s a e m f g = subst (λ (x : Shown). PrintedTo (screenText line x) s out (record { number = 0; at = z })) is (screen-printed line out (shown t after) n z s a e m f g)
+  list-printed n z s a e m f g = subst (λ (x : Written). PrintedTo (screenText line x) s out (record { number = 0; at = z })) is (screen-printed line out (written t after) n z s a e m f g)
 
   pub list-refused : (at : ℕ) → (t .number ≢ 0) → PrintedTo (listText room columns line list) (sink out at) out (record { number = t .number; at = at })
   unfolding listText
-  list-refused at e = subst (λ (x : Shown). PrintedTo (screenText line x) (sink out at) out (record { number = t .number; at = at })) is (screen-refused line out (shown t after) at e)
+  list-refused at e = subst (λ (x : Written). PrintedTo (screenText line x) (sink out at) out (record { number = t .number; at = at })) is (screen-refused line out (written t after) at e)
 
 -- ---- print_row
 
@@ -80,7 +81,7 @@ module _ (room columns n : ℕ) (d : Drawn) (r : Answer) (conv numbers list out 
 
 -- ---- a refused row prints nothing
 
-screen-none : (line : List ℕ) (t : Shown) → (screenText line t .number ≢ 0) → screenText line t .text ≡ []
+screen-none : (line : List ℕ) (t : Written) → (screenText line t .number ≢ 0) → screenText line t .text ≡ []
 unfolding screenText
 screen-none line t h = cases (eqb (t .number) 0) (λ e. absurd (h (rw e refl))) (λ e. rw e refl)
 

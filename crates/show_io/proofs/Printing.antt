@@ -14,7 +14,8 @@ use Rattle.buffer.specs.Sink.Laws.{then-emit, emit-append}
 use Rattle.buffer.specs.Numbers.{smallerOf}
 use Rattle.buffer.specs.Numbers.Laws.{smaller-left, smaller-right}
 use Rattle.screen.specs.Records.{littleEndian}
-use Rattle.screen.specs.Row.{Cell, cell, bodySize}
+use Rattle.screen.specs.WellFormed.{bodySize}
+use Rattle.screen.specs.Row.{Cell, cell}
 use Rattle.show_io.specs.Ansi.{lengthAt, cellAt, cells, change, textFrom, rowText}
 use Rattle.show_io.specs.Ansi.Cells.{cells-none, cells-first}
 use Rattle.show_io.specs.Ansi.Contracts.{placesAt, clusterIn, bodyIn, InRow, cellText}

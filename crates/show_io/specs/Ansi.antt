@@ -6,12 +6,14 @@ use mathlib.Core.List.{List, [], _∷_, _++_}
 use lib.ListN.{take, drop, getD}
 use lib.Dec.{eqb}
 use Rattle.screen.specs.Records.{littleEndian}
-use Rattle.screen.specs.Row.{Cell, cell, bodySize}
+use Rattle.screen.specs.WellFormed.{bodySize}
+use Rattle.screen.specs.Row.{Cell, cell}
 use Rattle.rows_io.specs.Output.{decimal}
 pub mod Contracts
 pub mod Vectors
 pub mod Cells
 pub mod Orders
+pub mod Changes
 
 -- ---- the cells of a screen row's bytes: per cell a 4-byte length of its cluster, the cluster and its attribute body
 

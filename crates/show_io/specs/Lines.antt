@@ -6,10 +6,11 @@ use mathlib.Core.Option.{none}
 use lib.ListN.{take, drop, getD}
 use lib.Dec.{eqb, leb}
 use Rattle.text.specs.Width.{profile01}
+use Rattle.text.specs.Calls.{Written}
 use Rattle.spans.specs.Calls.{Read}
 use Rattle.rows.specs.Calls.{heightCall, rowsCall}
 use Rattle.drawing.specs.Calls.{Drawn, windowCall, rowCall}
-use Rattle.screen.specs.Calls.{Shown, screenCall}
+use Rattle.screen.specs.Calls.{screenCall}
 use Rattle.rows_io.specs.Output.{decimal}
 use Rattle.show_io.specs.Ansi.{cells, rowText}
 pub mod Vectors
@@ -17,12 +18,16 @@ pub mod Contracts
 
 -- ---- a row
 
+-- the reader
+abbrev pub bench : ℕ
+bench = 0
+
 -- mode 0 draws the window of the first `width` columns, others the row with an index
 unfoldable pub drawnRow : (conv places room width mode first : ℕ) (line : List ℕ) → Drawn
 unfolding windowCall rowCall
 drawnRow conv places room width mode first line =
-    cond (eqb mode 0) (windowCall profile01 conv places room 0 width none [] line)
-    (rowCall profile01 conv places room first 1 width mode none [] line)
+    cond (eqb mode 0) (windowCall profile01 bench conv places room 0 width none [] line)
+    (rowCall profile01 bench conv places room first 1 width mode none [] line)
 
 -- a refusal's number, 0 for none, and what is printed
 pub record Printed : Type 0 where
@@ -37,7 +42,7 @@ abbrev pub unless : ℕ → Printed → Printed
 unless n p = cond (eqb n 0) p (printed n [])
 
 -- a screen row and a newline
-unfoldable pub screenText : List ℕ → Shown → Printed
+unfoldable pub screenText : List ℕ → Written → Printed
 unfolding cells rowText
 screenText line t = unless (t .number) (printed 0 (rowText line (cells (take (t .count) (t .out))) ++ (0x0A ∷ [])))
 

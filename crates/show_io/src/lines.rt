@@ -26,6 +26,9 @@ pub struct RowPrinted {
     pub(crate) at: usize,
 }
 
+// The reader, who sees the links.
+const BENCH: usize = 0;
+
 // A window of the first columns in mode 0, or else a row.
 fn draw(
     line: &[u8],
@@ -40,9 +43,20 @@ fn draw(
 {
     let none: [usize; 0] = [];
     if mode == 0 {
-        return draw_window_numbers(line, &none, usize::MAX, 0, width, conv, numbers, list);
+        return draw_window_numbers(
+            BENCH,
+            line,
+            &none,
+            usize::MAX,
+            0,
+            width,
+            conv,
+            numbers,
+            list,
+        );
     }
     draw_row_numbers(
+        BENCH,
         line,
         &none,
         usize::MAX,

@@ -8,8 +8,9 @@ use lib.Seq.{take-append-seam, drop-append-seam, drop-append-add, drop-drop, tak
 use Rattle.text.specs.Each.{All, all-nil, all-cons}
 use Rattle.buffer.specs.Numbers.{le4}
 use Rattle.screen.specs.Records.{littleEndian}
-use Rattle.screen.specs.Records.Laws.{le4-read}
-use Rattle.screen.specs.Row.{Cell, cell, bodySize, rowBytes}
+use Rattle.screen.specs.Records.Lengths.{limit, low-read, length-of-4}
+use Rattle.screen.specs.WellFormed.{bodySize}
+use Rattle.screen.specs.Row.{Cell, cell, rowBytes}
 use Rattle.show_io.specs.Ansi.{lengthAt, cellAt, cellsFrom, cells}
 
 -- bytes passed over are bytes dropped
@@ -27,6 +28,10 @@ cells-none = refl
 pub cells-first : (b : ℕ) (s : List ℕ) → cells (b ∷ s) ≡ cellAt (b ∷ s) ∷ cells (drop (lengthAt (b ∷ s) + bodySize + 3) s)
 unfolding cells cellsFrom
 cells-first b s = ap (λ (cs : List Cell). cellAt (b ∷ s) ∷ cs) (cellsFrom-drop (lengthAt (b ∷ s) + bodySize + 3) s)
+
+le4-read : (n : ℕ) → n < 4294967296 → littleEndian (le4 n) ≡ n
+unfolding limit
+le4-read n h = ap littleEndian (length-of-4 n) ∙ low-read 4 n h
 
 -- a cell as `screen_row` leaves it: its cluster's length takes 4 bytes
 pub record Sized (c : Cell) : Type 0 where

@@ -4,7 +4,7 @@ use mathlib.Core.Bool.{cond}
 use mathlib.Core.List.{List, [], _++_}
 use lib.ListN.{length, take, drop}
 use Rattle.buffer.specs.Numbers.{smallerOf}
-use Rattle.screen.specs.Row.{bodySize}
+use Rattle.screen.specs.WellFormed.{bodySize}
 use Rattle.show_io.specs.Ansi.{lengthAt, sameStyle, sameLink, styleOrder, linkOrder, uri, change}
 use Rattle.show_io.specs.declared.ansi.Places.{Places}
 

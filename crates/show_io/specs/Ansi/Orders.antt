@@ -32,8 +32,7 @@ use Rattle.drawing.specs.declared.attributes.Colors.{Colors}
 use Rattle.drawing.specs.Attributes as style
 use Rattle.drawing.specs.Attributes.{attributes, font, flags, colors, plainWith, apply, applyAll, withFont, withFlags, withColors}
 use Rattle.drawing.specs.Change.{colorBytes, flag, flagByte, attributeBytes}
-use Rattle.screen.specs.WellFormed.{color, fields}
-use Rattle.screen.specs.Row.{bodySize}
+use Rattle.screen.specs.WellFormed.{bodySize, color, fields}
 use Rattle.rows_io.specs.Output.{decimal}
 use Rattle.show_io.specs.Ansi.{valued, flagged, colored, fontOf, flagsOf, colorsOf, alignmentOf, parametersOf, further, styleOrder, linkOrder}
 
