@@ -5,7 +5,6 @@
 mod arguments;
 mod file;
 
-use arguments::Arguments;
 use libc::STDERR_FILENO;
 use libc::STDIN_FILENO;
 

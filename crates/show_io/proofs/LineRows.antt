@@ -43,7 +43,7 @@ module _ (c p l width mode first n : ℕ) (line : List ℕ) (r : Answer) (conv n
 
 -- ---- print_list
 
-take-smaller : (n : ℕ) (l : List ℕ) → take (smallerOf n (length l)) l ≡ take n l
+pub take-smaller : (n : ℕ) (l : List ℕ) → take (smallerOf n (length l)) l ≡ take n l
 take-smaller n l = cases (leb n (length l)) (λ e. rw e refl) (λ e. let h = leb-false n (length l) e in rw e (take-all (length l) l (omega arith) ∙ sym (take-all n l (omega arith))))
 
 module _ (line out : List ℕ) (t : Written) where
@@ -106,7 +106,7 @@ module _ (width mode first c n l room : ℕ) (line out : List ℕ) (s : Sink) (r
   unfolding largeRow
   large-printed columns k e f g h p = rw (e, f, g, h, k) at p
 
-abbrev listOf : Sink → List ℕ
+abbrev pub listOf : Sink → List ℕ
 listOf (sink l r) = l
 
 module _ (width mode first : ℕ) (line out₀ out : List ℕ) (at : ℕ) (a : RowPrinted) (p : PrintedTo (smallRow width mode line first) (sink out₀ at) out a) where

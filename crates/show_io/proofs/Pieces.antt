@@ -18,6 +18,7 @@ use Rattle.show_io.specs.Lines.{lineText}
 use Rattle.show_io.specs.Input.{lineLength, isEnd, nextNumber, begun, PieceRead, lastText}
 use Rattle.show_io.specs.Input.Contracts.{LineEnd, Kept}
 use Rattle.show_io.specs.declared.input.Reading.{Reading}
+use Rattle.show_io.proofs.LineRows.{take-smaller, listOf}
 
 -- ---- line_end
 
@@ -79,17 +80,11 @@ not-end (x ∷ piece) e = absurd (omega arith)
 take-within : (m : ℕ) (l : List ℕ) → take (smallerOf (length l) m) l ≡ take m l
 take-within m l = cases (leb (length l) m) (λ e. let h = leb-true (length l) m e in rw e (take-length l ∙ sym (take-all m l (omega arith)))) (λ e. rw e refl)
 
-take-front : (n : ℕ) (l : List ℕ) → take (smallerOf n (length l)) l ≡ take n l
-take-front n l = cases (leb n (length l)) (λ e. rw e refl) (λ e. let h = leb-false n (length l) e in rw e (take-length l ∙ sym (take-all n l (omega arith))))
-
 rest : (n m : ℕ) → m - smallerOf n m ≡ m - n
 rest n m = cases (leb n m) (λ e. rw e refl) (λ e. let h = leb-false n m e in rw e (omega arith))
 
 abbrev countOf : Sink → ℕ
 countOf (sink l r) = r
-
-abbrev listOf : Sink → List ℕ
-listOf (sink l r) = l
 
 module _ (before piece : List ℕ) (kept from n : ℕ) (is : from ≡ smallerOf kept (length before)) (size : n ≡ smallerOf (length piece) (length before - from)) where
   from-within : from ≤ length before
@@ -114,7 +109,7 @@ module _ (before piece : List ℕ) (kept from n : ℕ) (is : from ≡ smallerOf 
       let bytes : after ≡ front ++ drop (from + length xs) before = ap listOf all in
       let count : r ≡ from + length xs = ap countOf all in
       let same : front ≡ begun before kept piece =
-      ap₂ (λ (x y : List ℕ). x ++ y) (ap (λ (k : ℕ). take k before) is ∙ take-front kept before)
+      ap₂ (λ (x y : List ℕ). x ++ y) (ap (λ (k : ℕ). take k before) is ∙ take-smaller kept before)
       (ap (λ (k : ℕ). take k piece) size ∙ take-within (length before - from) piece ∙ ap (λ (k : ℕ). take k piece) (ap (λ (k : ℕ). length before - k) is ∙ rest kept (length before))) in
       record {
         line = ap₂ (λ (k : ℕ) (l : List ℕ). take k l) count bytes ∙ take-at front (drop (from + length xs) before) (from + length xs) long ∙ same;
@@ -141,4 +136,4 @@ module _ (name buffer : List ℕ) (width mode : ℕ) (state : Reading) (s : Sink
   pub last-line : (kept number : ℕ) (z : Sink) → (state .kept ≢ 0) → kept ≡ smallerOf (state .kept) (length buffer) → number ≡ nextNumber (state .number) → z ≡ emit s (lineText name number width mode (take kept buffer)) → z ≡ emit s (lastText name width mode buffer state)
   last-line kept number z e f g p =
       rw (ne-eqb (state .kept) 0 e)
-      (p ∙ ap₂ (λ (n : ℕ) (l : List ℕ). emit s (lineText name n width mode l)) g (ap (λ (k : ℕ). take k buffer) f ∙ take-front (state .kept) buffer))
+      (p ∙ ap₂ (λ (n : ℕ) (l : List ℕ). emit s (lineText name n width mode l)) g (ap (λ (k : ℕ). take k buffer) f ∙ take-smaller (state .kept) buffer))

@@ -8,7 +8,6 @@ use lib.Dec.{eqb, ltb}
 use Rattle.buffer.specs.Sink.{Sink, sink, emit}
 use Rattle.show_io.specs.Lines.{lineText}
 use Rattle.show_io.specs.declared.input.Reading.{Reading}
-pub mod Laws
 pub mod Contracts
 
 -- how many bytes the first line has, its newline counted

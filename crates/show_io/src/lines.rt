@@ -21,9 +21,9 @@ ghost use Rattle.show_io.specs.Lines.{drawnRow, listText, rowOf, columns
 ghost use Rattle.show_io.specs.Lines.Contracts.{PrintedTo, AnswerOf};
 
 // A refusal's number, 0 for none, and the count behind what was printed.
-pub struct RowPrinted {
-    pub(crate) number: usize,
-    pub(crate) at: usize,
+struct RowPrinted {
+    number: usize,
+    at: usize,
 }
 
 // The reader, who sees the links.

@@ -29,7 +29,6 @@ use Rattle.drawing.specs.declared.attributes.Link.{Link}
 use Rattle.drawing.specs.declared.attributes.Font.{Font}
 use Rattle.drawing.specs.declared.attributes.Flags.{Flags}
 use Rattle.drawing.specs.declared.attributes.Colors.{Colors}
-use Rattle.drawing.specs.Attributes as style
 use Rattle.drawing.specs.Attributes.{attributes, font, flags, colors, plainWith, apply, applyAll, withFont, withFlags, withColors}
 use Rattle.drawing.specs.Change.{colorBytes, flag, flagByte, attributeBytes}
 use Rattle.screen.specs.WellFormed.{bodySize, color, fields}
