@@ -1,13 +1,17 @@
 // Input in parts: a line is put together in a buffer, of which 4,097 bytes are enough for question 1.
 use super::lines::push_line;
+use super::lines::push_refusal;
 use buffer::push_bytes;
 use buffer::smaller;
 ghost use mathlib.Core.Path.{_≡_};
-ghost use Prim.Native.Nat.{_<_};
-ghost use lib.ListN.{length};
-ghost use Rattle.buffer.specs.Sink.{sink, emit};
-ghost use Rattle.show_io.specs.Input.{isEnd, nextNumber, PieceRead, lastText};
-ghost use Rattle.show_io.specs.Input.Contracts.{LineEnd, Kept};
+ghost use Prim.Native.Nat.{_+_};
+ghost use lib.ListN.{length, drop};
+ghost use Rattle.buffer.specs.Sink.{sink};
+ghost use Rattle.show_io.specs.Input.{lineLength, pieces, isEnd, nextNumber, fittedOf, withPiece, withPieces};
+ghost use Rattle.show_io.specs.Input.Contracts.{Kept, stateOf, readOf, lastOf};
+
+// From so many printed bytes on, no further line is begun.
+const ENOUGH: usize = 65536;
 
 // How many lines were read, how many bytes of the next one, and how many bytes were printed.
 pub struct Reading {
@@ -16,10 +20,15 @@ pub struct Reading {
     pub at: usize,
 }
 
+// What was read of a part, and the place that was reached in it.
+pub struct Progress {
+    pub reading: Reading,
+    pub place: usize,
+}
+
 // The place behind the line that begins at one.
-pub fn line_end(part: &[u8], at: usize) -> usize
-    requires { ⌜ at < length (now part) ⌝ }
-    ensures { λ r. ⌜ LineEnd (now (part .entry)) at r ⌝ }
+fn line_end(part: &[u8], at: usize) -> usize
+    ensures { λ r. ⌜ r ≡ at + lineLength (drop at (now (part .entry))) ⌝ }
 {
     let mut i = at;
     while i < part.len() {
@@ -58,8 +67,18 @@ fn keep(line: &mut [u8], kept: usize, piece: &[u8]) -> usize
     push_bytes(line, from, &piece[..n])
 }
 
+// The count behind what a line printed, or behind a refusal where that did not fit.
+fn fitted(out: &mut [u8], at: usize, name: &[u8], number: usize, before: usize) -> usize
+    ensures { λ r. ⌜ sink (now (out .exit)) r ≡ fittedOf (now (name .entry)) number before (sink (now (out .entry)) at) ⌝ }
+{
+    if out.len() < at {
+        return push_refusal(out, before, name, number, 9);
+    }
+    at
+}
+
 // A piece of a line more: the line is printed where the piece ends it.
-pub fn with_piece(
+fn with_piece(
     name: &[u8],
     width: usize,
     mode: usize,
@@ -68,7 +87,7 @@ pub fn with_piece(
     line: &mut [u8],
     out: &mut [u8],
 ) -> Reading
-    ensures { λ r. ⌜ PieceRead (now (name .entry)) width mode (now (piece .entry)) (now (line .entry)) state (sink (now (out .entry)) (state .at)) (now (line .exit)) (now (out .exit)) r ⌝ }
+    ensures { λ r. ⌜ stateOf r (now (line .exit)) (now (out .exit)) ≡ withPiece (now (name .entry)) width mode (length (now (line .entry))) (stateOf state (now (line .entry)) (now (out .entry))) (now (piece .entry)) ⌝ }
 {
     let kept = keep(line, state.kept, piece);
     if is_end(piece) {
@@ -77,7 +96,7 @@ pub fn with_piece(
         return Reading {
             number: number,
             kept: 0,
-            at: at,
+            at: fitted(out, at, name, number, state.at),
         };
     }
     Reading {
@@ -87,8 +106,40 @@ pub fn with_piece(
     }
 }
 
+// The lines of a part from a place on, and the beginning of the one that goes on behind it, until enough is printed.
+pub fn with_part(
+    name: &[u8],
+    width: usize,
+    mode: usize,
+    state: Reading,
+    part: &[u8],
+    from: usize,
+    line: &mut [u8],
+    out: &mut [u8],
+) -> Progress
+    ensures { λ r. ⌜ readOf r (now (part .entry)) (now (line .exit)) (now (out .exit)) ≡ withPieces (now (name .entry)) width mode (length (now (line .entry))) 65536 (stateOf state (now (line .entry)) (now (out .entry))) (pieces (drop from (now (part .entry)))) ⌝ }
+{
+    let mut reading = state;
+    let mut p = from;
+    while p < part.len() {
+        if ENOUGH <= reading.at {
+            return Progress {
+                reading: reading,
+                place: p,
+            };
+        }
+        let e = line_end(part, p);
+        reading = with_piece(name, width, mode, reading, &part[p..e], line, out);
+        p = e;
+    }
+    Progress {
+        reading: reading,
+        place: p,
+    }
+}
+
 // The last line, where no newline ends it.
-pub fn push_last(
+pub fn with_last(
     name: &[u8],
     width: usize,
     mode: usize,
@@ -96,19 +147,13 @@ pub fn push_last(
     line: &[u8],
     out: &mut [u8],
 ) -> usize
-    ensures { λ r. ⌜ sink (now (out .exit)) r ≡ emit (sink (now (out .entry)) (state .at)) (lastText (now (name .entry)) width mode (now (line .entry)) state) ⌝ }
+    ensures { λ r. ⌜ sink (now (out .exit)) r ≡ lastOf (now (name .entry)) width mode state (now (line .entry)) (now (out .entry)) ⌝ }
 {
     if state.kept == 0 {
         return state.at;
     }
     let kept = smaller(state.kept, line.len());
-    push_line(
-        out,
-        state.at,
-        name,
-        next_number(state.number),
-        width,
-        mode,
-        &line[..kept],
-    )
+    let number = next_number(state.number);
+    let at = push_line(out, state.at, name, number, width, mode, &line[..kept]);
+    fitted(out, at, name, number, state.at)
 }

@@ -1,33 +1,26 @@
 use mathlib.Core.Path.{_≡_, refl}
-use Prim.Native.Nat.{_-_}
 use lib.ListN.{length}
 use borrow.Author.Needs.{needs}
 use Rattle.show.proofs.file.show_part.Statement.{statement}
 use Rattle.show.proofs.file.show_part.Tie as tie
 
 abbrev Inv-loop : tie.InvT-loop
-Inv-loop name width mode part line₀ out₀ state₀ p₀ line out state p = (length line ≡ length line₀) × (length out ≡ length out₀)
+Inv-loop name width mode part line₀ out₀ state₀ p₀ turns₀ line out state p turns = (length line ≡ length line₀) × (length out ≡ length out₀)
 
 abbrev μ-loop : tie.MeasureT-loop
-μ-loop name width mode part line₀ out₀ state₀ p₀ line out state p = length part - p
+μ-loop name width mode part line₀ out₀ state₀ p₀ turns₀ line out state p turns = turns
 
 loop-holds : tie.Need-loop-holds Inv-loop μ-loop
 loop-holds c = (refl, refl)
 
-line-end-requires : tie.Need-line-end-requires Inv-loop μ-loop
-line-end-requires c κs = search needs
+with-part-requires : tie.Need-with-part-requires Inv-loop μ-loop
+with-part-requires c κs = search needs
 
-sub-show-piece : tie.Need-sub-show-piece Inv-loop μ-loop
-sub-show-piece c = search needs
+written-requires : tie.Need-written-requires Inv-loop μ-loop
+written-requires c κs = search needs
 
-part-show-piece-start : tie.Need-part-show-piece-start Inv-loop μ-loop
-part-show-piece-start c = search needs
-
-part-show-piece-end : tie.Need-part-show-piece-end Inv-loop μ-loop
-part-show-piece-end c = search needs
-
-show-piece-requires : tie.Need-show-piece-requires Inv-loop μ-loop
-show-piece-requires c κs = search needs
+sub-turns : tie.Need-sub-turns Inv-loop μ-loop
+sub-turns c = search needs
 
 loop-less : tie.Need-loop-less Inv-loop μ-loop
 loop-less c = search needs
@@ -60,11 +53,9 @@ show-part-spec =
     Inv-loop
     μ-loop
     loop-holds
-    line-end-requires
-    sub-show-piece
-    part-show-piece-start
-    part-show-piece-end
-    show-piece-requires
+    with-part-requires
+    written-requires
+    sub-turns
     loop-less
     loop-again
     same-length

@@ -1,7 +1,6 @@
 use Rattle.show_io.proofs.Pieces.{piece-ends, piece-goes-on}
 use mathlib.Core.Path.{sym}
 use lib.Seq.{length-take-le}
-use Rattle.buffer.specs.Numbers.Laws.{smaller-left, smaller-right}
 use borrow.Author.Needs.{needs}
 use Rattle.show_io.proofs.input.with_piece.Statement.{statement}
 use Rattle.show_io.proofs.input.with_piece.Tie as tie
@@ -23,6 +22,9 @@ slice-aggregate-push-line c = sym (length-take-le _ _ (search needs))
 
 push-line-requires : tie.Need-push-line-requires
 push-line-requires c κs = search needs
+
+fitted-requires : tie.Need-fitted-requires
+fitted-requires c κs = search needs
 
 same-length : tie.Need-same-length
 same-length c = search needs
@@ -49,6 +51,7 @@ with-piece-spec =
     slice-reshare-prefix-push-line
     slice-aggregate-push-line
     push-line-requires
+    fitted-requires
     same-length
     same-length-2
     returns

@@ -1,10 +1,10 @@
 use Rattle.show_io.proofs.Pieces.{last-none, last-line}
 use mathlib.Core.Path.{sym}
 use lib.Seq.{length-take-le}
-use Rattle.buffer.specs.Numbers.Laws.{smaller-left, smaller-right}
+use Rattle.buffer.specs.Numbers.Laws.{smaller-right}
 use borrow.Author.Needs.{needs}
-use Rattle.show_io.proofs.input.push_last.Statement.{statement}
-use Rattle.show_io.proofs.input.push_last.Tie as tie
+use Rattle.show_io.proofs.input.with_last.Statement.{statement}
+use Rattle.show_io.proofs.input.with_last.Tie as tie
 
 returns : tie.Need-returns
 returns c = search last-none
@@ -21,14 +21,17 @@ slice-aggregate-push-line c = sym (length-take-le _ _ (search smaller-right))
 push-line-requires : tie.Need-push-line-requires
 push-line-requires c κs = search needs
 
+fitted-requires : tie.Need-fitted-requires
+fitted-requires c κs = search needs
+
 same-length : tie.Need-same-length
 same-length c = search needs
 
 returns-2 : tie.Need-returns-2
 returns-2 c = search last-line
 
-pub push-last-spec : {M : Type 1} → statement M
-push-last-spec =
+pub with-last-spec : {M : Type 1} → statement M
+with-last-spec =
     tie.close
     (tie.spec
     returns
@@ -36,5 +39,6 @@ push-last-spec =
     next-number-requires
     slice-aggregate-push-line
     push-line-requires
+    fitted-requires
     same-length
     returns-2)
