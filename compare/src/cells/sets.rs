@@ -47,7 +47,8 @@ fn bytes() -> Vec<Vec<u8>> {
     bytes.map(|byte| vec![byte]).to_vec()
 }
 
-/// A random list has a few cells; one of 100 about as many as may be written.
+/// A random list has a few cells; three of 100 about as many as may be written, in one
+/// style or another.
 pub fn any_count(random: &mut Random, number: usize) -> usize {
     match number % 100 {
         0 => random.between(700, 900),
