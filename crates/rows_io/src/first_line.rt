@@ -1,25 +1,25 @@
 // The first line of the input: width, space, mode (decimal digits), newline.
 ghost use mathlib.Core.Path.{_≡_};
 ghost use mathlib.Core.Bool.{true};
-ghost use Rattle.rows_io.specs.FirstLine.{digit, more, empty, withDigit, withByte, widthOf, partOf};
+ghost use Rattle.rows_io.specs.FirstLine.{digit, more, empty, withDigit, withByte, inForm, widthOf, partOf};
 
 // What was read of it: in the width (stage 0), in the mode (1) or in a line of another form (2), whether the number there has a digit,
 // and whether the newline was read.
 pub struct FirstLine {
     pub(crate) stage: usize,
     pub(crate) digits: bool,
-    pub(crate) width: usize,
-    pub(crate) mode: usize,
+    pub width: usize,
+    pub mode: usize,
     pub(crate) ended: bool,
 }
 
 // The first line so far, and the place behind it.
-pub(crate) struct Part {
-    pub(crate) first: FirstLine,
-    pub(crate) at: usize,
+pub struct Part {
+    pub first: FirstLine,
+    pub at: usize,
 }
 
-pub(crate) fn nothing() -> FirstLine
+pub fn nothing() -> FirstLine
     ensures { λ r. ⌜ r ≡ empty ⌝ }
 {
     FirstLine {
@@ -107,7 +107,7 @@ fn with_byte(f: FirstLine, b: u8) -> FirstLine
 }
 
 // The bytes of s that belong to the first line.
-pub(crate) fn read_part(start: FirstLine, s: &[u8]) -> Part
+pub fn read_part(start: FirstLine, s: &[u8]) -> Part
     ensures { λ r. ⌜ r ≡ partOf start (now (s .entry)) ⌝ }
 {
     let mut f = start;
@@ -120,6 +120,13 @@ pub(crate) fn read_part(start: FirstLine, s: &[u8]) -> Part
         i += 1;
     }
     Part { first: f, at: i }
+}
+
+// Is it width, space, mode, newline?
+pub fn in_form(f: FirstLine) -> bool
+    ensures { λ r. ⌜ r ≡ inForm f ⌝ }
+{
+    f.ended & ((f.stage == 1) & f.digits)
 }
 
 // The width; of a first line of another form, one that question 5 refuses.

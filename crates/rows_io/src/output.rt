@@ -12,7 +12,7 @@ use buffer::push_bytes;
 use buffer::smaller;
 use text::Answer;
 
-fn push_decimal(out: &mut [u8], at: usize, n: usize) -> usize
+pub fn push_decimal(out: &mut [u8], at: usize, n: usize) -> usize
     ensures { λ r. ⌜ sink (now (out .exit)) r ≡ emit (sink (now (out .entry)) at) (decimal n) ⌝ }
 {
     let mut digits = [0u8; 20];

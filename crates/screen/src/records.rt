@@ -24,7 +24,7 @@ fn read_le2(list: &[u8], at: usize) -> usize
 }
 
 // The length at a place, of 2 bytes or 4.
-fn read_length(list: &[u8], at: usize, size: usize) -> usize
+pub fn read_length(list: &[u8], at: usize, size: usize) -> usize
     requires { ⌜ HeadReady (now list) at size ⌝ }
     ensures { λ r. ⌜ r ≡ littleEndian (take size (drop at (now (list .entry)))) ⌝ }
     ensures { λ r. ⌜ r < 4294967296 ⌝ }

@@ -1,0 +1,50 @@
+// The program `show`: received lines as the console draws them, as ANSI text.
+//
+// show WIDTH MODE [FILE ..]: each line of the files, or of standard input, wrapped at WIDTH columns (1 to 4,096) in MODE 1 to 4, all its
+// rows in turn; in MODE 0 the window of its first WIDTH columns. A refused line prints its file, number and refusal in its place.
+mod arguments;
+mod file;
+
+use libc::STDERR_FILENO;
+use libc::STDIN_FILENO;
+
+// The file that an argument names.
+fn show_argument(i: usize, width: usize, mode: usize) {
+    let mut path = io::buffer();
+    let n = os::arg(i, &mut path);
+    if os::errno() != 0 {
+        os::fail(b"show");
+        return;
+    }
+    let fd = os::open_read(&path[..n]);
+    if fd < 0 {
+        os::fail(&path[..n]);
+        return;
+    }
+    file::show(fd, &path[..n], width, mode);
+    libc::close(fd);
+}
+
+fn show_arguments(count: usize, width: usize, mode: usize) {
+    let mut i: usize = 3;
+    while i < count {
+        show_argument(i, width, mode);
+        i += 1;
+    }
+}
+
+fn main() {
+    let given = arguments::read();
+    if given.ok {
+        if given.count <= 3 {
+            file::show(STDIN_FILENO, b"-", given.width, given.mode);
+            return;
+        }
+        show_arguments(given.count, given.width, given.mode);
+        return;
+    }
+    io::write_all(
+        STDERR_FILENO,
+        b"usage: show WIDTH MODE [FILE ..]\nWIDTH 1 to 4096 columns, MODE 0 window, 1 or 3 by cluster, 2 or 4 by word\n",
+    );
+}

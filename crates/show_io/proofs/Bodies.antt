@@ -1,0 +1,135 @@
+-- Bodies compared, numbers and URIs.
+use mathlib.Core.Path.{_≡_, refl, sym, ap, _∙_}
+use mathlib.Core.Logic.{_≢_, inr}
+use Prim.Native.Nat.{ℕ, zero, suc, _+_, _-_, _≤_, _<_}
+use native.Mathlib.Omega.{arith}
+use native.Mathlib.Numerals.{add-one}
+use mathlib.Core.Bool.{Bool, true, false, cond, _&&_}
+use mathlib.Core.List.{List, [], _∷_, _++_}
+use lib.ListN.{length, take, drop, getD, length-drop, drop-of-length-le}
+use lib.Seq.{take-all, length-take-le}
+use lib.Dec.{eqb, leb}
+use borrow.Author.Tests.{eq-eqb, ne-eqb, le-leb, lt-leb, leb-true, leb-false}
+use Rattle.text.specs.Tests.{cases}
+use Rattle.buffer.specs.Sink.{Sink, emit}
+use Rattle.buffer.specs.Sink.Laws.{then-emit, emit-none}
+use Rattle.buffer.specs.Numbers.{smallerOf}
+use Rattle.screen.specs.Records.{littleEndian}
+use Rattle.screen.specs.Records.Contracts.{HeadReady}
+use Rattle.show_io.specs.Ansi.{alike, sameStyle, sameLink, styleOrder, uri, linkOrder, change}
+use Rattle.show_io.specs.Ansi.Contracts.{styleChange, linkChange}
+
+-- ---- are_alike
+
+pub record Comparing (n from : ℕ) (a b : List ℕ) (i : ℕ) : Type 0 where
+  pub within : i ≤ n
+  pub work : alike (n - i) (from + i) a b ≡ alike n from a b
+
+pub comparing-begins : (n from : ℕ) (a b : List ℕ) → Comparing n from a b 0
+comparing-begins n from a b = record { within = omega arith; work = let e : n - 0 ≡ n = omega arith in let f : from + 0 ≡ from = omega arith in rw (e, f) refl }
+
+alike-none : (n at : ℕ) (a b : List ℕ) → n ≡ 0 → alike n at a b ≡ true
+unfolding alike
+alike-none n at a b e = rw e refl
+
+alike-next : (n at m : ℕ) (a b : List ℕ) → n ≡ suc m → alike n at a b ≡ eqb (getD a at 0) (getD b at 0) && alike m (suc at) a b
+unfolding alike
+alike-next n at m a b e = rw e refl
+
+module _ (n from : ℕ) (a b : List ℕ) (i : ℕ) (z : Comparing n from a b i) where
+  pub comparing-ends : n ≤ i → true ≡ alike n from a b
+  comparing-ends h = sym (alike-none (n - i) (from + i) a b (omega arith)) ∙ z .work
+
+  module _ (less : i < n) (x y : ℕ) (is : x ≡ getD a (from + i) 0) (js : y ≡ getD b (from + i) 0) where
+    next : eqb x y && alike (n - (i + 1)) (suc (from + i)) a b ≡ alike n from a b
+    next = rw (is, js) (sym (alike-next (n - i) (from + i) (n - (i + 1)) a b (omega arith)) ∙ z .work)
+
+    pub comparing-differs : (x ≢ y) → false ≡ alike n from a b
+    comparing-differs d = rw (ne-eqb x y d) at next
+
+    pub comparing-turn : x ≡ y → Comparing n from a b (i + 1)
+    comparing-turn e = record { within = omega arith; work = let f : from + (i + 1) ≡ suc (from + i) = omega arith in rw f (rw (eq-eqb x y e) at next) }
+
+-- ---- numbers
+
+pub number-ready : (s : List ℕ) (at : ℕ) → at < length s → HeadReady s at 4
+number-ready s at h = record { inside = h; sizes = inr refl; small = omega arith }
+
+pub number-past : (s : List ℕ) (at : ℕ) → length s ≤ at → 0 ≡ littleEndian (take 4 (drop at s))
+unfolding littleEndian
+number-past s at h = rw (drop-of-length-le s h) refl
+
+-- ---- a part of a list, cut where it ends
+
+module _ (s : List ℕ) (at n : ℕ) where
+  pub part-cut : (from to : ℕ) → from ≡ smallerOf at (length s) → to ≡ smallerOf (at + n) (length s) → take (to - from) (drop from s) ≡ take n (drop at s)
+  part-cut from to e f = cases (leb at (length s))
+      (λ h. let k = leb-true at (length s) h in let from-is : from ≡ at = rw h at e in
+      cases (leb (at + n) (length s))
+      (λ g. let to-is : to ≡ at + n = rw g at f in let m : at + n - at ≡ n = omega arith in rw (from-is, to-is, m) refl)
+      (λ g. let l = leb-false (at + n) (length s) g in let to-is : to ≡ length s = rw g at f in
+      let long : length (drop at s) ≡ length s - at = length-drop at s in
+      rw (from-is, to-is) (take-all (length s - at) (drop at s) (omega arith) ∙ sym (take-all n (drop at s) (omega arith)))))
+      (λ h. let k = leb-false at (length s) h in let from-is : from ≡ length s = rw h at e in
+      rw (from-is, drop-of-length-le s (let g : length s ≤ length s = omega arith in g), drop-of-length-le s (let g : length s ≤ at = omega arith in g)) (none (to - length s) n))
+    where
+      none : (k m : ℕ) → _≡_ {A = List ℕ} (take k []) (take m [])
+      none zero zero = refl
+      none zero (suc m) = refl
+      none (suc k) zero = refl
+      none (suc k) (suc m) = refl
+
+-- ---- push_uri
+
+module _ (line : List ℕ) (p n from len : ℕ) (is : from ≡ smallerOf p (length line)) where
+  from-within : from ≤ length line
+  from-within = rw is (cases (leb p (length line)) (λ e. rw e (leb-true p (length line) e)) (λ e. rw e (omega arith)))
+
+  module _ (cut : len ≡ smallerOf n (length line - from)) where
+    pub uri-within : from + len ≤ length line
+    uri-within =
+        let w = from-within in
+        cases (leb n (length line - from))
+        (λ e. let k = leb-true n (length line - from) e in let l : len ≡ n = rw e at cut in omega arith)
+        (λ e. let l : len ≡ length line - from = rw e at cut in omega arith)
+
+    -- a place in memory
+    pub uri-fits : length line < 18446744073709551616 → from + len < 18446744073709551616
+    uri-fits h = omega (arith, uri-within)
+
+    to-is : from + len ≡ smallerOf (p + n) (length line)
+    to-is = cases (leb p (length line))
+        (λ e. let f : from ≡ p = rw e at is in let k = leb-true p (length line) e in cases (leb n (length line - from))
+        (λ g. let l : len ≡ n = rw g at cut in let h = leb-true n (length line - from) g in rw (le-leb (p + n) (length line) (omega arith)) (omega arith))
+        (λ g. let l : len ≡ length line - from = rw g at cut in let h = leb-false n (length line - from) g in rw (lt-leb (p + n) (length line) (omega arith)) (omega arith)))
+        (λ e. let f : from ≡ length line = rw e at is in let k = leb-false p (length line) e in cases (leb n (length line - from))
+        (λ g. let l : len ≡ n = rw g at cut in let h = leb-true n (length line - from) g in rw (lt-leb (p + n) (length line) (omega arith)) (omega arith))
+        (λ g. let l : len ≡ length line - from = rw g at cut in rw (lt-leb (p + n) (length line) (omega arith)) (omega arith)))
+
+    pub uri-pushed : (body : List ℕ) (s z : Sink) → p ≡ littleEndian (take 4 (drop 16 body)) → n ≡ littleEndian (take 4 (drop 20 body)) → z ≡ emit s (take (from + len - from) (drop from line)) → z ≡ emit s (uri line body)
+    unfolding uri
+    uri-pushed body s z place size e = e ∙ ap (emit s) (part-cut line p n from (from + len) is to-is ∙ rw (place, size) refl)
+
+-- ---- changes
+
+pub link-pushed : (u : List ℕ) (s a b z : Sink) → a ≡ emit s (0x1B ∷ 0x5D ∷ 0x38 ∷ 0x3B ∷ 0x3B ∷ []) → b ≡ emit a u → z ≡ emit b (0x1B ∷ 0x5C ∷ []) → z ≡ emit s (linkOrder u)
+unfolding linkOrder
+link-pushed u s a b z e f g = then-emit s a z (0x1B ∷ 0x5D ∷ 0x38 ∷ 0x3B ∷ 0x3B ∷ []) (u ++ (0x1B ∷ 0x5C ∷ [])) e (then-emit a b z u (0x1B ∷ 0x5C ∷ []) f g)
+
+module _ (a b : List ℕ) (x y : Bool) (p : x ≡ alike 16 0 a b) (q : y ≡ alike 1 24 a b) (s : Sink) where
+  pub style-none : (x && y) ≡ true → s ≡ emit s (styleChange a b)
+  style-none e = rw (← p, ← q, e) (sym (emit-none s))
+
+  pub style-some : (z : Sink) → (x && y) ≡ false → z ≡ emit s (styleOrder b) → z ≡ emit s (styleChange a b)
+  style-some z e w = rw (← p, ← q, e) w
+
+module _ (line a b : List ℕ) (x : Bool) (p : x ≡ alike 8 16 a b) (s : Sink) where
+  pub link-none : x ≡ true → s ≡ emit s (linkChange line a b)
+  link-none e = rw (← p, e) (sym (emit-none s))
+
+  pub link-some : (z : Sink) → x ≡ false → z ≡ emit s (linkOrder (uri line b)) → z ≡ emit s (linkChange line a b)
+  link-some z e w = rw (← p, e) w
+
+pub change-pushed : (line a b : List ℕ) (s m z : Sink) → m ≡ emit s (styleChange a b) → z ≡ emit m (linkChange line a b) → z ≡ emit s (change line a b)
+unfolding change
+change-pushed line a b s m z e f = then-emit s m z (styleChange a b) (linkChange line a b) e f

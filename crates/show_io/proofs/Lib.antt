@@ -1,0 +1,6 @@
+pub mod Parameters
+pub mod Bodies
+pub mod Printing
+pub mod LineRows
+pub mod Refusals
+pub mod Pieces

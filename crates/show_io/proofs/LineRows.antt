@@ -1,0 +1,267 @@
+-- The rows of a line, one after the other.
+use mathlib.Core.Path.{_≡_, refl, sym, ap, ap₂, subst, _∙_}
+use mathlib.Core.Logic.{_≢_}
+use Prim.Native.Nat.{ℕ, zero, suc, _+_, _-_, _*_, _/_, _≤_, _<_}
+use native.Mathlib.Omega.{arith}
+use mathlib.Core.Bool.{Bool, true, false, cond}
+use mathlib.Core.List.{List, [], _∷_, _++_}
+use mathlib.Core.Option.{none}
+use lib.ListN.{length, take, getD, List·getD-eq-default}
+use lib.Seq.{take-all}
+use lib.Dec.{eqb, leb}
+use borrow.Author.Tests.{eq-eqb, ne-eqb, le-leb, lt-leb, leb-true, leb-false, eqb-true}
+use Rattle.text.specs.Tests.{cases}
+use Rattle.text.specs.Width.{profile01}
+use Rattle.text.specs.declared.Answer.{Answer}
+use Rattle.buffer.specs.Sink.{Sink, sink, put, emit}
+use Rattle.buffer.specs.Sink.Laws.{emit-none, emit-append, then-put}
+use Rattle.buffer.specs.Numbers.{smallerOf}
+use Rattle.spans.specs.Calls.{Read}
+use Rattle.spans.specs.Numbers.{placesIn}
+use Rattle.rows.specs.Calls.{Wrapped, rowsCall, heightCall}
+use Rattle.rows.specs.Numbers.{RowsNumbers}
+use Rattle.drawing.specs.Calls.{Drawn, windowCall, rowCall}
+use Rattle.drawing.specs.Numbers.{DrawnNumbers}
+use Rattle.screen.specs.Calls.{screenCall}
+use Rattle.text.specs.Calls.{Written}
+use Rattle.text.specs.Calls.Code.{written}
+use Rattle.show_io.specs.Ansi.{cells, rowText}
+use Rattle.show_io.specs.Lines.{Printed, printed, bench, drawnRow, screenText, listText, rowOf, columnsIn, columnsOf, smallRow, largeRow, lineRow, heightOf, rowsFrom, allRows, lineText, refusalText}
+use Rattle.show_io.specs.Lines.Contracts.{PrintedTo, AnswerOf}
+use Rattle.show_io.specs.declared.lines.RowPrinted.{RowPrinted}
+
+-- ---- draw
+
+module _ (c p l width mode first n : ℕ) (line : List ℕ) (r : Answer) (conv numbers list : List ℕ) where
+  pub window-drawn : mode ≡ 0 → DrawnNumbers (windowCall profile01 bench c p l 0 width none [] line) n r conv numbers list → DrawnNumbers (drawnRow c p l width mode first line) n r conv numbers list
+  unfolding drawnRow
+  window-drawn e d = rw (eq-eqb mode 0 e) d
+
+  pub row-drawn : (mode ≢ 0) → DrawnNumbers (rowCall profile01 bench c p l first 1 width mode none [] line) n r conv numbers list → DrawnNumbers (drawnRow c p l width mode first line) n r conv numbers list
+  unfolding drawnRow
+  row-drawn e d = rw (ne-eqb mode 0 e) d
+
+-- ---- print_list
+
+pub take-smaller : (n : ℕ) (l : List ℕ) → take (smallerOf n (length l)) l ≡ take n l
+take-smaller n l = cases (leb n (length l)) (λ e. rw e refl) (λ e. let h = leb-false n (length l) e in rw e (take-all (length l) l (omega arith) ∙ sym (take-all n l (omega arith))))
+
+module _ (line out : List ℕ) (t : Written) where
+  screen-printed : (n z : ℕ) (s a : Sink) → t .number ≡ 0 → n ≡ smallerOf (t .count) (length (t .out)) → a ≡ emit s (rowText line (cells (take n (t .out)))) → sink out z ≡ put a 0x0A → PrintedTo (screenText line t) s out (record { number = 0; at = z })
+  unfolding screenText
+  screen-printed n z s a e m f g =
+      rw (eq-eqb (t .number) 0 e)
+      record { number = refl; text = then-put s a (sink out z) (rowText line (cells (take (t .count) (t .out)))) 0x0A (f ∙ ap (λ (l : List ℕ). emit s (rowText line (cells l))) (ap (λ (k : ℕ). take k (t .out)) m ∙ take-smaller (t .count) (t .out))) g }
+
+  screen-refused : (at : ℕ) → (t .number ≢ 0) → PrintedTo (screenText line t) (sink out at) out (record { number = t .number; at = at })
+  unfolding screenText
+  screen-refused at e = rw (ne-eqb (t .number) 0 e) record { number = refl; text = sym (emit-none (sink out at)) }
+
+module _ (room columns : ℕ) (line list out : List ℕ) (t : Answer) (after : List ℕ) (is : written t after ≡ screenCall profile01 columns room list) where
+  pub list-printed : (n z : ℕ) (s a : Sink) → t .number ≡ 0 → n ≡ smallerOf (t .count) (length after) → a ≡ emit s (rowText line (cells (take n after))) → sink out z ≡ put a 0x0A → PrintedTo (listText room columns line list) s out (record { number = 0; at = z })
+  unfolding listText
+  list-printed n z s a e m f g = subst (λ (x : Written). PrintedTo (screenText line x) s out (record { number = 0; at = z })) is (screen-printed line out (written t after) n z s a e m f g)
+
+  pub list-refused : (at : ℕ) → (t .number ≢ 0) → PrintedTo (listText room columns line list) (sink out at) out (record { number = t .number; at = at })
+  unfolding listText
+  list-refused at e = subst (λ (x : Written). PrintedTo (screenText line x) (sink out at) out (record { number = t .number; at = at })) is (screen-refused line out (written t after) at e)
+
+-- ---- print_row
+
+module _ (room columns n : ℕ) (d : Drawn) (r : Answer) (conv numbers list out : List ℕ) (is : DrawnNumbers d n r conv numbers list) where
+  pub row-printed : (k : ℕ) (s : Sink) (q : RowPrinted) → r .number ≡ 0 → k ≡ smallerOf (r .count) (length list) → PrintedTo (listText room columns conv (take k list)) s out q → PrintedTo (rowOf room columns d) s out q
+  unfolding rowOf
+  row-printed k s q e m p =
+      let same : take k list ≡ take (d .count) (d .list) = ap (λ (j : ℕ). take j list) m ∙ take-smaller (r .count) list ∙ ap₂ (λ (j : ℕ) (l : List ℕ). take j l) (is .read .count) (is .changes) in
+      rw (eq-eqb (d .number) 0 (sym (is .read .number) ∙ e), ← same, ← (is .read .bytes)) p
+
+  pub row-refused : (at : ℕ) → (r .number ≢ 0) → PrintedTo (rowOf room columns d) (sink out at) out (record { number = r .number; at = at })
+  unfolding rowOf
+  row-refused at e = rw (ne-eqb (d .number) 0 (λ z. e (is .read .number ∙ z))) record { number = is .read .number; text = sym (emit-none (sink out at)) }
+
+-- ---- a refused row prints nothing
+
+screen-none : (line : List ℕ) (t : Written) → (screenText line t .number ≢ 0) → screenText line t .text ≡ []
+unfolding screenText
+screen-none line t h = cases (eqb (t .number) 0) (λ e. absurd (h (rw e refl))) (λ e. rw e refl)
+
+list-none : (room columns : ℕ) (line list : List ℕ) → (listText room columns line list .number ≢ 0) → listText room columns line list .text ≡ []
+unfolding listText
+list-none room columns line list h = screen-none line (screenCall profile01 columns room list) h
+
+row-none : (room columns : ℕ) (d : Drawn) → (rowOf room columns d .number ≢ 0) → rowOf room columns d .text ≡ []
+unfolding rowOf
+row-none room columns d h = cases (eqb (d .number) 0)
+    (λ e. rw e (list-none room columns (d .conv) (take (d .count) (d .list)) (rw e at h)))
+    (λ e. rw e refl)
+
+-- ---- small_row, large_row, line_row
+
+module _ (width mode first c n l room : ℕ) (line out : List ℕ) (s : Sink) (r : RowPrinted) where
+  pub small-printed : c ≡ 2048 → n ≡ 256 → l ≡ 4096 → room ≡ 16384 → PrintedTo (rowOf room width (drawnRow c (placesIn n) l width mode first line)) s out r → PrintedTo (smallRow width mode line first) s out r
+  unfolding smallRow
+  small-printed e f g h p = rw (e, f, g, h) at p
+
+  pub large-printed : (columns : ℕ) → columns ≡ columnsOf width mode first line → c ≡ 32768 → n ≡ 8192 → l ≡ 131072 → room ≡ 262144 → PrintedTo (rowOf room columns (drawnRow c (placesIn n) l width mode first line)) s out r → PrintedTo (largeRow width mode line first) s out r
+  unfolding largeRow
+  large-printed columns k e f g h p = rw (e, f, g, h, k) at p
+
+abbrev pub listOf : Sink → List ℕ
+listOf (sink l r) = l
+
+module _ (width mode first : ℕ) (line out₀ out : List ℕ) (at : ℕ) (a : RowPrinted) (p : PrintedTo (smallRow width mode line first) (sink out₀ at) out a) where
+  pub line-small : a .number ≡ 0 → PrintedTo (lineRow width mode line first) (sink out₀ at) out a
+  unfolding lineRow
+  line-small e = rw (eq-eqb (smallRow width mode line first .number) 0 (sym (p .number) ∙ e)) p
+
+  pub line-large : (out′ : List ℕ) (r : RowPrinted) → (a .number ≢ 0) → PrintedTo (largeRow width mode line first) (sink out at) out′ r → PrintedTo (lineRow width mode line first) (sink out₀ at) out′ r
+  unfolding lineRow smallRow
+  line-large out′ r e q =
+      let differs : smallRow width mode line first .number ≢ 0 = λ z. e (p .number ∙ z) in
+      let none : smallRow width mode line first .text ≡ [] = row-none 16384 width (drawnRow 2048 64 4096 width mode first line) differs in
+      let same : out ≡ out₀ = ap listOf (p .text ∙ ap (emit (sink out₀ at)) none ∙ emit-none (sink out₀ at)) in
+      rw (ne-eqb (smallRow width mode line first .number) 0 differs) (rw same at q)
+
+-- a refused row prints nothing
+refused-text : (width mode first : ℕ) (line : List ℕ) → (lineRow width mode line first .number ≢ 0) → lineRow width mode line first .text ≡ []
+unfolding lineRow smallRow largeRow
+refused-text width mode first line h = cases (eqb (smallRow width mode line first .number) 0)
+    (λ e. absurd (h (rw e (eqb-true (smallRow width mode line first .number) 0 e))))
+    (λ e. rw e (row-none 262144 (columnsOf width mode first line) (drawnRow 32768 2048 131072 width mode first line) (rw e at h)))
+
+-- ---- columns
+
+module _ (rows : List ℕ) (width first : ℕ) where
+  abbrev columns : ℕ
+  columns = getD rows (2 * first + 1) 0 - getD rows (2 * first) 0
+
+  columns-few : columns ≤ width → width ≡ columnsIn rows width first
+  columns-few h = rw (le-leb columns width h) refl
+
+  module _ (start end : ℕ) (s : start ≡ getD rows (2 * first) 0) (e : end ≡ getD rows (2 * first + 1) 0) where
+    pub columns-more : start ≤ end → width < end - start → end - start ≡ columnsIn rows width first
+    columns-more h k = rw (s, e) (rw (lt-leb columns width (rw (← s, ← e) k)) refl)
+
+    pub columns-less : start ≤ end → end - start ≤ width → width ≡ columnsIn rows width first
+    columns-less h k = columns-few (rw (← s, ← e) k)
+
+    pub columns-back : end < start → width ≡ columnsIn rows width first
+    columns-back h = columns-few (rw (← s, ← e) (omega arith))
+
+  pub columns-past : length rows / 2 ≤ first → width ≡ columnsIn rows width first
+  columns-past h =
+      let z : getD rows (2 * first + 1) 0 ≡ 0 = List·getD-eq-default rows 0 {n = 2 * first + 1} (omega arith) in
+      columns-few (rw z (omega arith))
+
+module _ (width mode first : ℕ) (line : List ℕ) where
+  pub columns-window : mode ≡ 0 → width ≡ columnsOf width mode first line
+  unfolding columnsOf
+  columns-window e = rw (eq-eqb mode 0 e) refl
+
+  pub columns-row : (c n k m r : ℕ) (a : Answer) (conv numbers rows : List ℕ) → (mode ≢ 0) → c ≡ 32768 → n ≡ 8192 → k ≡ 16384 → RowsNumbers (rowsCall profile01 c (placesIn n) k width mode line) m a conv numbers rows → r ≡ columnsIn rows width first → r ≡ columnsOf width mode first line
+  unfolding columnsOf
+  columns-row c n k m r a conv numbers rows e f g h w i =
+      let v : RowsNumbers (rowsCall profile01 32768 2048 16384 width mode line) m a conv numbers rows = rw (f, g, h) at w in
+      i ∙ ap (λ (l : List ℕ). columnsIn l width first) (v .pairs)
+      ∙ sym (ap (λ (b : Bool). cond b width (columnsIn (rowsCall profile01 32768 2048 16384 width mode line .rows) width first)) (ne-eqb mode 0 e))
+
+-- ---- heights
+
+module _ (width mode : ℕ) (line : List ℕ) (a : Answer) (p : AnswerOf (heightCall profile01 2048 64 width mode line) a) where
+  pub height-small : a .number ≡ 0 → AnswerOf (heightOf width mode line) a
+  unfolding heightOf
+  height-small e = rw (eq-eqb (heightCall profile01 2048 64 width mode line .number) 0 (sym (p .number) ∙ e)) p
+
+  pub height-large : (r : Answer) → (a .number ≢ 0) → AnswerOf (heightCall profile01 32768 2048 width mode line) r → AnswerOf (heightOf width mode line) r
+  unfolding heightOf
+  height-large r e q = rw (ne-eqb (heightCall profile01 2048 64 width mode line .number) 0 (λ z. e (p .number ∙ z))) q
+
+-- ---- all rows
+
+module _ (name : List ℕ) (number width mode : ℕ) (line : List ℕ) where
+  abbrev from : ℕ → ℕ → List ℕ
+  from first n = rowsFrom name number width mode line first n
+
+  from-none : (first n : ℕ) → n ≡ 0 → from first n ≡ []
+  unfolding rowsFrom
+  from-none first n e = rw e refl
+
+  from-more : (first n m : ℕ) → n ≡ suc m → lineRow width mode line first .number ≡ 0 → from first n ≡ lineRow width mode line first .text ++ from (suc first) m
+  unfolding rowsFrom
+  from-more first n m e z = rw (e, eq-eqb (lineRow width mode line first .number) 0 z) refl
+
+  from-refused : (first n m : ℕ) → n ≡ suc m → (lineRow width mode line first .number ≢ 0) → from first n ≡ refusalText name number (lineRow width mode line first .number)
+  unfolding rowsFrom
+  from-refused first n m e z = rw (e, ne-eqb (lineRow width mode line first .number) 0 z) refl
+
+  pub record Rows (out₀ : List ℕ) (at₀ count : ℕ) (out : List ℕ) (a i : ℕ) : Type 0 where
+    pub within : i ≤ count
+    pub long : length out ≡ length out₀
+    pub work : emit (sink out a) (from i (count - i)) ≡ emit (sink out₀ at₀) (from 0 count)
+
+  pub rows-begin : (out : List ℕ) (at count : ℕ) → Rows out at count out at 0
+  rows-begin out at count = record { within = omega arith; long = refl; work = let e : count - 0 ≡ count = omega arith in rw e refl }
+
+  module _ (out₀ : List ℕ) (at₀ count : ℕ) (out : List ℕ) (a i : ℕ) (w : Rows out₀ at₀ count out a i) where
+    pub rows-end : count ≤ i → sink out a ≡ emit (sink out₀ at₀) (from 0 count)
+    rows-end h = sym (ap (emit (sink out a)) (from-none i (count - i) (omega arith)) ∙ emit-none (sink out a)) ∙ w .work
+
+    module _ (less : i < count) (out′ : List ℕ) (p : RowPrinted) (is : PrintedTo (lineRow width mode line i) (sink out a) out′ p) where
+      pub rows-turn : p .number ≡ 0 → length out′ ≡ length out → Rows out₀ at₀ count out′ (p .at) (i + 1)
+      rows-turn e l =
+          let t : List ℕ = lineRow width mode line i .text in
+          let next : i + 1 ≡ suc i = omega arith in
+          record {
+            within = omega arith;
+            long = l ∙ w .long;
+            work = ap (λ (x : Sink). emit x (from (i + 1) (count - (i + 1)))) (is .text) ∙ sym (emit-append (sink out a) t (from (i + 1) (count - (i + 1))))
+                ∙ ap (λ (k : ℕ). emit (sink out a) (t ++ from k (count - (i + 1)))) next
+                ∙ ap (emit (sink out a)) (sym (from-more i (count - i) (count - (i + 1)) (omega arith) (sym (is .number) ∙ e))) ∙ w .work;
+          }
+
+      pub rows-refused : (out″ : List ℕ) (r : ℕ) → (p .number ≢ 0) → sink out″ r ≡ emit (sink out′ (p .at)) (refusalText name number (p .number)) → sink out″ r ≡ emit (sink out₀ at₀) (from 0 count)
+      rows-refused out″ r e f =
+          let row : Printed = lineRow width mode line i in
+          let differs : row .number ≢ 0 = λ z. e (is .number ∙ z) in
+          f ∙ ap₂ (λ (x : Sink) (k : ℕ). emit x (refusalText name number k)) (is .text ∙ ap (emit (sink out a)) (refused-text width mode i line differs) ∙ emit-none (sink out a)) (is .number)
+          ∙ ap (emit (sink out a)) (sym (from-refused i (count - i) (count - (i + 1)) (omega arith) differs)) ∙ w .work
+
+-- ---- push_line
+
+module _ (name : List ℕ) (number width mode : ℕ) (line : List ℕ) where
+  abbrev window : List ℕ
+  window = rowsFrom name number width mode line 0 1
+
+  abbrev wrapped : Read → List ℕ
+  wrapped h = allRows name number width mode line h
+
+  window-text : mode ≡ 0 → window ≡ lineText name number width mode line
+  unfolding lineText
+  window-text e = sym (ap (λ (b : Bool). cond b window (wrapped (heightOf width mode line))) (eq-eqb mode 0 e))
+
+  wrapped-text : (mode ≢ 0) → wrapped (heightOf width mode line) ≡ lineText name number width mode line
+  unfolding lineText
+  wrapped-text e = sym (ap (λ (b : Bool). cond b window (wrapped (heightOf width mode line))) (ne-eqb mode 0 e))
+
+  rows-text : (h : Read) → h .number ≡ 0 → rowsFrom name number width mode line 0 (h .count) ≡ wrapped h
+  unfolding allRows
+  rows-text h e = sym (ap (λ (b : Bool). cond b (rowsFrom name number width mode line 0 (h .count)) (refusalText name number (h .number))) (eq-eqb (h .number) 0 e))
+
+  refusal-text : (h : Read) → (h .number ≢ 0) → refusalText name number (h .number) ≡ wrapped h
+  unfolding allRows
+  refusal-text h e = sym (ap (λ (b : Bool). cond b (rowsFrom name number width mode line 0 (h .count)) (refusalText name number (h .number))) (ne-eqb (h .number) 0 e))
+
+  module _ (s z : Sink) where
+    pub line-window : mode ≡ 0 → z ≡ emit s (rowsFrom name number width mode line 0 1) → z ≡ emit s (lineText name number width mode line)
+    line-window e p = p ∙ ap (emit s) (window-text e)
+
+    module _ (h : Answer) (is : AnswerOf (heightOf width mode line) h) (wraps : mode ≢ 0) where
+      pub line-rows : h .number ≡ 0 → z ≡ emit s (rowsFrom name number width mode line 0 (h .count)) → z ≡ emit s (lineText name number width mode line)
+      line-rows e p =
+          p ∙ ap (λ (n : ℕ). emit s (rowsFrom name number width mode line 0 n)) (is .count)
+          ∙ ap (emit s) (rows-text (heightOf width mode line) (sym (is .number) ∙ e) ∙ wrapped-text wraps)
+
+      pub line-refused : (h .number ≢ 0) → z ≡ emit s (refusalText name number (h .number)) → z ≡ emit s (lineText name number width mode line)
+      line-refused e p =
+          p ∙ ap (λ (n : ℕ). emit s (refusalText name number n)) (is .number)
+          ∙ ap (emit s) (refusal-text (heightOf width mode line) (λ x. e (is .number ∙ x)) ∙ wrapped-text wraps)

@@ -1,0 +1,27 @@
+use Rattle.show_io.proofs.LineRows.{line-small, line-large}
+use borrow.Author.Needs.{needs}
+use Rattle.show_io.proofs.lines.line_row.Statement.{statement}
+use Rattle.show_io.proofs.lines.line_row.Tie as tie
+
+small-row-requires : tie.Need-small-row-requires
+small-row-requires c κs = search needs
+
+same-length : tie.Need-same-length
+same-length c = search needs
+
+returns : tie.Need-returns
+returns c = search line-small
+
+large-row-requires : tie.Need-large-row-requires
+large-row-requires c κs = search needs
+
+same-length-2 : tie.Need-same-length-2
+same-length-2 c = search needs
+
+returns-2 : tie.Need-returns-2
+returns-2 c = search line-large
+
+pub line-row-spec : {M : Type 1} → statement M
+line-row-spec =
+    tie.close
+    (tie.spec small-row-requires same-length returns large-row-requires same-length-2 returns-2)

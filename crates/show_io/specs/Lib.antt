@@ -1,0 +1,3 @@
+pub mod Ansi
+pub mod Lines
+pub mod Input

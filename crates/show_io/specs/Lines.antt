@@ -1,0 +1,139 @@
+-- What the program `show` prints for a line: its rows one after the other, or a refusal in its place.
+use Prim.Native.Nat.{ℕ, zero, suc, _+_, _-_, _*_}
+use mathlib.Core.Bool.{Bool, cond}
+use mathlib.Core.List.{List, [], _∷_, _++_}
+use mathlib.Core.Option.{none}
+use lib.ListN.{take, drop, getD}
+use lib.Dec.{eqb, leb}
+use Rattle.text.specs.Width.{profile01}
+use Rattle.text.specs.Calls.{Written}
+use Rattle.spans.specs.Calls.{Read}
+use Rattle.rows.specs.Calls.{heightCall, rowsCall}
+use Rattle.drawing.specs.Calls.{Drawn, windowCall, rowCall}
+use Rattle.screen.specs.Calls.{screenCall}
+use Rattle.rows_io.specs.Output.{decimal}
+use Rattle.show_io.specs.Ansi.{cells, rowText}
+pub mod Vectors
+pub mod Contracts
+
+-- ---- a row
+
+-- the reader
+abbrev pub bench : ℕ
+bench = 0
+
+-- mode 0 draws the window of the first `width` columns, others the row with an index
+unfoldable pub drawnRow : (conv places room width mode first : ℕ) (line : List ℕ) → Drawn
+unfolding windowCall rowCall
+drawnRow conv places room width mode first line =
+    cond (eqb mode 0) (windowCall profile01 bench conv places room 0 width none [] line)
+    (rowCall profile01 bench conv places room first 1 width mode none [] line)
+
+-- a refusal's number, 0 for none, and what is printed
+pub record Printed : Type 0 where
+  pub number : ℕ
+  pub text : List ℕ
+
+abbrev pub printed : ℕ → List ℕ → Printed
+printed n t = record { number = n; text = t }
+
+-- what is printed unless a call was refused with a number
+abbrev pub unless : ℕ → Printed → Printed
+unless n p = cond (eqb n 0) p (printed n [])
+
+-- a screen row and a newline
+unfoldable pub screenText : List ℕ → Written → Printed
+unfolding cells rowText
+screenText line t = unless (t .number) (printed 0 (rowText line (cells (take (t .count) (t .out))) ++ (0x0A ∷ [])))
+
+-- a change list in a screen row of so many columns, which `room` bytes are lent for
+unfoldable pub listText : (room columns : ℕ) (line list : List ℕ) → Printed
+unfolding screenCall screenText
+listText room columns line list = screenText line (screenCall profile01 columns room list)
+
+unfoldable pub rowOf : (room columns : ℕ) → Drawn → Printed
+unfolding listText
+rowOf room columns d = unless (d .number) (listText room columns (d .conv) (take (d .count) (d .list)))
+
+-- the columns of a row with an index, or the width where that is more; a row has more where one unit is wider
+abbrev pub columnsIn : List ℕ → ℕ → ℕ → ℕ
+columnsIn rows width first =
+    let n : ℕ = getD rows (2 * first + 1) 0 - getD rows (2 * first) 0 in
+    cond (leb n width) width n
+
+unfoldable pub columnsOf : (width mode first : ℕ) (line : List ℕ) → ℕ
+unfolding rowsCall
+columnsOf width mode first line = cond (eqb mode 0) width (columnsIn (rowsCall profile01 32768 2048 16384 width mode line .rows) width first)
+
+-- a row in the width's columns, with memory that is enough for most lines; and where that is refused, in its own columns with more
+unfoldable pub smallRow : (width mode : ℕ) (line : List ℕ) (first : ℕ) → Printed
+unfolding rowOf drawnRow
+smallRow width mode line first = rowOf 16384 width (drawnRow 2048 64 4096 width mode first line)
+
+unfoldable pub largeRow : (width mode : ℕ) (line : List ℕ) (first : ℕ) → Printed
+unfolding rowOf drawnRow columnsOf
+largeRow width mode line first = rowOf 262144 (columnsOf width mode first line) (drawnRow 32768 2048 131072 width mode first line)
+
+unfoldable pub lineRow : (width mode : ℕ) (line : List ℕ) (first : ℕ) → Printed
+unfolding smallRow largeRow
+lineRow width mode line first =
+    let a : Printed = smallRow width mode line first in
+    let b : Printed = largeRow width mode line first in
+    cond (eqb (a .number) 0) a b
+
+-- ---- refusals
+
+-- why a line is refused
+unfoldable pub words : ℕ → List ℕ
+words n =
+    cond (eqb n 1) (0x6D ∷ 0x6F ∷ 0x72 ∷ 0x65 ∷ 0x20 ∷ 0x74 ∷ 0x68 ∷ 0x61 ∷ 0x6E ∷ 0x20 ∷ 0x34 ∷ 0x2C ∷ 0x30 ∷ 0x39 ∷ 0x36 ∷ 0x20 ∷ 0x62 ∷ 0x79 ∷ 0x74 ∷ 0x65 ∷ 0x73 ∷ [])
+    (cond (eqb n 4) (0x6D ∷ 0x6F ∷ 0x72 ∷ 0x65 ∷ 0x20 ∷ 0x74 ∷ 0x68 ∷ 0x61 ∷ 0x6E ∷ 0x20 ∷ 0x32 ∷ 0x2C ∷ 0x30 ∷ 0x34 ∷ 0x38 ∷ 0x20 ∷ 0x73 ∷ 0x70 ∷ 0x61 ∷ 0x6E ∷ 0x73 ∷ [])
+    (cond (eqb n 5) (0x61 ∷ 0x20 ∷ 0x72 ∷ 0x6F ∷ 0x77 ∷ 0x20 ∷ 0x77 ∷ 0x69 ∷ 0x64 ∷ 0x65 ∷ 0x72 ∷ 0x20 ∷ 0x74 ∷ 0x68 ∷ 0x61 ∷ 0x6E ∷ 0x20 ∷ 0x34 ∷ 0x2C ∷ 0x30 ∷ 0x39 ∷ 0x36 ∷ 0x20 ∷ 0x63 ∷ 0x6F ∷ 0x6C ∷ 0x75 ∷ 0x6D ∷ 0x6E ∷ 0x73 ∷ [])
+    (cond (eqb n 8) (0x61 ∷ 0x20 ∷ 0x63 ∷ 0x6C ∷ 0x75 ∷ 0x73 ∷ 0x74 ∷ 0x65 ∷ 0x72 ∷ 0x20 ∷ 0x77 ∷ 0x69 ∷ 0x64 ∷ 0x65 ∷ 0x72 ∷ 0x20 ∷ 0x74 ∷ 0x68 ∷ 0x61 ∷ 0x6E ∷ 0x20 ∷ 0x69 ∷ 0x74 ∷ 0x73 ∷ 0x20 ∷ 0x72 ∷ 0x6F ∷ 0x77 ∷ [])
+    (0x74 ∷ 0x6F ∷ 0x6F ∷ 0x20 ∷ 0x6D ∷ 0x75 ∷ 0x63 ∷ 0x68 ∷ 0x20 ∷ 0x74 ∷ 0x6F ∷ 0x20 ∷ 0x64 ∷ 0x72 ∷ 0x61 ∷ 0x77 ∷ []))))
+
+-- `: refused N: words`
+unfoldable pub refusedText : ℕ → List ℕ
+unfolding decimal words
+refusedText number = (0x3A ∷ 0x20 ∷ 0x72 ∷ 0x65 ∷ 0x66 ∷ 0x75 ∷ 0x73 ∷ 0x65 ∷ 0x64 ∷ 0x20 ∷ []) ++ (decimal number ++ ((0x3A ∷ 0x20 ∷ []) ++ (words number ++ (0x0A ∷ []))))
+
+-- behind the file's name and the line's number there
+unfoldable pub refusalText : (name : List ℕ) (line number : ℕ) → List ℕ
+unfolding decimal refusedText
+refusalText name line number = name ++ ((0x3A ∷ []) ++ (decimal line ++ refusedText number))
+
+-- ---- a line
+
+-- how many rows it has; a window is one
+unfoldable pub heightOf : (width mode : ℕ) (line : List ℕ) → Read
+unfolding heightCall
+heightOf width mode line =
+    let a : Read = heightCall profile01 2048 64 width mode line in
+    let b : Read = heightCall profile01 32768 2048 width mode line in
+    cond (eqb (a .number) 0) a b
+
+module _ (name : List ℕ) (number width mode : ℕ) (line : List ℕ) where
+  -- n rows from one on; a refused one is the last
+  unfoldable pub rowsFrom : ℕ → ℕ → List ℕ
+  unfolding lineRow refusalText
+  rowsFrom first zero = []
+  rowsFrom first (suc n) =
+      let p : Printed = lineRow width mode line first in
+      let more : List ℕ = p .text ++ rowsFrom (suc first) n in
+      cond (eqb (p .number) 0) more (refusalText name number (p .number))
+
+  -- as many rows as the line has
+  unfoldable pub allRows : Read → List ℕ
+  unfolding rowsFrom refusalText
+  allRows h =
+      let all : List ℕ = rowsFrom 0 (h .count) in
+      let refusal : List ℕ = refusalText name number (h .number) in
+      cond (eqb (h .number) 0) all refusal
+
+  -- the line with a number in a file
+  unfoldable pub lineText : List ℕ
+  unfolding rowsFrom allRows heightOf
+  lineText =
+      let window : List ℕ = rowsFrom 0 1 in
+      let wrapped : List ℕ = allRows (heightOf width mode line) in
+      cond (eqb mode 0) window wrapped

@@ -1,0 +1,4 @@
+// The program `show` over slices: its input in parts, what it prints for a line, and screen rows as ANSI text.
+mod ansi;
+pub mod input;
+pub mod lines;

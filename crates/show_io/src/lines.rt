@@ -1,0 +1,345 @@
+// Lines: all rows of a line in turn, or a refusal in its place.
+use super::ansi::push_row;
+use buffer::push_byte;
+use buffer::push_bytes;
+use buffer::smaller;
+use drawing::numbers::draw_row_numbers;
+use drawing::numbers::draw_window_numbers;
+use rows::numbers::height_numbers;
+use rows::numbers::rows_numbers;
+use rows_io::output::push_decimal;
+use screen::screen_row;
+use text::Answer;
+ghost use mathlib.Core.Path.{_≡_};
+ghost use lib.ListN.{length};
+ghost use Rattle.text.specs.Width.{profile01};
+ghost use Rattle.buffer.specs.Sink.{sink, emit};
+ghost use Rattle.spans.specs.Numbers.{placesIn};
+ghost use Rattle.rows.specs.Calls.{heightCall};
+ghost use Rattle.drawing.specs.Numbers.{DrawnNumbers};
+ghost use Rattle.show_io.specs.Lines.{drawnRow, listText, rowOf, columnsIn, columnsOf, smallRow, largeRow, lineRow, words, refusedText, refusalText, heightOf, rowsFrom, lineText};
+ghost use Rattle.show_io.specs.Lines.Contracts.{PrintedTo, AnswerOf};
+
+// A refusal's number, 0 for none, and the count behind what was printed.
+struct RowPrinted {
+    number: usize,
+    at: usize,
+}
+
+// The reader, who sees the links.
+const BENCH: usize = 0;
+
+// A window of the first columns in mode 0, or else a row.
+fn draw(
+    line: &[u8],
+    width: usize,
+    mode: usize,
+    first: usize,
+    conv: &mut [u8],
+    numbers: &mut [usize],
+    list: &mut [u8],
+) -> Answer
+    ensures { λ r. ⌜ DrawnNumbers (drawnRow (length (now (conv .entry))) (placesIn (length (now (numbers .entry)))) (length (now (list .entry))) width mode first (now (line .entry))) (length (now (numbers .entry))) r (now (conv .exit)) (now (numbers .exit)) (now (list .exit)) ⌝ }
+{
+    let none: [usize; 0] = [];
+    if mode == 0 {
+        return draw_window_numbers(
+            BENCH,
+            line,
+            &none,
+            usize::MAX,
+            0,
+            width,
+            conv,
+            numbers,
+            list,
+        );
+    }
+    draw_row_numbers(
+        BENCH,
+        line,
+        &none,
+        usize::MAX,
+        first,
+        1,
+        width,
+        mode,
+        conv,
+        numbers,
+        list,
+    )
+}
+
+// A change list in a screen row.
+fn print_list(
+    list: &[u8],
+    columns: usize,
+    line: &[u8],
+    cells: &mut [u8],
+    out: &mut [u8],
+    at: usize,
+) -> RowPrinted
+    ensures { λ r. ⌜ PrintedTo (listText (length (now (cells .entry))) columns (now (line .entry)) (now (list .entry))) (sink (now (out .entry)) at) (now (out .exit)) r ⌝ }
+{
+    let t = screen_row(list, columns, cells);
+    if t.number == 0 {
+        let n = smaller(t.count, cells.len());
+        let a = push_row(out, at, line, &cells[..n]);
+        return RowPrinted {
+            number: 0,
+            at: push_byte(out, a, 0x0A),
+        };
+    }
+    RowPrinted {
+        number: t.number,
+        at: at,
+    }
+}
+
+// A row, with lent memory.
+fn print_row(
+    line: &[u8],
+    width: usize,
+    mode: usize,
+    first: usize,
+    columns: usize,
+    conv: &mut [u8],
+    numbers: &mut [usize],
+    list: &mut [u8],
+    cells: &mut [u8],
+    out: &mut [u8],
+    at: usize,
+) -> RowPrinted
+    ensures { λ r. ⌜ PrintedTo (rowOf (length (now (cells .entry))) columns (drawnRow (length (now (conv .entry))) (placesIn (length (now (numbers .entry)))) (length (now (list .entry))) width mode first (now (line .entry)))) (sink (now (out .entry)) at) (now (out .exit)) r ⌝ }
+{
+    let d = draw(line, width, mode, first, conv, numbers, list);
+    if d.number == 0 {
+        let n = smaller(d.count, list.len());
+        return print_list(&list[..n], columns, conv, cells, out, at);
+    }
+    RowPrinted {
+        number: d.number,
+        at: at,
+    }
+}
+
+fn small_row(
+    line: &[u8],
+    width: usize,
+    mode: usize,
+    first: usize,
+    out: &mut [u8],
+    at: usize,
+) -> RowPrinted
+    ensures { λ r. ⌜ PrintedTo (smallRow width mode (now (line .entry)) first) (sink (now (out .entry)) at) (now (out .exit)) r ⌝ }
+{
+    let mut conv = [0u8; 2048];
+    let mut numbers = [0usize; 256];
+    let mut list = [0u8; 4096];
+    let mut cells = [0u8; 16384];
+    print_row(
+        line,
+        width,
+        mode,
+        first,
+        width,
+        &mut conv,
+        &mut numbers,
+        &mut list,
+        &mut cells,
+        out,
+        at,
+    )
+}
+
+// The columns of a row in a list of rows, or the width where that is more.
+fn columns_in(rows: &[usize], width: usize, first: usize) -> usize
+    ensures { λ r. ⌜ r ≡ columnsIn (now (rows .entry)) width first ⌝ }
+{
+    if first < rows.len() / 2 {
+        let start = rows[2 * first];
+        let end = rows[2 * first + 1];
+        if start <= end {
+            if width < end - start {
+                return end - start;
+            }
+        }
+    }
+    width
+}
+
+fn row_columns(line: &[u8], width: usize, mode: usize, first: usize) -> usize
+    ensures { λ r. ⌜ r ≡ columnsOf width mode first (now (line .entry)) ⌝ }
+{
+    if mode == 0 {
+        return width;
+    }
+    let mut conv = [0u8; 32768];
+    let mut numbers = [0usize; 8192];
+    let mut rows = [0usize; 16384];
+    rows_numbers(line, width, mode, &mut conv, &mut numbers, &mut rows);
+    columns_in(&rows, width, first)
+}
+
+fn large_row(
+    line: &[u8],
+    width: usize,
+    mode: usize,
+    first: usize,
+    out: &mut [u8],
+    at: usize,
+) -> RowPrinted
+    ensures { λ r. ⌜ PrintedTo (largeRow width mode (now (line .entry)) first) (sink (now (out .entry)) at) (now (out .exit)) r ⌝ }
+{
+    let columns = row_columns(line, width, mode, first);
+    let mut conv = [0u8; 32768];
+    let mut numbers = [0usize; 8192];
+    let mut list = [0u8; 131072];
+    let mut cells = [0u8; 262144];
+    print_row(
+        line,
+        width,
+        mode,
+        first,
+        columns,
+        &mut conv,
+        &mut numbers,
+        &mut list,
+        &mut cells,
+        out,
+        at,
+    )
+}
+
+// A row of a line: with little memory, and where that is refused, with more.
+fn line_row(
+    line: &[u8],
+    width: usize,
+    mode: usize,
+    first: usize,
+    out: &mut [u8],
+    at: usize,
+) -> RowPrinted
+    ensures { λ r. ⌜ PrintedTo (lineRow width mode (now (line .entry)) first) (sink (now (out .entry)) at) (now (out .exit)) r ⌝ }
+{
+    let a = small_row(line, width, mode, first, out, at);
+    if a.number == 0 {
+        return a;
+    }
+    large_row(line, width, mode, first, out, at)
+}
+
+fn small_height(line: &[u8], width: usize, mode: usize) -> Answer
+    ensures { λ r. ⌜ AnswerOf (heightCall profile01 2048 64 width mode (now (line .entry))) r ⌝ }
+{
+    let mut conv = [0u8; 2048];
+    let mut numbers = [0usize; 256];
+    height_numbers(line, width, mode, &mut conv, &mut numbers)
+}
+
+fn large_height(line: &[u8], width: usize, mode: usize) -> Answer
+    ensures { λ r. ⌜ AnswerOf (heightCall profile01 32768 2048 width mode (now (line .entry))) r ⌝ }
+{
+    let mut conv = [0u8; 32768];
+    let mut numbers = [0usize; 8192];
+    height_numbers(line, width, mode, &mut conv, &mut numbers)
+}
+
+fn line_height(line: &[u8], width: usize, mode: usize) -> Answer
+    ensures { λ r. ⌜ AnswerOf (heightOf width mode (now (line .entry))) r ⌝ }
+{
+    let a = small_height(line, width, mode);
+    if a.number == 0 {
+        return a;
+    }
+    large_height(line, width, mode)
+}
+
+// Why a line is refused.
+fn push_words(out: &mut [u8], at: usize, number: usize) -> usize
+    ensures { λ r. ⌜ sink (now (out .exit)) r ≡ emit (sink (now (out .entry)) at) (words number) ⌝ }
+{
+    if number == 1 {
+        return push_bytes(out, at, b"more than 4,096 bytes");
+    }
+    if number == 4 {
+        return push_bytes(out, at, b"more than 2,048 spans");
+    }
+    if number == 5 {
+        return push_bytes(out, at, b"a row wider than 4,096 columns");
+    }
+    if number == 8 {
+        return push_bytes(out, at, b"a cluster wider than its row");
+    }
+    push_bytes(out, at, b"too much to draw")
+}
+
+// `refused`, a refusal's number and its words.
+fn push_refused(out: &mut [u8], at: usize, number: usize) -> usize
+    ensures { λ r. ⌜ sink (now (out .exit)) r ≡ emit (sink (now (out .entry)) at) (refusedText number) ⌝ }
+{
+    let a = push_bytes(out, at, b": refused ");
+    let b = push_decimal(out, a, number);
+    let c = push_bytes(out, b, b": ");
+    let d = push_words(out, c, number);
+    push_byte(out, d, 0x0A)
+}
+
+// `NAME:LINE: refused N: words`.
+pub fn push_refusal(out: &mut [u8], at: usize, name: &[u8], line: usize, number: usize) -> usize
+    ensures { λ r. ⌜ sink (now (out .exit)) r ≡ emit (sink (now (out .entry)) at) (refusalText (now (name .entry)) line number) ⌝ }
+{
+    let a = push_bytes(out, at, name);
+    let b = push_byte(out, a, 0x3A);
+    let c = push_decimal(out, b, line);
+    push_refused(out, c, number)
+}
+
+// So many rows; a refused one is the last.
+fn push_rows(
+    out: &mut [u8],
+    at: usize,
+    name: &[u8],
+    number: usize,
+    width: usize,
+    mode: usize,
+    line: &[u8],
+    count: usize,
+) -> usize
+    ensures { λ r. ⌜ sink (now (out .exit)) r ≡ emit (sink (now (out .entry)) at) (rowsFrom (now (name .entry)) number width mode (now (line .entry)) 0 count) ⌝ }
+{
+    let mut a = at;
+    let mut i = 0;
+    while i < count {
+        let p = line_row(line, width, mode, i, out, a);
+        if p.number == 0 {
+            a = p.at;
+            i += 1;
+        } else {
+            return push_refusal(out, p.at, name, number, p.number);
+        }
+    }
+    a
+}
+
+// What is printed for a line of a file, with its number there.
+pub fn push_line(
+    out: &mut [u8],
+    at: usize,
+    name: &[u8],
+    number: usize,
+    width: usize,
+    mode: usize,
+    line: &[u8],
+) -> usize
+    ensures { λ r. ⌜ sink (now (out .exit)) r ≡ emit (sink (now (out .entry)) at) (lineText (now (name .entry)) number width mode (now (line .entry))) ⌝ }
+{
+    if mode == 0 {
+        return push_rows(out, at, name, number, width, mode, line, 1);
+    }
+    let h = line_height(line, width, mode);
+    if h.number == 0 {
+        return push_rows(out, at, name, number, width, mode, line, h.count);
+    }
+    push_refusal(out, at, name, number, h.number)
+}
