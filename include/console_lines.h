@@ -1,11 +1,10 @@
 /* Console lines: the calls of the static library libconsole.a.
  *
  * Each call starts from the raw line (console_screen_row and console_store from a change
- * list, console_restore from a stored one, console_write_cells from cells) and is lent
- * its memory. It returns 0 and a count, or
- * the number of the question that refuses it and 0. Every byte lent for writing is
- * written: what the call has for it and zeros after it, or zeros throughout where it
- * is refused. */
+ * list, console_restore from a stored one, console_write_cells from cells) and is lent its
+ * memory. It returns 0 and a count, or the number of the question that refuses it and 0.
+ * Every byte lent for writing is written: what the call has for it and zeros after it, or
+ * zeros throughout where it is refused. */
 #ifndef CONSOLE_LINES_H
 #define CONSOLE_LINES_H
 
