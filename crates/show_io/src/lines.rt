@@ -323,7 +323,7 @@ fn push_rows(
 }
 
 // What is printed for a line of a file, with its number there.
-pub fn push_line(
+pub(crate) fn push_line(
     out: &mut [u8],
     at: usize,
     name: &[u8],
