@@ -11,7 +11,7 @@ use lib.Seq.{take-nil, take-all, drop-cons}
 use lib.Dec.{leb, ltb}
 use borrow.Author.Tests.{le-leb, leb-true, leb-false, ltb-true, ltb-false, le-ltb}
 use Rattle.buffer.specs.Numbers.Laws.{smaller-left, smaller-right}
-use Rattle.text.specs.Tests.{cases, or-false}
+use Rattle.text.specs.Tests.{cases, both-true, or-false}
 use Rattle.text.specs.Each.{all-nil, all-cons, all-split}
 use Rattle.text.specs.Utf8.{Scalar, ascii, asciis, decode, bytesOf}
 use Rattle.text.specs.Utf8.AsciiTexts.{asciis-bytes, asciis-cons, asciis-nil, asciis-size}
@@ -28,10 +28,6 @@ use Rattle.text.specs.declared.class.Profile as code
 use Rattle.text.specs.Cluster.Laws.{clusters-nil}
 use Rattle.drawing.specs.Clip.{clipEnd, clipStart, clip}
 use Rattle.drawing.specs.Clip.Contracts.{allPrintable, ColumnsClip, bytesIn, textIn, clipText, clipOf, Clipped}
-
-both-true : (a b : Bool) → a && b ≡ true → (a ≡ true) × (b ≡ true)
-both-true true b e = (refl, e)
-both-true false b e = absurd (true≢false (sym e))
 
 pub all-printable : (s : List ℕ) → allPrintable s ≡ true → Printable s
 unfolding allPrintable

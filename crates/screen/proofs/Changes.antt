@@ -10,7 +10,7 @@ use lib.ListN.{length, take, drop, length-drop}
 use lib.Seq.{length-take-le}
 use lib.Dec.{eqb, ltb}
 use borrow.Author.Tests.{ne-eqb, le-ltb, eqb-true, ltb-true}
-use Rattle.text.specs.Tests.{cases}
+use Rattle.text.specs.Tests.{cases, both-true}
 use Rattle.text.specs.Class.{Profile}
 use Rattle.screen.specs.WellFormed.{color, fields, bodySize, bodySizes, ofKind}
 use Rattle.screen.specs.Records.Contracts.{recordOf}
@@ -18,7 +18,6 @@ use Rattle.screen.specs.Row.{Screen, withAttributes, clear, right, onRec
 use Rattle.screen.specs.Row.Contracts.{part}
 use Rattle.screen.specs.Screen.{withAt, withAttributesAt, withRefusal, rowOf, screenOf, formed, textOn, recordOn, RowReady, BodyReady, Stepped}
 use Rattle.screen.specs.Screen.Laws.{text-record, body-record}
-use Rattle.screen.specs.Stored.Laws.{both-true}
 use Rattle.screen.specs.declared.records.Head.{Head}
 use Rattle.screen.specs.declared.screen.Screen as code
 use Rattle.screen.proofs.Heads.{body-is}

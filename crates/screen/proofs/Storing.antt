@@ -18,7 +18,7 @@ use Rattle.screen.specs.Records.Laws.{same-record}
 use Rattle.screen.specs.Records.Contracts.{LengthSize, HeadReady, headAt, recordOf}
 use Rattle.screen.specs.WellFormed.{bodySizes, ofKind, wellFormed}
 use Rattle.screen.specs.Stored.{lengthened, short}
-use Rattle.screen.specs.Stored.Laws.{both-true}
+use Rattle.text.specs.Tests.{both-true}
 use Rattle.screen.specs.Stored.Contracts.{wholeRecord, isFormed, refusalOf, WriteRecordsReady}
 use Rattle.screen.specs.declared.records.Head.{Head}
 use Rattle.screen.proofs.Heads.{body-is, size-small, records-end, behind, records-from, head-inside, head-start, head-whole, records-next}

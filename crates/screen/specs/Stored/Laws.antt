@@ -7,7 +7,7 @@ use mathlib.Core.List.{List, [], _∷_, _++_, map}
 use lib.ListN.{length, getD, length-append}
 use lib.Dec.{eqb, leb}
 use borrow.Author.Tests.{eqb-true, le-leb, leb-true}
-use Rattle.text.specs.Tests.{cases}
+use Rattle.text.specs.Tests.{cases, both-true}
 use Rattle.text.specs.Each.{All, all-nil, all-cons, all-map, all-both}
 use Rattle.text.specs.Overstrike.Bytes.{Byte}
 use Rattle.text.specs.Calls.{ask}
@@ -21,10 +21,6 @@ use Rattle.screen.specs.Calls.Code.Laws.{writing-yes, writing-left, writ
 use Rattle.screen.specs.Stored.{lengthened, short, storeQuestions, restoreQuestions, storeCall, restoreCall}
 
 -- ---- records one by one
-
-pub both-true : (a b : Bool) → (a && b) ≡ true → (a ≡ true) × (b ≡ true)
-both-true true b e = (refl, e)
-both-true false b e = (e, absurd (true≢false (sym e)))
 
 -- a well-formed record
 pub record Formed (old : Bool) (r : Record) : Type 0 where
