@@ -41,9 +41,6 @@ use Rattle.drawing.specs.declared.write.Window.{Window}
 pub start-fits : (a b : ℕ) → (leb a 1048576 && leb b 1048576) ≡ true → a + 1 < 2 ^ 64
 start-fits a b e = omega (arith, leb-true a 1048576 (is-true (leb a 1048576) (and-T (leb a 1048576) (leb b 1048576) (true-T e) .0)))
 
-pub wrapping-is : (q : Request) (conv n : ℕ) → n ≡ lineRoom conv → record { profile = record { version = 0 }; width = record { 0 = q .width }; mode = q .mode; len = n } ≡ wrappingOf q conv
-wrapping-is q conv n e = ap (λ (k : ℕ). record { profile = record { version = 0 }; width = record { 0 = q .width }; mode = q .mode; len = k }) e
-
 pub bounds-is : (y : RowCounts) (start end : Column) → end ≡ cond (ltb (y .last) (y .count)) (y .end) (y .ended) → start ≡ cond (ltb (y .first) (y .count)) (y .start) end → record { profile = record { version = 0 }; start = start; end = end } ≡ boundsOf y
 bounds-is y start end e f = rw (f, e)
 

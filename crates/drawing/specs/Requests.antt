@@ -12,7 +12,7 @@ use Rattle.text.specs.declared.Column.{Column}
 use Rattle.spans.specs.Spans.{Span, Record, records}
 use Rattle.spans.specs.Spans.RecordSpans.{spansIn}
 use Rattle.rows.specs.Calls.{modeOf, modeAndWidth}
-use Rattle.rows.specs.Calls.Contracts.{lineRoom}
+use Rattle.rows.specs.Calls.Contracts.{lineRoom, wrappingAt}
 use Rattle.rows.specs.declared.wrap.RowCounts.{RowCounts}
 use Rattle.rows.specs.declared.wrap.Wrapping.{Wrapping}
 use Rattle.drawing.specs.Change.{Change, encode}
@@ -55,7 +55,7 @@ unfolding askedOf
 drawableOf q = cond (eqb (askedOf q) 0) (cond (q .wrapped) (rowRequest (q .reader) (q .first) (q .count) (q .width) (q .mode) (q .current)) (windowRequest (q .reader) (q .start) (q .end) (q .current))) (windowRequest 0 0 0 0)
 
 abbrev pub wrappingOf : Request → ℕ → Wrapping
-wrappingOf q conv = record { profile = record { version = 0 }; width = record { 0 = q .width }; mode = q .mode; len = lineRoom conv }
+wrappingOf q conv = wrappingAt (q .width) (q .mode) conv
 
 -- wrap_bounds_for_rows, of the rows that are asked for
 abbrev pub boundsEnd : RowCounts → Column

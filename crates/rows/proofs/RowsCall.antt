@@ -24,7 +24,7 @@ use Rattle.rows.specs.Rows.{Row}
 use Rattle.rows.specs.Calls.{modeAndWidth, numbersOf, Wrapped}
 use Rattle.text.specs.TextParts.{column}
 use Rattle.rows.specs.Wrap.{RowList, rowList, withRows, beginning, SpansRoom, MadeWrap}
-use Rattle.rows.specs.Calls.Contracts.{largest, lineRoom, wrappingOf, spansWrapped, rowCount, numbersKept, decided, outcomeOf, answerOf, wrappedAs, answered}
+use Rattle.rows.specs.Calls.Contracts.{largest, lineRoom, wrappingAt, wrappingOf, spansWrapped, rowCount, numbersKept, decided, outcomeOf, answerOf, wrappedAs, answered}
 use Rattle.rows.specs.Calls.Contracts.Laws.{rowsFound, count, pairs, listable, nothing, answered-refused, answered-five, answered-six, answered-accepted}
 use Rattle.rows.specs.Wrap.Laws.{rows-written, written-count, written-numbers, numbersOf-length}
 use Rattle.rows.specs.declared.Request.{Request}
@@ -37,8 +37,8 @@ use Rattle.rows.specs.Calls.Reading.{line-room, unmatched-spans}
 
 -- ---- the covered functions
 
-pub wrapping-is : (q : Request) (conv n : ℕ) → n ≡ lineRoom conv → record { profile = record { version = 0 }; width = column (q .width); mode = q .mode; len = n } ≡ wrappingOf q conv
-wrapping-is q conv n e = ap (λ (k : ℕ). record { profile = record { version = 0 }; width = column (q .width); mode = q .mode; len = k }) e
+pub wrapping-is : (width mode conv n : ℕ) → n ≡ lineRoom conv → record { profile = record { version = 0 }; width = column width; mode = mode; len = n } ≡ wrappingAt width mode conv
+wrapping-is width mode conv n e = ap (λ (k : ℕ). record { profile = record { version = 0 }; width = column width; mode = mode; len = k }) e
 
 module _ (q : Request) (rows numbers : ℕ) where
   pub kept-fit : q .known ≡ 0 → rows ≤ numbers / 2 → 2 * rows ≡ numbersKept q rows numbers

@@ -15,7 +15,8 @@ use Rattle.text.specs.TextParts.{column}
 use Rattle.spans.specs.Spans.{Record}
 use Rattle.rows.specs.Wrap.{RowList, rowList, withRows, beginning, rowsOf, MadeWrap}
 use Rattle.rows.specs.Wrap.Laws.{rows-pushed, written-count}
-use Rattle.rows.specs.Calls.Contracts.{largest, lineRoom}
+use Rattle.rows.specs.declared.wrap.Wrapping.{Wrapping}
+use Rattle.rows.specs.Calls.Contracts.{largest, wrappingAt}
 use Rattle.rows.specs.Widths.{planOf, widths, WidthLeft, widthTried, triedFrom}
 use Rattle.rows.specs.declared.wrap.RowCounts.{RowCounts}
 use Rattle.rows.specs.declared.widths.WidthRequest.{WidthRequest}
@@ -32,10 +33,10 @@ unfolding counted
 counted-none n zero z = absurd (z refl)
 counted-none n (suc r) z = refl
 
-pub plan-is : (mode wanted greatest conv n number kept most len : ℕ) → number ≡ n → kept ≡ counted largest number → most ≡ counted greatest number → len ≡ lineRoom conv
-    → record { number = number; kept = kept; request = record { wrapping = record { profile = record { version = 0 }; width = column 0; mode = mode; len = len }; wanted = wanted; greatest = most } } ≡ planOf n mode wanted greatest conv
+pub plan-is : (mode wanted greatest conv n number kept most : ℕ) (w : Wrapping) → number ≡ n → kept ≡ counted largest number → most ≡ counted greatest number → w ≡ wrappingAt 0 mode conv
+    → record { number = number; kept = kept; request = record { wrapping = w; wanted = wanted; greatest = most } } ≡ planOf n mode wanted greatest conv
 unfolding planOf
-plan-is mode wanted greatest conv n number kept most len e f g h = rw (f, g, h, e) refl
+plan-is mode wanted greatest conv n number kept most w e f g h = rw (f, g, h, e) refl
 
 pub next-few : (t : Widths) → WidthLeft t → t .tried + 1 < 2 ^ 64
 next-few t w = omega (arith, w .some, w .few)

@@ -9,7 +9,7 @@ use Rattle.text.specs.TextParts.{column}
 use Rattle.text.specs.Class.Code.{profileOf}
 use Rattle.spans.specs.Spans.{Record}
 use Rattle.rows.specs.Wrap.{beginning, SpansRoom, rowsOf}
-use Rattle.rows.specs.Calls.Contracts.{largest, lineRoom}
+use Rattle.rows.specs.Calls.Contracts.{largest, wrappingAt}
 use Rattle.rows.specs.Narrowest.{modeRowsAndWidth, Narrowed}
 use Rattle.rows.specs.declared.WidthAnswer.{WidthAnswer}
 use Rattle.rows.specs.declared.wrap.Wrapping.{Wrapping}
@@ -31,7 +31,7 @@ planOf number mode wanted greatest conv =
     record {
       number = number;
       kept = counted largest number;
-      request = record { wrapping = record { profile = record { version = 0 }; width = column 0; mode = mode; len = lineRoom conv }; wanted = wanted; greatest = counted greatest number };
+      request = record { wrapping = wrappingAt 0 mode conv; wanted = wanted; greatest = counted greatest number };
     }
 
 -- ---- widths one after the other

@@ -1,18 +1,16 @@
 // Layer 3, rows: words and wrapping; the calls `rows`, `height` and `narrowest`.
 use buffer::clear_bytes;
 use buffer::clear_numbers;
-use buffer::smaller;
 use spans::Span;
 use spans::clear_spans;
 use text::Answer;
-use text::Column;
-use text::class::Profile;
 use widths::first_width;
 use widths::plan;
 use wrap::RowCounts;
 use wrap::Wrapping;
 use wrap::begin;
 use wrap::make_wrap;
+use wrap::wrapping_at;
 ghost use mathlib.Core.Path.{_≡_};
 ghost use mathlib.Core.List.{[]};
 ghost use lib.ListN.{length};
@@ -64,16 +62,10 @@ fn no_matches<'a>(numbers: &'a [usize]) -> &'a [usize]
     &numbers[..0]
 }
 
-// The converted line has at most 8 times 4,096 bytes; no span lies behind it.
 fn wrapping(request: Request, conv: usize) -> Wrapping
     ensures { λ r. ⌜ r ≡ wrappingOf request conv ⌝ }
 {
-    Wrapping {
-        profile: Profile { version: 0 },
-        width: Column(request.width),
-        mode: request.mode,
-        len: smaller(conv, 32768),
-    }
+    wrapping_at(request.width, request.mode, conv)
 }
 
 // Question 5.

@@ -2,10 +2,9 @@
 use super::wrap::Wrapping;
 use super::wrap::begin;
 use super::wrap::make_wrap;
-use buffer::smaller;
+use super::wrap::wrapping_at;
 use spans::Span;
 use text::Column;
-use text::class::Profile;
 ghost use mathlib.Core.Path.{_≡_};
 ghost use Prim.Native.Nat.{_<_};
 ghost use lib.ListN.{take};
@@ -75,17 +74,11 @@ pub(crate) fn plan(
     let number = decide(read, mode, wanted, greatest);
     let kept = counted(usize::MAX, number);
     let widths = counted(greatest, number);
-    let len = smaller(conv, 32768);
     WidthPlan {
         number: number,
         kept: kept,
         request: WidthRequest {
-            wrapping: Wrapping {
-                profile: Profile { version: 0 },
-                width: Column(0),
-                mode: mode,
-                len: len,
-            },
+            wrapping: wrapping_at(0, mode, conv),
             wanted: wanted,
             greatest: widths,
         },

@@ -1,6 +1,7 @@
 // Wrapping: src/line.rs, Span::split and make_wrap.
 use super::marks::drawn_columns;
 use super::words::next_word;
+use buffer::smaller;
 use spans::Span;
 use text::BytePlace;
 use text::Column;
@@ -14,6 +15,7 @@ ghost use lib.Dec.{leb};
 ghost use lib.ListN.{length, take, drop};
 ghost use Rattle.text.specs.Class.Code.{profileOf};
 ghost use Rattle.text.specs.TextParts.{textAt};
+ghost use Rattle.rows.specs.Calls.Contracts.{wrappingAt};
 ghost use Rattle.rows.specs.Words.Laws.{firstWord};
 ghost use mathlib.Core.Bool.{cond};
 ghost use Rattle.rows.specs.Rows.{row, tabbed, pushed};
@@ -43,6 +45,18 @@ pub struct Wrapping {
     pub width: Column,
     pub mode: usize,
     pub len: usize,
+}
+
+// How to wrap at a width and mode; the converted line has at most 8 times 4,096 bytes, and no span lies behind it.
+pub fn wrapping_at(width: usize, mode: usize, conv: usize) -> Wrapping
+    ensures { λ r. ⌜ r ≡ wrappingAt width mode conv ⌝ }
+{
+    Wrapping {
+        profile: Profile { version: 0 },
+        width: Column(width),
+        mode: mode,
+        len: smaller(conv, 32768),
+    }
 }
 
 fn choose(first: bool, a: Column, b: Column) -> Column

@@ -26,8 +26,11 @@ largest = 0xFFFF_FFFF_FFFF_FFFF
 abbrev pub lineRoom : ℕ → ℕ
 lineRoom conv = smallerOf conv 32768
 
+abbrev pub wrappingAt : (width mode conv : ℕ) → Wrapping
+wrappingAt width mode conv = record { profile = record { version = 0 }; width = column width; mode = mode; len = lineRoom conv }
+
 abbrev pub wrappingOf : Request → ℕ → Wrapping
-wrappingOf q conv = record { profile = record { version = 0 }; width = column (q .width); mode = q .mode; len = lineRoom conv }
+wrappingOf q conv = wrappingAt (q .width) (q .mode) conv
 
 -- how many spans are wrapped, how many rows a call answers, and how many numbers of the row list it keeps
 unfoldable pub spansWrapped : Request → ℕ → ℕ
