@@ -30,7 +30,7 @@ use Rattle.drawing.specs.Calls as calls
 use Rattle.drawing.specs.Calls.{drawing, windowQuestions, rowQuestions, windowCall, rowCall}
 use Rattle.drawing.specs.Calls.Laws.{further, drawing-unknown, drawing-unread, drawing-refused, drawing-accepted}
 use Rattle.drawing.specs.Rendering.{largest}
-use Rattle.drawing.specs.Requests.{windowRequest, rowRequest, askedOf, InLimits, drawableOf, wrappingOf, boundsOf, windowRendering, rowsRendering, firstSpans, RenderWrappedRoom, changesOf, Drew, decided, outcomeOf, answerOf, drawnAs, Called}
+use Rattle.drawing.specs.Requests.{windowRequest, rowRequest, askedOf, InLimits, drawableOf, boundsOf, windowRendering, rowsRendering, firstSpans, RenderWrappedRoom, changesOf, Drew, decided, outcomeOf, answerOf, drawnAs, Called}
 use Rattle.drawing.specs.declared.Request.{Request}
 use Rattle.drawing.specs.declared.Outcome.{Outcome}
 use Rattle.drawing.specs.declared.state.Drawn.{Drawn}

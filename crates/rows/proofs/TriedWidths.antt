@@ -11,7 +11,6 @@ use borrow.Author.Tests.{lt-ltb, le-ltb}
 use Rattle.text.specs.Tests.{cases}
 use Rattle.text.specs.Class.{Profile}
 use Rattle.text.specs.Calls.{counted}
-use Rattle.text.specs.TextParts.{column}
 use Rattle.spans.specs.Spans.{Record}
 use Rattle.rows.specs.Wrap.{RowList, rowList, withRows, beginning, rowsOf, MadeWrap}
 use Rattle.rows.specs.Wrap.Laws.{rows-pushed, written-count}
