@@ -3,17 +3,16 @@ use mathlib.Core.Path.{_≡_, refl, sym, ap, ap₂, _∙_}
 use mathlib.Core.Logic.{_≢_}
 use Prim.Native.Nat.{ℕ, zero, suc, _+_, _-_, _*_, _≤_, _<_}
 use native.Mathlib.Omega.{arith}
-use mathlib.Core.Bool.{Bool, true, false, cond, not, _&&_, _||_}
+use mathlib.Core.Bool.{Bool, true, false, not, _&&_, _||_}
 use mathlib.Core.Option.{none, some}
 use mathlib.Core.List.{List, [], _∷_, _++_}
-use lib.ListN.{length, take, drop, getD, replicate, length-take, length-drop, length-append, drop-of-length-le, take-append-drop}
+use lib.ListN.{length, take, drop, replicate, length-take, length-drop, length-append, take-append-drop}
 use lib.Seq.{take-all, length-take-le}
 use lib.Dec.{eqb, leb, ltb}
 use borrow.Author.Tests.{eq-eqb, ne-eqb, leb-true, leb-false, le-leb, lt-leb, lt-ltb, le-ltb, ltb-false}
 use Rattle.text.specs.Tests.{cases}
 use Rattle.buffer.specs.Sink.{Sink, sink, put, emit, written, Copied}
 use Rattle.buffer.specs.Sink.Laws.{emit-append, emit-room, put-past, fitted}
-use Rattle.text.specs.Calls.{lent}
 use Rattle.text.specs.Calls.Laws.{lent-accepted}
 use Rattle.cache.specs.declared.wraps.Head.{Head}
 use Rattle.cache.specs.Wraps.{Key, key, sameKey, head, keyOf, kept, find, without, headNumbers, withHeads, afterUse, newBlock, withWrap}
@@ -21,7 +20,7 @@ use Rattle.cache.specs.Wraps.Contracts.{headAt, Kept, keptRows, newHeads
 use Rattle.cache.specs.Calls.{wrapsAfter, unlessRefused}
 use Rattle.cache.specs.Calls.Contracts.{rowsRequest, heightRequest, RememberReady, Remembered}
 use Rattle.cache.specs.Wraps.Laws.{kept-at, heads-written, new-block, new-block-low}
-use Rattle.cache.proofs.Heads.{none-left, on, found-head, found-version, found-within, found-none}
+use Rattle.cache.proofs.Heads.{none-left, on, found-head, found-version, found-within}
 
 -- ---- one head
 

@@ -15,7 +15,7 @@ use Rattle.buffer.specs.Numbers.Laws.{smaller-right}
 use Rattle.buffer.specs.Sink.{Sink, sink, put, emit}
 use Rattle.buffer.specs.Sink.Laws.{emit-none, then-emit}
 use Rattle.text.specs.Tests.{cases, both}
-use Rattle.text.specs.Utf8.{ascii, asciis, decode}
+use Rattle.text.specs.Utf8.{asciis, decode}
 use Rattle.text.specs.Utf8.AsciiTexts.{asciis-bytes, asciis-cons, asciis-nil, asciis-replicate}
 use Rattle.text.specs.Cluster.Printable.{printable-width, run-printable}
 use Rattle.text.specs.Class.Profile01.{ascii-classes}

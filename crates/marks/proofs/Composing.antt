@@ -13,7 +13,7 @@ use Rattle.buffer.specs.Numbers.{smallerOf, le2, le4}
 use Rattle.buffer.specs.Sink.{Sink, sink, put, emit}
 use Rattle.buffer.specs.Sink.Laws.{emit-none, then-emit, fitted, emit-put, then-put}
 use Rattle.text.specs.Tests.{cases}
-use Rattle.text.specs.Utf8.{ascii, asciis, bytesOf}
+use Rattle.text.specs.Utf8.{asciis, bytesOf}
 use Rattle.text.specs.Utf8.AsciiTexts.{asciis-append, asciis-bytes, asciis-cons, asciis-nil}
 use Rattle.drawing.specs.Marks.{byteMark, upperDigits, scalarMark}
 use Rattle.drawing.specs.Marks.Laws.{digit-is}

@@ -1,11 +1,11 @@
 -- The columns of a text's marks, scalar by scalar.
-use mathlib.Core.Path.{_≡_, refl, sym, ap, _∙_}
+use mathlib.Core.Path.{_≡_, sym, ap, _∙_}
 use mathlib.Core.Logic.{_≢_}
 use Prim.Native.Nat.{ℕ, _+_, _*_, _≤_, _<_}
 use native.Mathlib.Omega.{arith}
-use mathlib.Core.List.{List, [], _∷_}
+use mathlib.Core.List.{List, []}
 use lib.ListN.{length, drop}
-use Rattle.text.specs.Utf8.{Scalar, decode}
+use Rattle.text.specs.Utf8.{decode}
 use Rattle.text.specs.Utf8.Code.{firstSequence}
 use Rattle.text.specs.Utf8.Code.Laws.{none-past, none-at, scalar-at}
 use Rattle.text.specs.declared.utf8.Sequence.{Sequence}

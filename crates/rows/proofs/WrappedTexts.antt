@@ -34,7 +34,7 @@ use Rattle.rows.specs.Words.Laws.{firstWord, restWords, first-word-all, 
 use Rattle.rows.specs.Rows.{Row, Wrap, wrap, pushed, unbroken, byClusters, byWords, longWord, oneWord, splitText}
 use Rattle.rows.specs.Rows.Laws.{over, Natural, byClusters-over, longWord-over, byWords-over}
 use Rattle.rows.specs.Words.Contracts.{WordAt, bothOf}
-use Rattle.rows.specs.Wrap.{WordRoom, RowList, rowList, withRow, withRows, WrapRows, wrapRows, on, Room, Stepped, advanced, unbrokenOf, clustersOf, longWordOf, oneWordOf, wordsOf, wordMode, countOf, textOf}
+use Rattle.rows.specs.Wrap.{WordRoom, RowList, withRow, withRows, WrapRows, wrapRows, on, Room, Stepped, advanced, unbrokenOf, clustersOf, longWordOf, oneWordOf, wordsOf, wordMode, countOf, textOf}
 use Rattle.text.specs.declared.class.Profile as profile
 use Rattle.rows.specs.declared.wrap.WrapState.{WrapState}
 use Rattle.rows.proofs.WordClusters.{word-clusters}

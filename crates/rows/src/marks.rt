@@ -3,7 +3,6 @@ use text::utf8::decode;
 ghost use mathlib.Core.Path.{_≡_};
 ghost use Prim.Native.Nat.{_*_, _<_, _^_};
 ghost use lib.ListN.{length};
-ghost use Rattle.text.specs.TextParts.{textAt};
 ghost use Rattle.rows.specs.Marks.{markColumns, DrawnColumns};
 
 // Of a scalar's mark: `<U+`, four digits or more, `>`.

@@ -3,11 +3,10 @@ use mathlib.Core.Path.{_≡_, refl, sym, ap, _∙_}
 use mathlib.Core.Logic.{_≢_, inr}
 use Prim.Native.Nat.{ℕ, zero, suc, _+_, _-_, _≤_, _<_}
 use native.Mathlib.Omega.{arith}
-use native.Mathlib.Numerals.{add-one}
-use mathlib.Core.Bool.{Bool, true, false, cond, _&&_}
+use mathlib.Core.Bool.{Bool, true, false, _&&_}
 use mathlib.Core.List.{List, [], _∷_, _++_}
 use lib.ListN.{length, take, drop, getD, length-drop, drop-of-length-le}
-use lib.Seq.{take-all, length-take-le}
+use lib.Seq.{take-all}
 use lib.Dec.{eqb, leb}
 use borrow.Author.Tests.{eq-eqb, ne-eqb, le-leb, lt-leb, leb-true, leb-false}
 use Rattle.text.specs.Tests.{cases}
@@ -16,7 +15,7 @@ use Rattle.buffer.specs.Sink.Laws.{then-emit, emit-none}
 use Rattle.buffer.specs.Numbers.{smallerOf}
 use Rattle.screen.specs.Records.{littleEndian}
 use Rattle.screen.specs.Records.Contracts.{HeadReady}
-use Rattle.show_io.specs.Ansi.{alike, sameStyle, sameLink, styleOrder, uri, linkOrder, change}
+use Rattle.show_io.specs.Ansi.{alike, styleOrder, uri, linkOrder, change}
 use Rattle.show_io.specs.Ansi.Contracts.{styleChange, linkChange}
 
 -- ---- are_alike

@@ -1,15 +1,15 @@
 -- The rows of a line, one after the other.
 use mathlib.Core.Path.{_≡_, refl, sym, ap, ap₂, subst, _∙_}
 use mathlib.Core.Logic.{_≢_}
-use Prim.Native.Nat.{ℕ, zero, suc, _+_, _-_, _*_, _/_, _≤_, _<_}
+use Prim.Native.Nat.{ℕ, suc, _+_, _-_, _*_, _/_, _≤_, _<_}
 use native.Mathlib.Omega.{arith}
-use mathlib.Core.Bool.{Bool, true, false, cond}
-use mathlib.Core.List.{List, [], _∷_, _++_}
+use mathlib.Core.Bool.{Bool, cond}
+use mathlib.Core.List.{List, [], _++_}
 use mathlib.Core.Option.{none}
 use lib.ListN.{length, take, getD, List·getD-eq-default}
 use lib.Seq.{take-all}
 use lib.Dec.{eqb, leb}
-use borrow.Author.Tests.{eq-eqb, ne-eqb, le-leb, lt-leb, leb-true, leb-false, eqb-true}
+use borrow.Author.Tests.{eq-eqb, ne-eqb, le-leb, lt-leb, leb-false, eqb-true}
 use Rattle.text.specs.Tests.{cases}
 use Rattle.text.specs.Width.{profile01}
 use Rattle.text.specs.declared.Answer.{Answer}
@@ -18,7 +18,7 @@ use Rattle.buffer.specs.Sink.Laws.{emit-none, emit-append, then-put}
 use Rattle.buffer.specs.Numbers.{smallerOf}
 use Rattle.spans.specs.Calls.{Read}
 use Rattle.spans.specs.Numbers.{placesIn}
-use Rattle.rows.specs.Calls.{Wrapped, rowsCall, heightCall}
+use Rattle.rows.specs.Calls.{rowsCall, heightCall}
 use Rattle.rows.specs.Numbers.{RowsNumbers}
 use Rattle.drawing.specs.Calls.{Drawn, windowCall, rowCall}
 use Rattle.drawing.specs.Numbers.{DrawnNumbers}
@@ -26,7 +26,7 @@ use Rattle.screen.specs.Calls.{screenCall}
 use Rattle.text.specs.Calls.{Written}
 use Rattle.text.specs.Calls.Code.{written}
 use Rattle.show_io.specs.Ansi.{cells, rowText}
-use Rattle.show_io.specs.Lines.{Printed, printed, bench, drawnRow, screenText, listText, rowOf, columnsIn, columnsOf, smallRow, largeRow, lineRow, heightOf, rowsFrom, allRows, lineText, refusalText}
+use Rattle.show_io.specs.Lines.{Printed, bench, drawnRow, screenText, listText, rowOf, columnsIn, columnsOf, smallRow, largeRow, lineRow, heightOf, rowsFrom, allRows, lineText, refusalText}
 use Rattle.show_io.specs.Lines.Contracts.{PrintedTo, AnswerOf}
 use Rattle.show_io.specs.declared.lines.RowPrinted.{RowPrinted}
 

@@ -5,12 +5,11 @@ use Prim.Native.Nat.{ℕ, _+_}
 use mathlib.Core.Bool.{Bool, true, false, cond}
 use mathlib.Core.List.{List, [], _∷_, _++_, append-assoc, append-nil}
 use lib.ListN.{getD}
-use lib.Dec.{eqb}
 use borrow.Author.Tests.{eq-eqb, ne-eqb}
 use Rattle.buffer.specs.Sink.{Sink, put, emit}
-use Rattle.buffer.specs.Sink.Laws.{emit-append, then-emit, emit-put}
+use Rattle.buffer.specs.Sink.Laws.{then-emit, emit-put}
 use Rattle.rows_io.specs.Output.{decimal}
-use Rattle.show_io.specs.Ansi.{valued, colored, fontOf, flagsOf, colorsOf, alignmentOf, parametersOf, further, styleOrder}
+use Rattle.show_io.specs.Ansi.{valued, colored, fontOf, flagsOf, colorsOf, parametersOf, further, styleOrder}
 
 further-append : (ps qs : List ℕ) → further (ps ++ qs) ≡ further ps ++ further qs
 unfolding further

@@ -7,11 +7,11 @@ use mathlib.Core.Bool.{Bool, true, false, cond}
 use mathlib.Core.List.{List, [], _∷_, _++_}
 use lib.ListN.{length, take, drop, getD, length-append, length-drop, drop-of-length-le}
 use lib.Seq.{take-all, take-length, take-at, drop-cons, drop-drop, length-take-le}
-use lib.Dec.{eqb, leb}
+use lib.Dec.{leb}
 use borrow.Author.Tests.{eq-eqb, ne-eqb, lt-ltb, le-ltb, le-leb, lt-leb, leb-true, leb-false}
 use Rattle.text.specs.Tests.{cases}
 use Rattle.buffer.specs.Sink.{Sink, sink, emit, written}
-use Rattle.buffer.specs.Sink.Laws.{emit-none, emit-room, written-length}
+use Rattle.buffer.specs.Sink.Laws.{emit-room, written-length}
 use Rattle.buffer.specs.Numbers.{smallerOf}
 use Rattle.buffer.specs.Numbers.Laws.{smaller-left, smaller-right}
 use Rattle.show_io.specs.Lines.{lineText, refusalText}

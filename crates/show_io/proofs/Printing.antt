@@ -2,17 +2,16 @@
 use mathlib.Core.Path.{_≡_, refl, sym, ap, ap₂, _∙_}
 use Prim.Native.Nat.{ℕ, suc, _+_, _-_, _≤_, _<_}
 use native.Mathlib.Omega.{arith}
-use mathlib.Core.Bool.{Bool, true, false, cond}
 use mathlib.Core.List.{List, [], _∷_, _++_, append-assoc}
-use lib.ListN.{length, take, drop, getD, length-drop, drop-of-length-le}
+use lib.ListN.{length, take, drop, getD, drop-of-length-le}
 use lib.Seq.{drop-cons, drop-drop}
 use lib.Dec.{leb}
-use borrow.Author.Tests.{leb-true, leb-false, le-leb, lt-leb}
+use borrow.Author.Tests.{leb-true, leb-false, lt-leb}
 use Rattle.text.specs.Tests.{cases}
 use Rattle.buffer.specs.Sink.{Sink, sink, emit}
 use Rattle.buffer.specs.Sink.Laws.{then-emit, emit-append}
 use Rattle.buffer.specs.Numbers.{smallerOf}
-use Rattle.buffer.specs.Numbers.Laws.{smaller-left, smaller-right}
+use Rattle.buffer.specs.Numbers.Laws.{smaller-right}
 use Rattle.screen.specs.Records.{littleEndian}
 use Rattle.screen.specs.WellFormed.{bodySize}
 use Rattle.screen.specs.Row.{Cell, cell}

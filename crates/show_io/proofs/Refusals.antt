@@ -1,8 +1,8 @@
 -- Refusals, written one part after the other.
-use mathlib.Core.Path.{_≡_, refl, sym, ap, _∙_}
+use mathlib.Core.Path.{_≡_, sym, ap, _∙_}
 use mathlib.Core.Logic.{_≢_}
 use Prim.Native.Nat.{ℕ}
-use mathlib.Core.List.{List, [], _∷_, _++_}
+use mathlib.Core.List.{List, [], _∷_}
 use borrow.Author.Tests.{ne-eqb}
 use Rattle.buffer.specs.Sink.{Sink, put, emit}
 use Rattle.buffer.specs.Sink.Laws.{then-emit, emit-put}

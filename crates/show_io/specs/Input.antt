@@ -2,12 +2,10 @@
 use Prim.Native.Nat.{ℕ, suc, _+_, _-_}
 use mathlib.Core.Bool.{Bool, cond}
 use mathlib.Core.List.{List, [], _∷_, _++_}
-use lib.ListN.{length, take, drop, getD}
+use lib.ListN.{length, take, getD}
 use lib.Dec.{eqb, leb, ltb}
 use Rattle.buffer.specs.Sink.{Sink, sink, emit}
 use Rattle.show_io.specs.Lines.{lineText, refusalText}
-use Rattle.show_io.specs.declared.input.Reading.{Reading}
-use Rattle.show_io.specs.declared.input.Progress.{Progress}
 pub mod Contracts
 pub mod Laws
 

@@ -1,9 +1,9 @@
 -- What the program `show` prints for a line: its rows one after the other, or a refusal in its place.
 use Prim.Native.Nat.{ℕ, zero, suc, _+_, _-_, _*_}
-use mathlib.Core.Bool.{Bool, cond}
+use mathlib.Core.Bool.{cond}
 use mathlib.Core.List.{List, [], _∷_, _++_}
 use mathlib.Core.Option.{none}
-use lib.ListN.{take, drop, getD}
+use lib.ListN.{take, getD}
 use lib.Dec.{eqb, leb}
 use Rattle.text.specs.Width.{profile01}
 use Rattle.text.specs.Calls.{Written}

@@ -13,7 +13,7 @@ ghost use lib.ListN.{length, take, drop};
 ghost use Rattle.buffer.specs.Sink.{sink, emit};
 ghost use Rattle.screen.specs.Records.{littleEndian};
 ghost use Rattle.show_io.specs.Ansi.{cells, valued, colored, fontOf, flagsOf, colorsOf, further, styleOrder, uri, linkOrder, alike, change, rowText};
-ghost use Rattle.show_io.specs.Ansi.Contracts.{styleChange, linkChange, placesAt, bodyIn, clusterIn, InRow, cellText};
+ghost use Rattle.show_io.specs.Ansi.Contracts.{styleChange, linkChange, placesAt, InRow, cellText};
 
 // The size of an attribute body.
 const BODY: usize = 25;

@@ -1,6 +1,5 @@
 -- A walk of the code, by hand, with two calls: the array's places are lent as a `&` slice to `rows_request`, and all that was lent goes for good to `cached_line`. Of each callee the proof knows its contract alone.
 use mathlib.Core.Path.{refl, sym, subst}
-use Prim.Native.Nat.{ℕ}
 use mathlib.Core.List.{List, [], _∷_}
 use lib.Dec.{lit<}
 use lib.ListN.{length}

@@ -1,7 +1,6 @@
 -- Vertical alignment (document 02, U7) in the attributes and in their body, computed.
 use mathlib.Core.Path.{_≡_, refl}
-use Prim.Native.Nat.{ℕ}
-use mathlib.Core.List.{List, [], _∷_, _++_}
+use mathlib.Core.List.{[], _∷_, _++_}
 use lib.ListN.{replicate}
 use Rattle.spans.specs.declared.sgr.Sgr.the-variants.{Reset, Intensity, VerticalAlign}
 use Rattle.drawing.specs.Attributes.{plain, apply, applyAll, linked, control, match, currentMatch, styled, arrows}

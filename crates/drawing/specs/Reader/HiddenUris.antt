@@ -19,7 +19,7 @@ use Rattle.drawing.specs.Attributes as attributes
 use Rattle.drawing.specs.Attributes.{Style, file, match, currentMatch, number, apply, applyAll, linked, styled, plain, arrows}
 use Rattle.drawing.specs.Clip.{clip, spaces}
 use Rattle.drawing.specs.Marks.{byteMark, scalarMark, lineDrawn}
-use Rattle.drawing.specs.Change.{Change, clipped}
+use Rattle.drawing.specs.Change.{Change}
 use Rattle.drawing.specs.Draw.{State, state, Sent, sent, style, move, meets, windowed, writeTruncated, writeMarks, renderSequence, textStyle, renderSpan, renderSpans, initial, leftArrow, rightArrow, closeWindow, closeRows}
 use Rattle.drawing.specs.Reader.{unlinked, withoutUri, seenBy}
 use Rattle.drawing.specs.Reader.Laws.{clipped-same}

@@ -1,7 +1,6 @@
 -- Bounds of marks.
-use Prim.Native.Nat.{ℕ, _+_, _*_, _≤_}
+use Prim.Native.Nat.{ℕ, _≤_}
 use native.Mathlib.Omega.{arith}
-use mathlib.Core.List.{List, [], _∷_}
 use lib.Dec.{ltb}
 use Rattle.text.specs.Tests.{cases}
 use Rattle.rows.specs.Marks.{markColumns}

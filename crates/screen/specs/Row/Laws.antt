@@ -1,19 +1,16 @@
 -- A cluster cut keeps its number of cells, and a text that would have passed the last column is not forgotten.
-use mathlib.Core.Path.{_≡_, refl, ap, _∙_}
-use Prim.Native.Nat.{ℕ, suc, _+_, _-_, _≤_}
-use native.Mathlib.Omega.{arith}
+use mathlib.Core.Path.{_≡_, refl, ap}
+use Prim.Native.Nat.{ℕ, suc}
 use mathlib.Core.Bool.{Bool, true, false, cond}
 use mathlib.Core.List.{List, [], _∷_}
-use lib.ListN.{length, take, drop, getD, length-append, length-drop}
-use lib.Seq.{length-take-le}
+use lib.ListN.{length}
 use lib.Dec.{eqb}
-use Rattle.text.specs.Tests.{cases}
 use Rattle.text.specs.Utf8.{Scalar, bytesOf}
 use Rattle.text.specs.Class.{Profile}
 use Rattle.text.specs.Width.{widthOf}
 use Rattle.screen.specs.Records.{Record}
 use Rattle.screen.specs.WellFormed.{clustersIn, isBackspace}
-use Rattle.screen.specs.Row.{Cell, plain, blank, isLater, lostEnd, lostStart, put, Screen, back, withAttributes, passes, write, clear, right, onCluster, onClusters, onRecord, onRecords}
+use Rattle.screen.specs.Row.{Cell, lostEnd, Screen, back, withAttributes, passes, write, clear, right, onCluster, onClusters, onRecord, onRecords}
 
 -- ---- the number of cells
 

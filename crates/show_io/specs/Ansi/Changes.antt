@@ -1,14 +1,14 @@
 -- What is printed between two cells leads from the attributes of the one to those of the other.
-use mathlib.Core.Path.{_≡_, refl, sym, ap, _∙_}
+use mathlib.Core.Path.{_≡_, refl, ap, _∙_}
 use Prim.Native.Nat.{ℕ, zero, suc, _+_, _≤_, _<_}
 use native.Mathlib.Omega.{arith}
-use mathlib.Core.Bool.{Bool, true, false, cond, _&&_}
-use mathlib.Core.List.{List, [], _∷_, _++_}
+use mathlib.Core.Bool.{Bool, true, false, _&&_}
+use mathlib.Core.List.{List, [], _++_}
 use lib.ListN.{length, take, drop, getD, List·getD-append}
 use lib.Seq.{length-take-le, getD-take, getD-drop, getD-append-add}
 use lib.Dec.{T, eqb, eqb→eq}
 use borrow.Author.Tests.{eq-eqb}
-use Rattle.text.specs.Tests.{and-T, is-true, true-T, cases}
+use Rattle.text.specs.Tests.{and-T, true-T, cases}
 use Rattle.text.specs.Each.{All}
 use Rattle.text.specs.Overstrike.Bytes.{Byte}
 use Rattle.buffer.specs.Numbers.{le4}
@@ -19,7 +19,7 @@ use Rattle.drawing.specs.declared.attributes.Link.{Link}
 use Rattle.drawing.specs.Attributes.{plainWith, applyAll}
 use Rattle.drawing.specs.Change.{colorBytes, flagByte, attributeBytes}
 use Rattle.screen.specs.WellFormed.{bodySize, fields}
-use Rattle.show_io.specs.Ansi.{alike, sameStyle, styleOrder}
+use Rattle.show_io.specs.Ansi.{alike, sameStyle}
 use Rattle.show_io.specs.Ansi.Contracts.{styleChange}
 use Rattle.show_io.specs.Ansi.Orders.{StyleRead, style-read}
 

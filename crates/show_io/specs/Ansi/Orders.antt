@@ -1,20 +1,20 @@
 -- Style orders and hyperlinks are read back: whatever attributes are in force and whatever follows, a style order is recognised whole, and
 -- its orders lead to the attributes of its body, the link apart, which stays; a hyperlink is recognised whole, with its URI.
 use mathlib.Core.Path.{_≡_, refl, sym, ap, ap₂, _∙_}
-use Prim.Native.Nat.{ℕ, zero, suc, _+_, _-_, _*_, _/_, _%_, _≤_, _<_}
+use Prim.Native.Nat.{ℕ, zero, suc, _+_, _-_, _*_, _/_, _%_, _≤_}
 use native.Mathlib.Omega.{arith}
-use mathlib.Core.Bool.{Bool, true, false, cond, _&&_, _||_}
+use mathlib.Core.Bool.{Bool, true, false, cond, _&&_}
 use mathlib.Core.List.{List, [], _∷_, _++_, append-assoc, append-nil}
 use lib.ListN.{length, take, drop, getD, length-append, drop-of-length-le}
 use lib.Seq.{drop-cons, getD-append-add, getD-append-seam, take-append-seam}
 use lib.Dec.{T, eqb, leb, leb→le, eqb→eq}
-use borrow.Author.Tests.{eqb-true, eqb-false, le-leb}
-use Rattle.text.specs.Tests.{and-T, or-T, is-true, true-T, cases, both, by-case, every, every-one}
+use borrow.Author.Tests.{eqb-true, le-leb}
+use Rattle.text.specs.Tests.{and-T, or-T, is-true, true-T, cases, both, every, every-one}
 use Rattle.text.specs.Each.{All, all-nil, all-cons, all-append}
 use Rattle.text.specs.Overstrike.Bytes.{Byte, byte-at}
 use Rattle.buffer.specs.Numbers.{le4}
 use Rattle.spans.specs.Sgr.{digit, parameters, allAtMost, allowed, meaningOf, known, meaningAfter, coloured, follow, ordersFrom, orders}
-use Rattle.spans.specs.Sequence.{sgr, hyperlink, Found, found, missing, leading, past, parameterByte, ifKnown, csi, uriByte, idByte, closed, osc, parse}
+use Rattle.spans.specs.Sequence.{sgr, hyperlink, found, leading, past, parameterByte, ifKnown, csi, uriByte, closed, osc, parse}
 use Rattle.spans.specs.Sequence.Laws.{parse-stable}
 use Rattle.spans.specs.declared.sgr.Color.{Color}
 use Rattle.spans.specs.declared.sgr.Color.the-variants.{Default, Palette, Rgb}

@@ -3,7 +3,6 @@ use Prim.Native.Nat.{ℕ, _+_}
 use mathlib.Core.Path.{_≡_, refl}
 use mathlib.Core.List.{List, [], _∷_, _++_}
 use lib.ListN.{replicate}
-use Rattle.screen.specs.WellFormed.{bodySize}
 use Rattle.screen.specs.Row.{Cell, cell, plain, rowBytes}
 use Rattle.show_io.specs.Ansi.{cells, styleOrder, rowText}
 

@@ -1,8 +1,6 @@
 -- What is printed for a few lines of a file `f`.
 use mathlib.Core.Path.{_≡_, refl}
-use mathlib.Core.List.{List, [], _∷_, _++_}
-use Prim.Native.Nat.{ℕ}
-use lib.ListN.{replicate}
+use mathlib.Core.List.{[], _∷_}
 use Rattle.text.specs.Width as width
 use Rattle.spans.specs.Search as search
 use Rattle.show_io.specs.Lines.{lineText, refusalText}

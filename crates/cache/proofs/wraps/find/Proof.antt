@@ -2,9 +2,9 @@ use Rattle.cache.specs.Wraps.{key, kept}
 use Rattle.cache.specs.Wraps.Contracts.{indexOf}
 use native.Mathlib.Omega.{arith}
 use Rattle.cache.proofs.Heads.{index-found, index-turn, index-end}
-use Prim.Native.Nat.{_-_, _+_, _≤_}
+use Prim.Native.Nat.{_-_, _+_}
 use mathlib.Core.Path.{_≡_}
-use lib.ListN.{length, drop}
+use lib.ListN.{drop}
 use borrow.Author.Needs.{needs}
 use Rattle.cache.proofs.wraps.find.Statement.{statement}
 use Rattle.cache.proofs.wraps.find.Tie as tie

@@ -1,8 +1,8 @@
 use Rattle.cache.specs.Wraps.{headsIn, hasBlock}
 use Rattle.cache.proofs.Heads.{free-not, free-turn, free-end}
-use Prim.Native.Nat.{_-_, _+_, _≤_}
+use Prim.Native.Nat.{_-_}
 use mathlib.Core.Path.{_≡_}
-use lib.ListN.{length, drop}
+use lib.ListN.{drop}
 use borrow.Author.Needs.{needs}
 use Rattle.cache.proofs.wraps.is_free.Statement.{statement}
 use Rattle.cache.proofs.wraps.is_free.Tie as tie

@@ -1,4 +1,4 @@
-use Rattle.show_io.proofs.Pieces.{Parting, parting-begins, next-within, next-further, next-less, parting-turn, parting-enough, parting-ends}
+use Rattle.show_io.proofs.Pieces.{Parting, parting-begins, next-within, next-less, parting-turn, parting-enough, parting-ends}
 use Prim.Native.Nat.{_-_}
 use lib.ListN.{length}
 use borrow.Author.Needs.{needs}

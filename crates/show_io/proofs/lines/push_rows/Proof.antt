@@ -1,6 +1,5 @@
 use Rattle.show_io.proofs.LineRows.{Rows, rows-begin, rows-turn, rows-refused, rows-end}
 use Prim.Native.Nat.{_-_}
-use lib.ListN.{length}
 use borrow.Author.Needs.{needs}
 use Rattle.show_io.proofs.lines.push_rows.Statement.{statement}
 use Rattle.show_io.proofs.lines.push_rows.Tie as tie
