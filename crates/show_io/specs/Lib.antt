@@ -1,3 +1,4 @@
 pub mod Ansi
 pub mod Lines
+pub mod SpanText
 pub mod Input
