@@ -3,11 +3,11 @@ use rows_io::first_line::FirstLine;
 use rows_io::first_line::in_form;
 use rows_io::first_line::nothing;
 use rows_io::first_line::read_part;
+use show_io::lines::View;
 
 pub(crate) struct Arguments {
     pub(crate) ok: bool,
-    pub(crate) width: usize,
-    pub(crate) mode: usize,
+    pub(crate) view: View,
     pub(crate) count: usize,
 }
 
@@ -27,8 +27,11 @@ pub(crate) fn read() -> Arguments {
     let mode = b.mode;
     Arguments {
         ok: in_form(b) & ((1 <= width) & ((width <= 4096) & (mode <= 4))),
-        width: width,
-        mode: mode,
+        view: View {
+            mode: mode,
+            start: 0,
+            width: width,
+        },
         count: os::arg_count(),
     }
 }

@@ -4,6 +4,7 @@ use libc::STDOUT_FILENO;
 use show_io::input::Reading;
 use show_io::input::with_last;
 use show_io::input::with_part;
+use show_io::lines::View;
 
 // What was read, and whether to go on: the input has not ended, and what is printed can be written.
 struct Reach {
@@ -32,8 +33,7 @@ fn written(reading: Reading, out: &[u8]) -> Reach {
 // A part, written as often as enough is printed. Each turn reads one piece of a line or more, so there are no more turns than bytes.
 fn show_part(
     name: &[u8],
-    width: usize,
-    mode: usize,
+    view: View,
     before: Reading,
     part: &[u8],
     line: &mut [u8],
@@ -47,7 +47,7 @@ fn show_part(
     let mut turns = part.len();
     while 0 < turns {
         if state.open & (p < part.len()) {
-            let r = with_part(name, width, mode, state.reading, part, p, line, out);
+            let r = with_part(name, view, state.reading, part, p, line, out);
             state = written(r.reading, out);
             p = r.place;
             turns -= 1;
@@ -62,8 +62,7 @@ fn show_part(
 fn more(
     fd: i32,
     name: &[u8],
-    width: usize,
-    mode: usize,
+    view: View,
     before: Reading,
     line: &mut [u8],
     out: &mut [u8],
@@ -80,18 +79,11 @@ fn more(
             open: false,
         };
     }
-    show_part(name, width, mode, before, &buf[..n], line, out)
+    show_part(name, view, before, &buf[..n], line, out)
 }
 
 // All of the file. A proved loop has to end, so it counts its turns down, from a number that no run uses up.
-fn show_all(
-    fd: i32,
-    name: &[u8],
-    width: usize,
-    mode: usize,
-    line: &mut [u8],
-    out: &mut [u8],
-) -> Reading {
+fn show_all(fd: i32, name: &[u8], view: View, line: &mut [u8], out: &mut [u8]) -> Reading {
     let mut state = Reach {
         reading: Reading {
             number: 0,
@@ -103,7 +95,7 @@ fn show_all(
     let mut turns: usize = usize::MAX;
     while 0 < turns {
         if state.open {
-            state = more(fd, name, width, mode, state.reading, line, out);
+            state = more(fd, name, view, state.reading, line, out);
             turns -= 1;
         } else {
             return state.reading;
@@ -114,10 +106,10 @@ fn show_all(
 }
 
 // A file that is open, under its name.
-pub(crate) fn show(fd: i32, name: &[u8], width: usize, mode: usize) {
+pub(crate) fn show(fd: i32, name: &[u8], view: View) {
     let mut line = [0u8; 4097];
     let mut out = [0u8; 524288];
-    let state = show_all(fd, name, width, mode, &mut line, &mut out);
-    let n = with_last(name, width, mode, state, &line, &mut out);
+    let state = show_all(fd, name, view, &mut line, &mut out);
+    let n = with_last(name, view, state, &line, &mut out);
     flush(&out, n);
 }

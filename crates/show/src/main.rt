@@ -7,9 +7,10 @@ mod file;
 
 use libc::STDERR_FILENO;
 use libc::STDIN_FILENO;
+use show_io::lines::View;
 
 // The file that an argument names.
-fn show_argument(i: usize, width: usize, mode: usize) {
+fn show_argument(i: usize, view: View) {
     let mut path = io::buffer();
     let n = os::arg(i, &mut path);
     if os::errno() != 0 {
@@ -21,14 +22,14 @@ fn show_argument(i: usize, width: usize, mode: usize) {
         os::fail(&path[..n]);
         return;
     }
-    file::show(fd, &path[..n], width, mode);
+    file::show(fd, &path[..n], view);
     libc::close(fd);
 }
 
-fn show_arguments(count: usize, width: usize, mode: usize) {
+fn show_arguments(count: usize, view: View) {
     let mut i: usize = 3;
     while i < count {
-        show_argument(i, width, mode);
+        show_argument(i, view);
         i += 1;
     }
 }
@@ -37,10 +38,10 @@ fn main() {
     let given = arguments::read();
     if given.ok {
         if given.count <= 3 {
-            file::show(STDIN_FILENO, b"-", given.width, given.mode);
+            file::show(STDIN_FILENO, b"-", given.view);
             return;
         }
-        show_arguments(given.count, given.width, given.mode);
+        show_arguments(given.count, given.view);
         return;
     }
     io::write_all(

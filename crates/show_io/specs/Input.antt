@@ -6,6 +6,7 @@ use lib.ListN.{length, take, drop, getD}
 use lib.Dec.{eqb, leb, ltb}
 use Rattle.buffer.specs.Sink.{Sink, sink, emit}
 use Rattle.show_io.specs.Lines.{lineText, refusalText}
+use Rattle.show_io.specs.declared.lines.View.{View}
 use Rattle.show_io.specs.declared.input.Reading.{Reading}
 use Rattle.show_io.specs.declared.input.Progress.{Progress}
 pub mod Contracts
@@ -63,11 +64,11 @@ unfoldable pub fittedOf : (name : List ℕ) (number before : ℕ) → Sink → S
 unfolding refusalText
 fittedOf name number before (sink l r) = cond (ltb (length l) r) (emit (sink l before) (refusalText name number 9)) (sink l r)
 
-module _ (name : List ℕ) (width mode : ℕ) where
+module _ (name : List ℕ) (view : View) where
   -- a whole line
   unfoldable pub withLine : State → List ℕ → Sink
   unfolding fittedOf lineText
-  withLine t line = fittedOf name (nextNumber (t .number)) (countOf (t .printed)) (emit (t .printed) (lineText name (nextNumber (t .number)) width mode line))
+  withLine t line = fittedOf name (nextNumber (t .number)) (countOf (t .printed)) (emit (t .printed) (lineText name (nextNumber (t .number)) view line))
 
   module _ (room : ℕ) where
     -- a line begun and a piece more, as far as there is room for it

@@ -1,4 +1,5 @@
 // Input in parts: a line is put together in a buffer, of which 4,097 bytes are enough for question 1.
+use super::lines::View;
 use super::lines::push_line;
 use super::lines::push_refusal;
 use buffer::push_bytes;
@@ -80,19 +81,18 @@ fn fitted(out: &mut [u8], at: usize, name: &[u8], number: usize, before: usize) 
 // A piece of a line more: the line is printed where the piece ends it.
 fn with_piece(
     name: &[u8],
-    width: usize,
-    mode: usize,
+    view: View,
     state: Reading,
     piece: &[u8],
     line: &mut [u8],
     out: &mut [u8],
 ) -> Reading
-    ensures { λ r. ⌜ stateOf r (now (line .exit)) (now (out .exit)) ≡ withPiece (now (name .entry)) width mode (length (now (line .entry))) (stateOf state (now (line .entry)) (now (out .entry))) (now (piece .entry)) ⌝ }
+    ensures { λ r. ⌜ stateOf r (now (line .exit)) (now (out .exit)) ≡ withPiece (now (name .entry)) view (length (now (line .entry))) (stateOf state (now (line .entry)) (now (out .entry))) (now (piece .entry)) ⌝ }
 {
     let kept = keep(line, state.kept, piece);
     if is_end(piece) {
         let number = next_number(state.number);
-        let at = push_line(out, state.at, name, number, width, mode, &line[..kept]);
+        let at = push_line(out, state.at, name, number, view, &line[..kept]);
         return Reading {
             number: number,
             kept: 0,
@@ -109,15 +109,14 @@ fn with_piece(
 // The lines of a part from a place on, and the beginning of the one that goes on behind it, until enough is printed.
 pub fn with_part(
     name: &[u8],
-    width: usize,
-    mode: usize,
+    view: View,
     state: Reading,
     part: &[u8],
     from: usize,
     line: &mut [u8],
     out: &mut [u8],
 ) -> Progress
-    ensures { λ r. ⌜ readOf r (now (part .entry)) (now (line .exit)) (now (out .exit)) ≡ withPieces (now (name .entry)) width mode (length (now (line .entry))) 65536 (stateOf state (now (line .entry)) (now (out .entry))) (pieces (drop from (now (part .entry)))) ⌝ }
+    ensures { λ r. ⌜ readOf r (now (part .entry)) (now (line .exit)) (now (out .exit)) ≡ withPieces (now (name .entry)) view (length (now (line .entry))) 65536 (stateOf state (now (line .entry)) (now (out .entry))) (pieces (drop from (now (part .entry)))) ⌝ }
 {
     let mut reading = state;
     let mut p = from;
@@ -129,7 +128,7 @@ pub fn with_part(
             };
         }
         let e = line_end(part, p);
-        reading = with_piece(name, width, mode, reading, &part[p..e], line, out);
+        reading = with_piece(name, view, reading, &part[p..e], line, out);
         p = e;
     }
     Progress {
@@ -139,21 +138,14 @@ pub fn with_part(
 }
 
 // The last line, where no newline ends it.
-pub fn with_last(
-    name: &[u8],
-    width: usize,
-    mode: usize,
-    state: Reading,
-    line: &[u8],
-    out: &mut [u8],
-) -> usize
-    ensures { λ r. ⌜ sink (now (out .exit)) r ≡ lastOf (now (name .entry)) width mode state (now (line .entry)) (now (out .entry)) ⌝ }
+pub fn with_last(name: &[u8], view: View, state: Reading, line: &[u8], out: &mut [u8]) -> usize
+    ensures { λ r. ⌜ sink (now (out .exit)) r ≡ lastOf (now (name .entry)) view state (now (line .entry)) (now (out .entry)) ⌝ }
 {
     if state.kept == 0 {
         return state.at;
     }
     let kept = smaller(state.kept, line.len());
     let number = next_number(state.number);
-    let at = push_line(out, state.at, name, number, width, mode, &line[..kept]);
+    let at = push_line(out, state.at, name, number, view, &line[..kept]);
     fitted(out, at, name, number, state.at)
 }

@@ -5,10 +5,10 @@ use Rattle.show.proofs.file.show_all.Statement.{statement}
 use Rattle.show.proofs.file.show_all.Tie as tie
 
 abbrev Inv-loop : tie.InvT-loop
-Inv-loop fd name width mode line₀ out₀ state₀ turns₀ line out state turns = (length line ≡ length line₀) × (length out ≡ length out₀)
+Inv-loop fd name view line₀ out₀ state₀ turns₀ line out state turns = (length line ≡ length line₀) × (length out ≡ length out₀)
 
 abbrev μ-loop : tie.MeasureT-loop
-μ-loop fd name width mode line₀ out₀ state₀ turns₀ line out state turns = turns
+μ-loop fd name view line₀ out₀ state₀ turns₀ line out state turns = turns
 
 loop-holds : tie.Need-loop-holds Inv-loop μ-loop
 loop-holds c = (refl, refl)

@@ -5,10 +5,10 @@ use Rattle.show.proofs.file.show_part.Statement.{statement}
 use Rattle.show.proofs.file.show_part.Tie as tie
 
 abbrev Inv-loop : tie.InvT-loop
-Inv-loop name width mode part line₀ out₀ state₀ p₀ turns₀ line out state p turns = (length line ≡ length line₀) × (length out ≡ length out₀)
+Inv-loop name view part line₀ out₀ state₀ p₀ turns₀ line out state p turns = (length line ≡ length line₀) × (length out ≡ length out₀)
 
 abbrev μ-loop : tie.MeasureT-loop
-μ-loop name width mode part line₀ out₀ state₀ p₀ turns₀ line out state p turns = turns
+μ-loop name view part line₀ out₀ state₀ p₀ turns₀ line out state p turns = turns
 
 loop-holds : tie.Need-loop-holds Inv-loop μ-loop
 loop-holds c = (refl, refl)
