@@ -27,7 +27,7 @@ use Rattle.text.specs.Calls.{Written}
 use Rattle.text.specs.Calls.Code.{written}
 use Rattle.show_io.specs.Ansi.{cells, rowText}
 use Rattle.show_io.specs.declared.lines.View.{View}
-use Rattle.show_io.specs.Lines.{Printed, printed, bench, windowEnd, drawnRow, screenText, listText, rowOf, columnsIn, columnsOf, smallRow, largeRow, lineRow, heightOf, rowsFrom, allRows, lineText, refusalText}
+use Rattle.show_io.specs.Lines.{Printed, printed, bench, windowEnd, drawnRow, screenText, listText, rowOf, columnsIn, columnsOf, smallRow, largeRow, lineRow, heightOf, rowsFrom, allRows, spansText, lineText, refusalText}
 use Rattle.show_io.specs.Lines.Contracts.{PrintedTo, AnswerOf}
 use Rattle.show_io.specs.declared.lines.RowPrinted.{RowPrinted}
 
@@ -236,13 +236,12 @@ module _ (name : List ℕ) (number : ℕ) (view : View) (line : List ℕ) where
   abbrev wrapped : Read → List ℕ
   wrapped h = allRows name number view line h
 
-  window-text : view .mode ≡ 0 → window ≡ lineText name number view line
-  unfolding lineText
-  window-text e = sym (ap (λ (b : Bool). cond b window (wrapped (heightOf view line))) (eq-eqb (view .mode) 0 e))
+  abbrev chosen : Bool → Bool → List ℕ
+  chosen a b = cond a window (cond b (spansText name number line) (wrapped (heightOf view line)))
 
-  wrapped-text : (view .mode ≢ 0) → wrapped (heightOf view line) ≡ lineText name number view line
+  line-chosen : {a b : Bool} → eqb (view .mode) 0 ≡ a → eqb (view .mode) 5 ≡ b → chosen a b ≡ lineText name number view line
   unfolding lineText
-  wrapped-text e = sym (ap (λ (b : Bool). cond b window (wrapped (heightOf view line))) (ne-eqb (view .mode) 0 e))
+  line-chosen e f = sym (ap₂ chosen e f)
 
   rows-text : (h : Read) → h .number ≡ 0 → rowsFrom name number view line 0 (h .count) ≡ wrapped h
   unfolding allRows
@@ -254,15 +253,21 @@ module _ (name : List ℕ) (number : ℕ) (view : View) (line : List ℕ) where
 
   module _ (s z : Sink) where
     pub line-window : view .mode ≡ 0 → z ≡ emit s (rowsFrom name number view line 0 1) → z ≡ emit s (lineText name number view line)
-    line-window e p = p ∙ ap (emit s) (window-text e)
+    line-window e p = p ∙ ap (emit s) (line-chosen (eq-eqb (view .mode) 0 e) refl)
 
-    module _ (h : Answer) (is : AnswerOf (heightOf view line) h) (wraps : view .mode ≢ 0) where
+    pub line-spans : (view .mode ≢ 0) → view .mode ≡ 5 → z ≡ emit s (spansText name number line) → z ≡ emit s (lineText name number view line)
+    line-spans d e p = p ∙ ap (emit s) (line-chosen (ne-eqb (view .mode) 0 d) (eq-eqb (view .mode) 5 e))
+
+    module _ (h : Answer) (is : AnswerOf (heightOf view line) h) (d : view .mode ≢ 0) (d′ : view .mode ≢ 5) where
+      wrapped-text : wrapped (heightOf view line) ≡ lineText name number view line
+      wrapped-text = line-chosen (ne-eqb (view .mode) 0 d) (ne-eqb (view .mode) 5 d′)
+
       pub line-rows : h .number ≡ 0 → z ≡ emit s (rowsFrom name number view line 0 (h .count)) → z ≡ emit s (lineText name number view line)
       line-rows e p =
           p ∙ ap (λ (n : ℕ). emit s (rowsFrom name number view line 0 n)) (is .count)
-          ∙ ap (emit s) (rows-text (heightOf view line) (sym (is .number) ∙ e) ∙ wrapped-text wraps)
+          ∙ ap (emit s) (rows-text (heightOf view line) (sym (is .number) ∙ e) ∙ wrapped-text)
 
       pub line-refused : (h .number ≢ 0) → z ≡ emit s (refusalText name number (h .number)) → z ≡ emit s (lineText name number view line)
       line-refused e p =
           p ∙ ap (λ (n : ℕ). emit s (refusalText name number n)) (is .number)
-          ∙ ap (emit s) (refusal-text (heightOf view line) (λ x. e (is .number ∙ x)) ∙ wrapped-text wraps)
+          ∙ ap (emit s) (refusal-text (heightOf view line) (λ x. e (is .number ∙ x)) ∙ wrapped-text)

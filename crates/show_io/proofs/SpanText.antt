@@ -29,9 +29,10 @@ use Rattle.spans.specs.Numbers.{numbersOf, numbersOfAll, placesIn, ReadNumbers}
 use Rattle.drawing.specs.Marks.{byteMark}
 use Rattle.drawing.specs.Marks.Laws.{digit-is}
 use Rattle.rows_io.specs.Output.{decimal}
-use Rattle.show_io.specs.Lines.{refusalText}
-use Rattle.show_io.specs.SpanText.{sequenceWord, kindWord, visibleByte, visible, shown, headText, placeText, spanText, recordsText, readText, spansText}
-use Rattle.show_io.specs.SpanText.Contracts.{numbersText, answerText}
+use Rattle.show_io.specs.SpanText.{sequenceWord, kindWord, visibleByte, visible, shown, headText, placeText, spanText, recordsText}
+use Rattle.show_io.specs.SpanText.Contracts.{numbersText}
+use Rattle.show_io.specs.Lines.{refusalText, readText, spansText}
+use Rattle.show_io.specs.Lines.Contracts.{answerText}
 use Rattle.show_io.proofs.Bodies.{part-is}
 use Rattle.show_io.proofs.LineRows.{take-smaller}
 

@@ -1,4 +1,4 @@
 pub mod Ansi
-pub mod Lines
 pub mod SpanText
+pub mod Lines
 pub mod Input

@@ -7,13 +7,14 @@ use lib.ListN.{take, drop, getD}
 use lib.Dec.{eqb, leb}
 use Rattle.text.specs.Width.{profile01}
 use Rattle.text.specs.Calls.{Written}
-use Rattle.spans.specs.Calls.{Read}
+use Rattle.spans.specs.Calls.{Read, readCall}
 use Rattle.rows.specs.Calls.{heightCall, rowsCall}
 use Rattle.drawing.specs.Calls.{Drawn, windowCall, rowCall}
 use Rattle.screen.specs.Calls.{screenCall}
 use Rattle.rows_io.specs.Output.{decimal}
 use Rattle.show_io.specs.declared.lines.View.{View}
 use Rattle.show_io.specs.Ansi.{cells, rowText}
+use Rattle.show_io.specs.SpanText.{recordsText}
 pub mod Vectors
 pub mod Contracts
 
@@ -117,6 +118,19 @@ heightOf view line =
     let b : Read = heightCall profile01 32768 2048 (view .width) (view .mode) line in
     cond (eqb (a .number) 0) a b
 
+-- the spans that `read` found
+unfoldable pub readText : (name : List ℕ) (number : ℕ) → Read → List ℕ
+unfolding recordsText refusalText
+readText name number c =
+    let all : List ℕ = recordsText number (c .conv) (take (c .count) (c .spans)) in
+    let refusal : List ℕ = refusalText name number (c .number) in
+    cond (eqb (c .number) 0) all refusal
+
+-- with memory that is enough for 4,096 bytes
+unfoldable pub spansText : (name : List ℕ) (number : ℕ) (line : List ℕ) → List ℕ
+unfolding readText readCall
+spansText name number line = readText name number (readCall profile01 32768 2048 [] line)
+
 module _ (name : List ℕ) (number : ℕ) (view : View) (line : List ℕ) where
   -- n rows from one on; a refused one is the last
   unfoldable pub rowsFrom : ℕ → ℕ → List ℕ
@@ -137,8 +151,9 @@ module _ (name : List ℕ) (number : ℕ) (view : View) (line : List ℕ) where
 
   -- the line with a number in a file
   unfoldable pub lineText : List ℕ
-  unfolding rowsFrom allRows heightOf
+  unfolding rowsFrom allRows heightOf spansText
   lineText =
       let window : List ℕ = rowsFrom 0 1 in
+      let spans : List ℕ = spansText name number line in
       let wrapped : List ℕ = allRows (heightOf view line) in
-      cond (eqb (view .mode) 0) window wrapped
+      cond (eqb (view .mode) 0) window (cond (eqb (view .mode) 5) spans wrapped)

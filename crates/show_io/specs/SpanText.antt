@@ -5,12 +5,9 @@ use mathlib.Core.List.{List, [], _∷_, _++_}
 use lib.ListN.{take, drop}
 use lib.Dec.{eqb}
 use Rattle.text.specs.Utf8.{to, within, bytesOf}
-use Rattle.text.specs.Width.{profile01}
 use Rattle.spans.specs.Spans.{Record}
-use Rattle.spans.specs.Calls.{Read, readCall}
 use Rattle.drawing.specs.Marks.{byteMark}
 use Rattle.rows_io.specs.Output.{decimal}
-use Rattle.show_io.specs.Lines.{refusalText}
 pub mod Contracts
 pub mod Vectors
 
@@ -77,18 +74,3 @@ unfoldable pub recordsText : (number : ℕ) (conv : List ℕ) → List Record �
 unfolding spanText
 recordsText number conv [] = []
 recordsText number conv (r ∷ rs) = spanText number conv (r .kind) (r .place .0) (r .len) ++ recordsText number conv rs
-
--- ---- a line
-
--- what `read` gave
-unfoldable pub readText : (name : List ℕ) (number : ℕ) → Read → List ℕ
-unfolding recordsText refusalText
-readText name number c =
-    let all : List ℕ = recordsText number (c .conv) (take (c .count) (c .spans)) in
-    let refusal : List ℕ = refusalText name number (c .number) in
-    cond (eqb (c .number) 0) all refusal
-
--- the line with a number in a file, read with memory that is enough for 4,096 bytes
-unfoldable pub spansText : (name : List ℕ) (number : ℕ) (line : List ℕ) → List ℕ
-unfolding readText readCall
-spansText name number line = readText name number (readCall profile01 32768 2048 [] line)

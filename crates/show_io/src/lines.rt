@@ -1,5 +1,6 @@
 // Lines: all rows of a line in turn, or a refusal in its place.
 use super::ansi::push_row;
+use super::span_text::push_numbers;
 use buffer::push_byte;
 use buffer::push_bytes;
 use buffer::smaller;
@@ -9,18 +10,22 @@ use rows::numbers::height_numbers;
 use rows::numbers::rows_numbers;
 use rows_io::output::push_decimal;
 use screen::screen_row;
+use spans::numbers::read_numbers;
 use text::Answer;
 ghost use mathlib.Core.Path.{_≡_};
+ghost use Prim.Native.Nat.{_*_};
 ghost use lib.ListN.{length};
 ghost use Rattle.text.specs.Width.{profile01};
 ghost use Rattle.buffer.specs.Sink.{sink, emit};
+ghost use Rattle.buffer.specs.Numbers.{smallerOf};
 ghost use Rattle.spans.specs.Numbers.{placesIn};
 ghost use Rattle.rows.specs.Calls.{heightCall};
 ghost use Rattle.drawing.specs.Numbers.{DrawnNumbers};
-ghost use Rattle.show_io.specs.Lines.{windowEnd, drawnRow, listText, rowOf, columnsIn, columnsOf, smallRow, largeRow, lineRow, words, refusedText, refusalText, heightOf, rowsFrom, lineText};
-ghost use Rattle.show_io.specs.Lines.Contracts.{PrintedTo, AnswerOf};
+ghost use Rattle.show_io.specs.Lines.{windowEnd, drawnRow, listText, rowOf, columnsIn, columnsOf, smallRow, largeRow, lineRow, words, refusedText, refusalText, heightOf, rowsFrom, spansText, lineText};
+ghost use Rattle.show_io.specs.Lines.Contracts.{PrintedTo, AnswerOf, answerText};
 
-// What is drawn of a line: in mode 0 the window of `width` columns from column `start` on, in modes 1 to 4 its rows at that width.
+// What is drawn of a line: in mode 0 the window of `width` columns from column `start` on, in modes 1 to 4 its rows at that width; in mode 5
+// its spans, without regard to start and width.
 pub struct View {
     pub mode: usize,
     pub start: usize,
@@ -320,6 +325,45 @@ fn push_rows(
     a
 }
 
+// How many of n numbers are the first `count` spans'.
+fn numbers_len(n: usize, count: usize) -> usize
+    ensures { λ r. ⌜ r ≡ smallerOf (4 * count) n ⌝ }
+{
+    if count <= n / 4 {
+        return 4 * count;
+    }
+    n
+}
+
+fn push_read(
+    out: &mut [u8],
+    at: usize,
+    name: &[u8],
+    number: usize,
+    answer: Answer,
+    conv: &[u8],
+    numbers: &[usize],
+) -> usize
+    ensures { λ r. ⌜ sink (now (out .exit)) r ≡ emit (sink (now (out .entry)) at) (answerText (now (name .entry)) number (answer .number) (answer .count) (now (conv .entry)) (now (numbers .entry))) ⌝ }
+{
+    if answer.number == 0 {
+        let n = numbers_len(numbers.len(), answer.count);
+        return push_numbers(out, at, number, conv, &numbers[..n]);
+    }
+    push_refusal(out, at, name, number, answer.number)
+}
+
+// All spans of the line with a number in a file, or its refusal.
+fn push_spans(out: &mut [u8], at: usize, name: &[u8], number: usize, line: &[u8]) -> usize
+    ensures { λ r. ⌜ sink (now (out .exit)) r ≡ emit (sink (now (out .entry)) at) (spansText (now (name .entry)) number (now (line .entry))) ⌝ }
+{
+    let none: [usize; 0] = [];
+    let mut conv = [0u8; 32768];
+    let mut numbers = [0usize; 8192];
+    let a = read_numbers(line, &none, &mut conv, &mut numbers);
+    push_read(out, at, name, number, a, &conv, &numbers)
+}
+
 // What is printed for a line of a file, with its number there.
 pub(crate) fn push_line(
     out: &mut [u8],
@@ -333,6 +377,9 @@ pub(crate) fn push_line(
 {
     if view.mode == 0 {
         return push_rows(out, at, name, number, view, line, 1);
+    }
+    if view.mode == 5 {
+        return push_spans(out, at, name, number, line);
     }
     let h = line_height(line, view);
     if h.number == 0 {

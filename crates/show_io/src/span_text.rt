@@ -1,21 +1,16 @@
 // The spans of a line as text: for each the line's number, the kind in words, place and length in the converted line, and its bytes.
-use super::lines::push_refusal;
 use buffer::hex_digit;
 use buffer::push_byte;
 use buffer::push_bytes;
 use buffer::smaller;
 use rows_io::output::push_decimal;
-use spans::numbers::read_numbers;
-use text::Answer;
 ghost use mathlib.Core.Path.{_≡_};
-ghost use Prim.Native.Nat.{_*_};
 ghost use lib.ListN.{take, drop};
 ghost use Rattle.buffer.specs.Sink.{sink, emit};
-ghost use Rattle.buffer.specs.Numbers.{smallerOf};
 ghost use Rattle.text.specs.Utf8.{bytesOf};
 ghost use Rattle.drawing.specs.Marks.{byteMark};
-ghost use Rattle.show_io.specs.SpanText.{sequenceWord, kindWord, visibleByte, visible, shown, headText, placeText, spanText, spansText};
-ghost use Rattle.show_io.specs.SpanText.Contracts.{numbersText, answerText};
+ghost use Rattle.show_io.specs.SpanText.{sequenceWord, kindWord, visibleByte, visible, shown, headText, placeText, spanText};
+ghost use Rattle.show_io.specs.SpanText.Contracts.{numbersText};
 
 // The kinds of sequences; 13 is the last one.
 fn push_sequence_word(out: &mut [u8], at: usize, kind: usize) -> usize
@@ -155,7 +150,13 @@ fn push_span(
 }
 
 // Kind, place, length and match number of each span.
-fn push_numbers(out: &mut [u8], at: usize, number: usize, conv: &[u8], numbers: &[usize]) -> usize
+pub(crate) fn push_numbers(
+    out: &mut [u8],
+    at: usize,
+    number: usize,
+    conv: &[u8],
+    numbers: &[usize],
+) -> usize
     ensures { λ r. ⌜ sink (now (out .exit)) r ≡ emit (sink (now (out .entry)) at) (numbersText number (now (conv .entry)) (now (numbers .entry))) ⌝ }
 {
     let mut a = at;
@@ -173,49 +174,4 @@ fn push_numbers(out: &mut [u8], at: usize, number: usize, conv: &[u8], numbers: 
         i += 1;
     }
     a
-}
-
-// How many of n numbers are the first `count` spans'.
-fn numbers_len(n: usize, count: usize) -> usize
-    ensures { λ r. ⌜ r ≡ smallerOf (4 * count) n ⌝ }
-{
-    if count <= n / 4 {
-        return 4 * count;
-    }
-    n
-}
-
-fn push_answer(
-    out: &mut [u8],
-    at: usize,
-    name: &[u8],
-    number: usize,
-    answer: Answer,
-    conv: &[u8],
-    numbers: &[usize],
-) -> usize
-    ensures { λ r. ⌜ sink (now (out .exit)) r ≡ emit (sink (now (out .entry)) at) (answerText (now (name .entry)) number (answer .number) (answer .count) (now (conv .entry)) (now (numbers .entry))) ⌝ }
-{
-    if answer.number == 0 {
-        let n = numbers_len(numbers.len(), answer.count);
-        return push_numbers(out, at, number, conv, &numbers[..n]);
-    }
-    push_refusal(out, at, name, number, answer.number)
-}
-
-// All spans of the line with a number in a file, or its refusal.
-pub(crate) fn push_spans(
-    out: &mut [u8],
-    at: usize,
-    name: &[u8],
-    number: usize,
-    line: &[u8],
-) -> usize
-    ensures { λ r. ⌜ sink (now (out .exit)) r ≡ emit (sink (now (out .entry)) at) (spansText (now (name .entry)) number (now (line .entry))) ⌝ }
-{
-    let none: [usize; 0] = [];
-    let mut conv = [0u8; 32768];
-    let mut numbers = [0usize; 8192];
-    let a = read_numbers(line, &none, &mut conv, &mut numbers);
-    push_answer(out, at, name, number, a, &conv, &numbers)
 }

@@ -1,7 +1,7 @@
 use Rattle.show_io.proofs.SpanText.{numbers-all, numbers-few}
 use borrow.Author.Needs.{needs}
-use Rattle.show_io.proofs.span_text.numbers_len.Statement.{statement}
-use Rattle.show_io.proofs.span_text.numbers_len.Tie as tie
+use Rattle.show_io.proofs.lines.numbers_len.Statement.{statement}
+use Rattle.show_io.proofs.lines.numbers_len.Tie as tie
 
 mul-result : tie.Need-mul-result
 mul-result c = search needs

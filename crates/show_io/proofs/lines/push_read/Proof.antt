@@ -3,8 +3,8 @@ use mathlib.Core.Path.{sym}
 use lib.Seq.{length-take-le}
 use Rattle.buffer.specs.Numbers.Laws.{smaller-right}
 use borrow.Author.Needs.{needs}
-use Rattle.show_io.proofs.span_text.push_answer.Statement.{statement}
-use Rattle.show_io.proofs.span_text.push_answer.Tie as tie
+use Rattle.show_io.proofs.lines.push_read.Statement.{statement}
+use Rattle.show_io.proofs.lines.push_read.Tie as tie
 
 numbers-len-requires : tie.Need-numbers-len-requires
 numbers-len-requires c κs = search needs
@@ -30,8 +30,8 @@ same-length-2 c = search needs
 returns-2 : tie.Need-returns-2
 returns-2 c = search answer-refused
 
-pub push-answer-spec : {M : Type 1} → statement M
-push-answer-spec =
+pub push-read-spec : {M : Type 1} → statement M
+push-read-spec =
     tie.close
     (tie.spec
     numbers-len-requires
