@@ -264,18 +264,21 @@ fn push_words(out: &mut [u8], at: usize, number: usize) -> usize
     ensures { λ r. ⌜ sink (now (out .exit)) r ≡ emit (sink (now (out .entry)) at) (words number) ⌝ }
 {
     if number == 1 {
-        return push_bytes(out, at, b"more than 4,096 bytes");
+        return push_bytes(out, at, b"the line has more than 4,096 bytes");
     }
     if number == 4 {
-        return push_bytes(out, at, b"more than 2,048 spans");
+        return push_bytes(out, at, b"more spans than the list has places");
     }
     if number == 5 {
-        return push_bytes(out, at, b"a row wider than 4,096 columns");
+        return push_bytes(out, at, b"a number beyond its limit");
     }
     if number == 8 {
-        return push_bytes(out, at, b"a cluster wider than its row");
+        return push_bytes(out, at, b"a cluster wider than the window");
     }
-    push_bytes(out, at, b"too much to draw")
+    if number == 9 {
+        return push_bytes(out, at, b"more to print than there is room for");
+    }
+    push_bytes(out, at, b"not drawn")
 }
 
 // `refused`, a refusal's number and its words.
