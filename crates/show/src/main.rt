@@ -1,7 +1,8 @@
 // The program `show`: received lines as the console draws them, as ANSI text.
 //
-// show WIDTH MODE [FILE ..]: each line of the files, or of standard input, wrapped at WIDTH columns (1 to 4,096) in MODE 1 to 4, all its
-// rows in turn; in MODE 0 the window of its first WIDTH columns. A refused line prints its file, number and refusal in its place.
+// show WIDTH MODE START [FILE ..]: each line of the files, or of standard input, wrapped at WIDTH columns (1 to 4,096) in MODE 1 to 4, all
+// its rows in turn; in MODE 0 the window of WIDTH columns from START (0 to 65,535); in MODE 5 its spans. A refused line prints its file,
+// number and refusal in its place.
 mod arguments;
 mod file;
 
@@ -27,7 +28,7 @@ fn show_argument(i: usize, view: View) {
 }
 
 fn show_arguments(count: usize, view: View) {
-    let mut i: usize = 3;
+    let mut i: usize = 4;
     while i < count {
         show_argument(i, view);
         i += 1;
@@ -37,7 +38,7 @@ fn show_arguments(count: usize, view: View) {
 fn main() {
     let given = arguments::read();
     if given.ok {
-        if given.count <= 3 {
+        if given.count <= 4 {
             file::show(STDIN_FILENO, b"-", given.view);
             return;
         }
@@ -46,6 +47,6 @@ fn main() {
     }
     io::write_all(
         STDERR_FILENO,
-        b"usage: show WIDTH MODE [FILE ..]\nWIDTH 1 to 4096 columns, MODE 0 window, 1 or 3 by cluster, 2 or 4 by word\n",
+        b"usage: show WIDTH MODE START [FILE ..]\nWIDTH 1 to 4096 columns, MODE 0 window from column START (0 to 65535), 1 or 3 by cluster, 2 or 4 by word, 5 spans\n",
     );
 }

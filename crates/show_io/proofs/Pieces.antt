@@ -3,12 +3,12 @@ use mathlib.Core.Path.{_≡_, refl, sym, ap, ap₂, _∙_}
 use mathlib.Core.Logic.{_≢_}
 use Prim.Native.Nat.{ℕ, suc, _+_, _-_, _≤_, _<_}
 use native.Mathlib.Omega.{arith}
-use mathlib.Core.Bool.{Bool, true, false, cond}
+use mathlib.Core.Bool.{Bool, true, false, cond, _||_}
 use mathlib.Core.List.{List, [], _∷_, _++_}
 use lib.ListN.{length, take, drop, getD, length-append, length-drop, drop-of-length-le}
 use lib.Seq.{take-all, take-length, take-at, drop-cons, drop-drop, length-take-le}
-use lib.Dec.{eqb, leb}
-use borrow.Author.Tests.{eq-eqb, ne-eqb, lt-ltb, le-ltb, le-leb, lt-leb, leb-true, leb-false}
+use lib.Dec.{eqb, leb, ltb}
+use borrow.Author.Tests.{eq-eqb, ne-eqb, le-ltb, le-leb, lt-leb, leb-true, leb-false}
 use Rattle.text.specs.Tests.{cases}
 use Rattle.buffer.specs.Sink.{Sink, sink, emit, written}
 use Rattle.buffer.specs.Sink.Laws.{emit-none, emit-room, written-length}
@@ -114,14 +114,20 @@ module _ (before piece : List ℕ) (kept from n : ℕ) (is : from ≡ smallerOf 
 
 -- ---- fitted
 
-module _ (name : List ℕ) (number before at : ℕ) (out : List ℕ) where
-  pub fits-not : (z : Sink) → length out < at → z ≡ emit (sink out before) (refusalText name number 9) → z ≡ fittedOf name number before (sink out at)
-  unfolding fittedOf
-  fits-not z h e = rw (lt-ltb (length out) at h) e
+pub not-long : (before at : ℕ) → at ≤ before → false ≡ ltb 524288 (at - before)
+not-long before at h = sym (le-ltb 524288 (at - before) (omega arith))
 
-  pub fits : at ≤ length out → sink out at ≡ fittedOf name number before (sink out at)
+module _ (name : List ℕ) (number before at : ℕ) (out : List ℕ) (long : Bool) (is : long ≡ ltb 524288 (at - before)) where
+  abbrev refused : Sink
+  refused = emit (sink out before) (refusalText name number 9)
+
+  pub fits-not : (z : Sink) → (ltb (length out) at || long) ≡ true → z ≡ refused → z ≡ fittedOf name number before (sink out at)
   unfolding fittedOf
-  fits h = rw (le-ltb (length out) at h) refl
+  fits-not z h e = e ∙ sym (ap (λ (x : Bool). cond x refused (sink out at)) (ap (λ (x : Bool). ltb (length out) at || x) (sym is) ∙ h))
+
+  pub fits : (ltb (length out) at || long) ≡ false → sink out at ≡ fittedOf name number before (sink out at)
+  unfolding fittedOf
+  fits h = sym (ap (λ (x : Bool). cond x refused (sink out at)) (ap (λ (x : Bool). ltb (length out) at || x) (sym is) ∙ h))
 
 -- ---- with_piece
 

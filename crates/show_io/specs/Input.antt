@@ -1,6 +1,6 @@
 -- Input read in parts: lines end behind a newline, which belongs to them; a line is kept as far as question 1 looks.
 use Prim.Native.Nat.{ℕ, suc, _+_, _-_}
-use mathlib.Core.Bool.{Bool, cond}
+use mathlib.Core.Bool.{Bool, cond, _||_}
 use mathlib.Core.List.{List, [], _∷_, _++_}
 use lib.ListN.{length, take, drop, getD}
 use lib.Dec.{eqb, leb, ltb}
@@ -11,6 +11,8 @@ use Rattle.show_io.specs.declared.input.Reading.{Reading}
 use Rattle.show_io.specs.declared.input.Progress.{Progress}
 pub mod Contracts
 pub mod Laws
+pub mod Parts
+pub mod Vectors
 
 -- ---- lines in a part
 
@@ -59,10 +61,10 @@ nextNumber n = cond (ltb n 0xFFFFFFFFFFFFFFFF) (n + 1) n
 abbrev pub countOf : Sink → ℕ
 countOf (sink l r) = r
 
--- a line printed behind a count, or a refusal there where it did not fit
+-- a line printed behind a count, or a refusal there where it printed more than 524,288 bytes or did not fit
 unfoldable pub fittedOf : (name : List ℕ) (number before : ℕ) → Sink → Sink
 unfolding refusalText
-fittedOf name number before (sink l r) = cond (ltb (length l) r) (emit (sink l before) (refusalText name number 9)) (sink l r)
+fittedOf name number before (sink l r) = cond (ltb (length l) r || ltb 524288 (r - before)) (emit (sink l before) (refusalText name number 9)) (sink l r)
 
 module _ (name : List ℕ) (view : View) where
   -- a whole line

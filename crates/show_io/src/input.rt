@@ -5,14 +5,18 @@ use super::lines::push_refusal;
 use buffer::push_bytes;
 use buffer::smaller;
 ghost use mathlib.Core.Path.{_≡_};
-ghost use Prim.Native.Nat.{_+_};
+ghost use Prim.Native.Nat.{_+_, _-_};
 ghost use lib.ListN.{length, drop};
+ghost use lib.Dec.{ltb};
 ghost use Rattle.buffer.specs.Sink.{sink};
 ghost use Rattle.show_io.specs.Input.{lineLength, pieces, isEnd, nextNumber, fittedOf, withPiece, withPieces};
 ghost use Rattle.show_io.specs.Input.Contracts.{Kept, stateOf, readOf, lastOf};
 
 // From so many printed bytes on, no further line is begun.
 const ENOUGH: usize = 65536;
+
+// What a line may print, whatever was printed before it.
+const MOST: usize = 524288;
 
 // How many lines were read, how many bytes of the next one, and how many bytes were printed.
 pub struct Reading {
@@ -68,11 +72,21 @@ fn keep(line: &mut [u8], kept: usize, piece: &[u8]) -> usize
     push_bytes(line, from, &piece[..n])
 }
 
-// The count behind what a line printed, or behind a refusal where that did not fit.
+// Did a line print more than it may?
+fn is_long(before: usize, at: usize) -> bool
+    ensures { λ r. ⌜ r ≡ ltb 524288 (at - before) ⌝ }
+{
+    if before < at {
+        return MOST < at - before;
+    }
+    false
+}
+
+// The count behind what a line printed, or behind a refusal where that is too much or did not fit.
 fn fitted(out: &mut [u8], at: usize, name: &[u8], number: usize, before: usize) -> usize
     ensures { λ r. ⌜ sink (now (out .exit)) r ≡ fittedOf (now (name .entry)) number before (sink (now (out .entry)) at) ⌝ }
 {
-    if out.len() < at {
+    if (out.len() < at) | is_long(before, at) {
         return push_refusal(out, before, name, number, 9);
     }
     at
