@@ -78,23 +78,22 @@ module _ (s : List ℕ) (at n : ℕ) where
       none (suc k) zero = refl
       none (suc k) (suc m) = refl
 
--- ---- push_uri
-
+-- a part from p on of n bytes
 module _ (line : List ℕ) (p n from len : ℕ) (is : from ≡ smallerOf p (length line)) where
   from-within : from ≤ length line
   from-within = rw is (cases (leb p (length line)) (λ e. rw e (leb-true p (length line) e)) (λ e. rw e (omega arith)))
 
   module _ (cut : len ≡ smallerOf n (length line - from)) where
-    pub uri-within : from + len ≤ length line
-    uri-within =
+    pub part-within : from + len ≤ length line
+    part-within =
         let w = from-within in
         cases (leb n (length line - from))
         (λ e. let k = leb-true n (length line - from) e in let l : len ≡ n = rw e at cut in omega arith)
         (λ e. let l : len ≡ length line - from = rw e at cut in omega arith)
 
     -- a place in memory
-    pub uri-fits : length line < 18446744073709551616 → from + len < 18446744073709551616
-    uri-fits h = omega (arith, uri-within)
+    pub part-fits : length line < 18446744073709551616 → from + len < 18446744073709551616
+    part-fits h = omega (arith, part-within)
 
     to-is : from + len ≡ smallerOf (p + n) (length line)
     to-is = cases (leb p (length line))
@@ -105,9 +104,14 @@ module _ (line : List ℕ) (p n from len : ℕ) (is : from ≡ smallerOf p (leng
         (λ g. let l : len ≡ n = rw g at cut in let h = leb-true n (length line - from) g in rw (lt-leb (p + n) (length line) (omega arith)) (omega arith))
         (λ g. let l : len ≡ length line - from = rw g at cut in rw (lt-leb (p + n) (length line) (omega arith)) (omega arith)))
 
+    pub part-is : take (from + len - from) (drop from line) ≡ take n (drop p line)
+    part-is = part-cut line p n from (from + len) is to-is
+
+    -- ---- push_uri
+
     pub uri-pushed : (body : List ℕ) (s z : Sink) → p ≡ littleEndian (take 4 (drop 16 body)) → n ≡ littleEndian (take 4 (drop 20 body)) → z ≡ emit s (take (from + len - from) (drop from line)) → z ≡ emit s (uri line body)
     unfolding uri
-    uri-pushed body s z place size e = e ∙ ap (emit s) (part-cut line p n from (from + len) is to-is ∙ rw (place, size) refl)
+    uri-pushed body s z place size e = e ∙ ap (emit s) (part-is ∙ rw (place, size) refl)
 
 -- ---- changes
 

@@ -26,20 +26,21 @@ use Rattle.screen.specs.Calls.{screenCall}
 use Rattle.text.specs.Calls.{Written}
 use Rattle.text.specs.Calls.Code.{written}
 use Rattle.show_io.specs.Ansi.{cells, rowText}
-use Rattle.show_io.specs.Lines.{Printed, bench, drawnRow, screenText, listText, rowOf, columnsIn, columnsOf, smallRow, largeRow, lineRow, heightOf, rowsFrom, allRows, lineText, refusalText}
+use Rattle.show_io.specs.declared.lines.View.{View}
+use Rattle.show_io.specs.Lines.{Printed, bench, windowEnd, drawnRow, screenText, listText, rowOf, columnsIn, columnsOf, smallRow, largeRow, lineRow, heightOf, rowsFrom, allRows, spansText, lineText, refusalText}
 use Rattle.show_io.specs.Lines.Contracts.{PrintedTo, AnswerOf}
 use Rattle.show_io.specs.declared.lines.RowPrinted.{RowPrinted}
 
 -- ---- draw
 
-module _ (c p l width mode first n : ℕ) (line : List ℕ) (r : Answer) (conv numbers list : List ℕ) where
-  pub window-drawn : mode ≡ 0 → DrawnNumbers (windowCall profile01 bench c p l 0 width none [] line) n r conv numbers list → DrawnNumbers (drawnRow c p l width mode first line) n r conv numbers list
+module _ (c p l : ℕ) (view : View) (first n : ℕ) (line : List ℕ) (r : Answer) (conv numbers list : List ℕ) where
+  pub window-drawn : view .mode ≡ 0 → (end : ℕ) → end ≡ windowEnd view → DrawnNumbers (windowCall profile01 bench c p l (view .start) end none [] line) n r conv numbers list → DrawnNumbers (drawnRow c p l view first line) n r conv numbers list
   unfolding drawnRow
-  window-drawn e d = rw (eq-eqb mode 0 e) d
+  window-drawn e end f d = rw (eq-eqb (view .mode) 0 e, ← f) d
 
-  pub row-drawn : (mode ≢ 0) → DrawnNumbers (rowCall profile01 bench c p l first 1 width mode none [] line) n r conv numbers list → DrawnNumbers (drawnRow c p l width mode first line) n r conv numbers list
+  pub row-drawn : (view .mode ≢ 0) → DrawnNumbers (rowCall profile01 bench c p l first 1 (view .width) (view .mode) none [] line) n r conv numbers list → DrawnNumbers (drawnRow c p l view first line) n r conv numbers list
   unfolding drawnRow
-  row-drawn e d = rw (ne-eqb mode 0 e) d
+  row-drawn e d = rw (ne-eqb (view .mode) 0 e) d
 
 -- ---- print_list
 
@@ -97,37 +98,37 @@ row-none room columns d h = cases (eqb (d .number) 0)
 
 -- ---- small_row, large_row, line_row
 
-module _ (width mode first c n l room : ℕ) (line out : List ℕ) (s : Sink) (r : RowPrinted) where
-  pub small-printed : c ≡ 2048 → n ≡ 256 → l ≡ 4096 → room ≡ 16384 → PrintedTo (rowOf room width (drawnRow c (placesIn n) l width mode first line)) s out r → PrintedTo (smallRow width mode line first) s out r
+module _ (view : View) (first c n l room : ℕ) (line out : List ℕ) (s : Sink) (r : RowPrinted) where
+  pub small-printed : c ≡ 2048 → n ≡ 256 → l ≡ 4096 → room ≡ 16384 → PrintedTo (rowOf room (view .width) (drawnRow c (placesIn n) l view first line)) s out r → PrintedTo (smallRow view line first) s out r
   unfolding smallRow
   small-printed e f g h p = rw (e, f, g, h) at p
 
-  pub large-printed : (columns : ℕ) → columns ≡ columnsOf width mode first line → c ≡ 32768 → n ≡ 8192 → l ≡ 131072 → room ≡ 262144 → PrintedTo (rowOf room columns (drawnRow c (placesIn n) l width mode first line)) s out r → PrintedTo (largeRow width mode line first) s out r
+  pub large-printed : (columns : ℕ) → columns ≡ columnsOf view first line → c ≡ 32768 → n ≡ 8192 → l ≡ 131072 → room ≡ 262144 → PrintedTo (rowOf room columns (drawnRow c (placesIn n) l view first line)) s out r → PrintedTo (largeRow view line first) s out r
   unfolding largeRow
   large-printed columns k e f g h p = rw (e, f, g, h, k) at p
 
 abbrev pub listOf : Sink → List ℕ
 listOf (sink l r) = l
 
-module _ (width mode first : ℕ) (line out₀ out : List ℕ) (at : ℕ) (a : RowPrinted) (p : PrintedTo (smallRow width mode line first) (sink out₀ at) out a) where
-  pub line-small : a .number ≡ 0 → PrintedTo (lineRow width mode line first) (sink out₀ at) out a
+module _ (view : View) (first : ℕ) (line out₀ out : List ℕ) (at : ℕ) (a : RowPrinted) (p : PrintedTo (smallRow view line first) (sink out₀ at) out a) where
+  pub line-small : a .number ≡ 0 → PrintedTo (lineRow view line first) (sink out₀ at) out a
   unfolding lineRow
-  line-small e = rw (eq-eqb (smallRow width mode line first .number) 0 (sym (p .number) ∙ e)) p
+  line-small e = rw (eq-eqb (smallRow view line first .number) 0 (sym (p .number) ∙ e)) p
 
-  pub line-large : (out′ : List ℕ) (r : RowPrinted) → (a .number ≢ 0) → PrintedTo (largeRow width mode line first) (sink out at) out′ r → PrintedTo (lineRow width mode line first) (sink out₀ at) out′ r
+  pub line-large : (out′ : List ℕ) (r : RowPrinted) → (a .number ≢ 0) → PrintedTo (largeRow view line first) (sink out at) out′ r → PrintedTo (lineRow view line first) (sink out₀ at) out′ r
   unfolding lineRow smallRow
   line-large out′ r e q =
-      let differs : smallRow width mode line first .number ≢ 0 = λ z. e (p .number ∙ z) in
-      let none : smallRow width mode line first .text ≡ [] = row-none 16384 width (drawnRow 2048 64 4096 width mode first line) differs in
+      let differs : smallRow view line first .number ≢ 0 = λ z. e (p .number ∙ z) in
+      let none : smallRow view line first .text ≡ [] = row-none 16384 (view .width) (drawnRow 2048 64 4096 view first line) differs in
       let same : out ≡ out₀ = ap listOf (p .text ∙ ap (emit (sink out₀ at)) none ∙ emit-none (sink out₀ at)) in
-      rw (ne-eqb (smallRow width mode line first .number) 0 differs) (rw same at q)
+      rw (ne-eqb (smallRow view line first .number) 0 differs) (rw same at q)
 
 -- a refused row prints nothing
-refused-text : (width mode first : ℕ) (line : List ℕ) → (lineRow width mode line first .number ≢ 0) → lineRow width mode line first .text ≡ []
+refused-text : (view : View) (first : ℕ) (line : List ℕ) → (lineRow view line first .number ≢ 0) → lineRow view line first .text ≡ []
 unfolding lineRow smallRow largeRow
-refused-text width mode first line h = cases (eqb (smallRow width mode line first .number) 0)
-    (λ e. absurd (h (rw e (eqb-true (smallRow width mode line first .number) 0 e))))
-    (λ e. rw e (row-none 262144 (columnsOf width mode first line) (drawnRow 32768 2048 131072 width mode first line) (rw e at h)))
+refused-text view first line h = cases (eqb (smallRow view line first .number) 0)
+    (λ e. absurd (h (rw e (eqb-true (smallRow view line first .number) 0 e))))
+    (λ e. rw e (row-none 262144 (columnsOf view first line) (drawnRow 32768 2048 131072 view first line) (rw e at h)))
 
 -- ---- columns
 
@@ -153,46 +154,46 @@ module _ (rows : List ℕ) (width first : ℕ) where
       let z : getD rows (2 * first + 1) 0 ≡ 0 = List·getD-eq-default rows 0 {n = 2 * first + 1} (omega arith) in
       columns-few (rw z (omega arith))
 
-module _ (width mode first : ℕ) (line : List ℕ) where
-  pub columns-window : mode ≡ 0 → width ≡ columnsOf width mode first line
+module _ (view : View) (first : ℕ) (line : List ℕ) where
+  pub columns-window : view .mode ≡ 0 → view .width ≡ columnsOf view first line
   unfolding columnsOf
-  columns-window e = rw (eq-eqb mode 0 e) refl
+  columns-window e = rw (eq-eqb (view .mode) 0 e) refl
 
-  pub columns-row : (c n k m r : ℕ) (a : Answer) (conv numbers rows : List ℕ) → (mode ≢ 0) → c ≡ 32768 → n ≡ 8192 → k ≡ 16384 → RowsNumbers (rowsCall profile01 c (placesIn n) k width mode line) m a conv numbers rows → r ≡ columnsIn rows width first → r ≡ columnsOf width mode first line
+  pub columns-row : (c n k m r : ℕ) (a : Answer) (conv numbers rows : List ℕ) → (view .mode ≢ 0) → c ≡ 32768 → n ≡ 8192 → k ≡ 16384 → RowsNumbers (rowsCall profile01 c (placesIn n) k (view .width) (view .mode) line) m a conv numbers rows → r ≡ columnsIn rows (view .width) first → r ≡ columnsOf view first line
   unfolding columnsOf
   columns-row c n k m r a conv numbers rows e f g h w i =
-      let v : RowsNumbers (rowsCall profile01 32768 2048 16384 width mode line) m a conv numbers rows = rw (f, g, h) at w in
-      i ∙ ap (λ (l : List ℕ). columnsIn l width first) (v .pairs)
-      ∙ sym (ap (λ (b : Bool). cond b width (columnsIn (rowsCall profile01 32768 2048 16384 width mode line .rows) width first)) (ne-eqb mode 0 e))
+      let v : RowsNumbers (rowsCall profile01 32768 2048 16384 (view .width) (view .mode) line) m a conv numbers rows = rw (f, g, h) at w in
+      i ∙ ap (λ (l : List ℕ). columnsIn l (view .width) first) (v .pairs)
+      ∙ sym (ap (λ (b : Bool). cond b (view .width) (columnsIn (rowsCall profile01 32768 2048 16384 (view .width) (view .mode) line .rows) (view .width) first)) (ne-eqb (view .mode) 0 e))
 
 -- ---- heights
 
-module _ (width mode : ℕ) (line : List ℕ) (a : Answer) (p : AnswerOf (heightCall profile01 2048 64 width mode line) a) where
-  pub height-small : a .number ≡ 0 → AnswerOf (heightOf width mode line) a
+module _ (view : View) (line : List ℕ) (a : Answer) (p : AnswerOf (heightCall profile01 2048 64 (view .width) (view .mode) line) a) where
+  pub height-small : a .number ≡ 0 → AnswerOf (heightOf view line) a
   unfolding heightOf
-  height-small e = rw (eq-eqb (heightCall profile01 2048 64 width mode line .number) 0 (sym (p .number) ∙ e)) p
+  height-small e = rw (eq-eqb (heightCall profile01 2048 64 (view .width) (view .mode) line .number) 0 (sym (p .number) ∙ e)) p
 
-  pub height-large : (r : Answer) → (a .number ≢ 0) → AnswerOf (heightCall profile01 32768 2048 width mode line) r → AnswerOf (heightOf width mode line) r
+  pub height-large : (r : Answer) → (a .number ≢ 0) → AnswerOf (heightCall profile01 32768 2048 (view .width) (view .mode) line) r → AnswerOf (heightOf view line) r
   unfolding heightOf
-  height-large r e q = rw (ne-eqb (heightCall profile01 2048 64 width mode line .number) 0 (λ z. e (p .number ∙ z))) q
+  height-large r e q = rw (ne-eqb (heightCall profile01 2048 64 (view .width) (view .mode) line .number) 0 (λ z. e (p .number ∙ z))) q
 
 -- ---- all rows
 
-module _ (name : List ℕ) (number width mode : ℕ) (line : List ℕ) where
+module _ (name : List ℕ) (number : ℕ) (view : View) (line : List ℕ) where
   abbrev from : ℕ → ℕ → List ℕ
-  from first n = rowsFrom name number width mode line first n
+  from first n = rowsFrom name number view line first n
 
   from-none : (first n : ℕ) → n ≡ 0 → from first n ≡ []
   unfolding rowsFrom
   from-none first n e = rw e refl
 
-  from-more : (first n m : ℕ) → n ≡ suc m → lineRow width mode line first .number ≡ 0 → from first n ≡ lineRow width mode line first .text ++ from (suc first) m
+  from-more : (first n m : ℕ) → n ≡ suc m → lineRow view line first .number ≡ 0 → from first n ≡ lineRow view line first .text ++ from (suc first) m
   unfolding rowsFrom
-  from-more first n m e z = rw (e, eq-eqb (lineRow width mode line first .number) 0 z) refl
+  from-more first n m e z = rw (e, eq-eqb (lineRow view line first .number) 0 z) refl
 
-  from-refused : (first n m : ℕ) → n ≡ suc m → (lineRow width mode line first .number ≢ 0) → from first n ≡ refusalText name number (lineRow width mode line first .number)
+  from-refused : (first n m : ℕ) → n ≡ suc m → (lineRow view line first .number ≢ 0) → from first n ≡ refusalText name number (lineRow view line first .number)
   unfolding rowsFrom
-  from-refused first n m e z = rw (e, ne-eqb (lineRow width mode line first .number) 0 z) refl
+  from-refused first n m e z = rw (e, ne-eqb (lineRow view line first .number) 0 z) refl
 
   pub record Rows (out₀ : List ℕ) (at₀ count : ℕ) (out : List ℕ) (a i : ℕ) : Type 0 where
     pub within : i ≤ count
@@ -206,10 +207,10 @@ module _ (name : List ℕ) (number width mode : ℕ) (line : List ℕ) where
     pub rows-end : count ≤ i → sink out a ≡ emit (sink out₀ at₀) (from 0 count)
     rows-end h = sym (ap (emit (sink out a)) (from-none i (count - i) (omega arith)) ∙ emit-none (sink out a)) ∙ w .work
 
-    module _ (less : i < count) (out′ : List ℕ) (p : RowPrinted) (is : PrintedTo (lineRow width mode line i) (sink out a) out′ p) where
+    module _ (less : i < count) (out′ : List ℕ) (p : RowPrinted) (is : PrintedTo (lineRow view line i) (sink out a) out′ p) where
       pub rows-turn : p .number ≡ 0 → length out′ ≡ length out → Rows out₀ at₀ count out′ (p .at) (i + 1)
       rows-turn e l =
-          let t : List ℕ = lineRow width mode line i .text in
+          let t : List ℕ = lineRow view line i .text in
           let next : i + 1 ≡ suc i = omega arith in
           record {
             within = omega arith;
@@ -221,47 +222,52 @@ module _ (name : List ℕ) (number width mode : ℕ) (line : List ℕ) where
 
       pub rows-refused : (out″ : List ℕ) (r : ℕ) → (p .number ≢ 0) → sink out″ r ≡ emit (sink out′ (p .at)) (refusalText name number (p .number)) → sink out″ r ≡ emit (sink out₀ at₀) (from 0 count)
       rows-refused out″ r e f =
-          let row : Printed = lineRow width mode line i in
+          let row : Printed = lineRow view line i in
           let differs : row .number ≢ 0 = λ z. e (is .number ∙ z) in
-          f ∙ ap₂ (λ (x : Sink) (k : ℕ). emit x (refusalText name number k)) (is .text ∙ ap (emit (sink out a)) (refused-text width mode i line differs) ∙ emit-none (sink out a)) (is .number)
+          f ∙ ap₂ (λ (x : Sink) (k : ℕ). emit x (refusalText name number k)) (is .text ∙ ap (emit (sink out a)) (refused-text view i line differs) ∙ emit-none (sink out a)) (is .number)
           ∙ ap (emit (sink out a)) (sym (from-refused i (count - i) (count - (i + 1)) (omega arith) differs)) ∙ w .work
 
 -- ---- push_line
 
-module _ (name : List ℕ) (number width mode : ℕ) (line : List ℕ) where
+module _ (name : List ℕ) (number : ℕ) (view : View) (line : List ℕ) where
   abbrev window : List ℕ
-  window = rowsFrom name number width mode line 0 1
+  window = rowsFrom name number view line 0 1
 
   abbrev wrapped : Read → List ℕ
-  wrapped h = allRows name number width mode line h
+  wrapped h = allRows name number view line h
 
-  window-text : mode ≡ 0 → window ≡ lineText name number width mode line
+  abbrev chosen : Bool → Bool → List ℕ
+  chosen a b = cond a window (cond b (spansText name number line) (wrapped (heightOf view line)))
+
+  line-chosen : {a b : Bool} → eqb (view .mode) 0 ≡ a → eqb (view .mode) 5 ≡ b → chosen a b ≡ lineText name number view line
   unfolding lineText
-  window-text e = sym (ap (λ (b : Bool). cond b window (wrapped (heightOf width mode line))) (eq-eqb mode 0 e))
+  line-chosen e f = sym (ap₂ chosen e f)
 
-  wrapped-text : (mode ≢ 0) → wrapped (heightOf width mode line) ≡ lineText name number width mode line
-  unfolding lineText
-  wrapped-text e = sym (ap (λ (b : Bool). cond b window (wrapped (heightOf width mode line))) (ne-eqb mode 0 e))
-
-  rows-text : (h : Read) → h .number ≡ 0 → rowsFrom name number width mode line 0 (h .count) ≡ wrapped h
+  rows-text : (h : Read) → h .number ≡ 0 → rowsFrom name number view line 0 (h .count) ≡ wrapped h
   unfolding allRows
-  rows-text h e = sym (ap (λ (b : Bool). cond b (rowsFrom name number width mode line 0 (h .count)) (refusalText name number (h .number))) (eq-eqb (h .number) 0 e))
+  rows-text h e = sym (ap (λ (b : Bool). cond b (rowsFrom name number view line 0 (h .count)) (refusalText name number (h .number))) (eq-eqb (h .number) 0 e))
 
   refusal-text : (h : Read) → (h .number ≢ 0) → refusalText name number (h .number) ≡ wrapped h
   unfolding allRows
-  refusal-text h e = sym (ap (λ (b : Bool). cond b (rowsFrom name number width mode line 0 (h .count)) (refusalText name number (h .number))) (ne-eqb (h .number) 0 e))
+  refusal-text h e = sym (ap (λ (b : Bool). cond b (rowsFrom name number view line 0 (h .count)) (refusalText name number (h .number))) (ne-eqb (h .number) 0 e))
 
   module _ (s z : Sink) where
-    pub line-window : mode ≡ 0 → z ≡ emit s (rowsFrom name number width mode line 0 1) → z ≡ emit s (lineText name number width mode line)
-    line-window e p = p ∙ ap (emit s) (window-text e)
+    pub line-window : view .mode ≡ 0 → z ≡ emit s (rowsFrom name number view line 0 1) → z ≡ emit s (lineText name number view line)
+    line-window e p = p ∙ ap (emit s) (line-chosen (eq-eqb (view .mode) 0 e) refl)
 
-    module _ (h : Answer) (is : AnswerOf (heightOf width mode line) h) (wraps : mode ≢ 0) where
-      pub line-rows : h .number ≡ 0 → z ≡ emit s (rowsFrom name number width mode line 0 (h .count)) → z ≡ emit s (lineText name number width mode line)
+    pub line-spans : (view .mode ≢ 0) → view .mode ≡ 5 → z ≡ emit s (spansText name number line) → z ≡ emit s (lineText name number view line)
+    line-spans d e p = p ∙ ap (emit s) (line-chosen (ne-eqb (view .mode) 0 d) (eq-eqb (view .mode) 5 e))
+
+    module _ (h : Answer) (is : AnswerOf (heightOf view line) h) (d : view .mode ≢ 0) (d′ : view .mode ≢ 5) where
+      wrapped-text : wrapped (heightOf view line) ≡ lineText name number view line
+      wrapped-text = line-chosen (ne-eqb (view .mode) 0 d) (ne-eqb (view .mode) 5 d′)
+
+      pub line-rows : h .number ≡ 0 → z ≡ emit s (rowsFrom name number view line 0 (h .count)) → z ≡ emit s (lineText name number view line)
       line-rows e p =
-          p ∙ ap (λ (n : ℕ). emit s (rowsFrom name number width mode line 0 n)) (is .count)
-          ∙ ap (emit s) (rows-text (heightOf width mode line) (sym (is .number) ∙ e) ∙ wrapped-text wraps)
+          p ∙ ap (λ (n : ℕ). emit s (rowsFrom name number view line 0 n)) (is .count)
+          ∙ ap (emit s) (rows-text (heightOf view line) (sym (is .number) ∙ e) ∙ wrapped-text)
 
-      pub line-refused : (h .number ≢ 0) → z ≡ emit s (refusalText name number (h .number)) → z ≡ emit s (lineText name number width mode line)
+      pub line-refused : (h .number ≢ 0) → z ≡ emit s (refusalText name number (h .number)) → z ≡ emit s (lineText name number view line)
       line-refused e p =
           p ∙ ap (λ (n : ℕ). emit s (refusalText name number n)) (is .number)
-          ∙ ap (emit s) (refusal-text (heightOf width mode line) (λ x. e (is .number ∙ x)) ∙ wrapped-text wraps)
+          ∙ ap (emit s) (refusal-text (heightOf view line) (λ x. e (is .number ∙ x)) ∙ wrapped-text)

@@ -3,12 +3,12 @@ use mathlib.Core.Path.{_≡_, refl, sym, ap, ap₂, _∙_}
 use mathlib.Core.Logic.{_≢_}
 use Prim.Native.Nat.{ℕ, suc, _+_, _-_, _≤_, _<_}
 use native.Mathlib.Omega.{arith}
-use mathlib.Core.Bool.{Bool, true, false, cond}
+use mathlib.Core.Bool.{Bool, true, false, cond, _||_}
 use mathlib.Core.List.{List, [], _∷_, _++_}
 use lib.ListN.{length, take, drop, getD, length-append, length-drop, drop-of-length-le}
 use lib.Seq.{take-all, take-length, take-at, drop-cons, drop-drop, length-take-le}
-use lib.Dec.{leb}
-use borrow.Author.Tests.{eq-eqb, ne-eqb, lt-ltb, le-ltb, le-leb, lt-leb, leb-true, leb-false}
+use lib.Dec.{leb, ltb}
+use borrow.Author.Tests.{eq-eqb, ne-eqb, le-ltb, le-leb, lt-leb, leb-true, leb-false}
 use Rattle.text.specs.Tests.{cases}
 use Rattle.buffer.specs.Sink.{Sink, sink, emit, written}
 use Rattle.buffer.specs.Sink.Laws.{emit-room, written-length}
@@ -18,6 +18,7 @@ use Rattle.show_io.specs.Lines.{lineText, refusalText}
 use Rattle.show_io.specs.Input.{lineLength, pieces, isEnd, State, state, Read, read, nextNumber, countOf, fittedOf, withLine, begun, withPiece, withPieces}
 use Rattle.show_io.specs.Input.Laws.{length-within, length-some, pieces-first, pieces-none}
 use Rattle.show_io.specs.Input.Contracts.{Kept, stateOf, readOf, lastOf}
+use Rattle.show_io.specs.declared.lines.View.{View}
 use Rattle.show_io.specs.declared.input.Reading.{Reading}
 use Rattle.show_io.proofs.LineRows.{take-smaller, listOf}
 
@@ -113,14 +114,20 @@ module _ (before piece : List ℕ) (kept from n : ℕ) (is : from ≡ smallerOf 
 
 -- ---- fitted
 
-module _ (name : List ℕ) (number before at : ℕ) (out : List ℕ) where
-  pub fits-not : (z : Sink) → length out < at → z ≡ emit (sink out before) (refusalText name number 9) → z ≡ fittedOf name number before (sink out at)
-  unfolding fittedOf
-  fits-not z h e = rw (lt-ltb (length out) at h) e
+pub not-long : (before at : ℕ) → at ≤ before → false ≡ ltb 524288 (at - before)
+not-long before at h = sym (le-ltb 524288 (at - before) (omega arith))
 
-  pub fits : at ≤ length out → sink out at ≡ fittedOf name number before (sink out at)
+module _ (name : List ℕ) (number before at : ℕ) (out : List ℕ) (long : Bool) (is : long ≡ ltb 524288 (at - before)) where
+  abbrev refused : Sink
+  refused = emit (sink out before) (refusalText name number 9)
+
+  pub fits-not : (z : Sink) → (ltb (length out) at || long) ≡ true → z ≡ refused → z ≡ fittedOf name number before (sink out at)
   unfolding fittedOf
-  fits h = rw (le-ltb (length out) at h) refl
+  fits-not z h e = e ∙ sym (ap (λ (x : Bool). cond x refused (sink out at)) (ap (λ (x : Bool). ltb (length out) at || x) (sym is) ∙ h))
+
+  pub fits : (ltb (length out) at || long) ≡ false → sink out at ≡ fittedOf name number before (sink out at)
+  unfolding fittedOf
+  fits h = sym (ap (λ (x : Bool). cond x refused (sink out at)) (ap (λ (x : Bool). ltb (length out) at || x) (sym is) ∙ h))
 
 -- ---- with_piece
 
@@ -129,53 +136,53 @@ left-of n l = cases (leb n (length l))
     (λ e. let h = leb-true n (length l) e in ap (λ (k : ℕ). length l - k) (length-take-le n l h))
     (λ e. let h = leb-false n (length l) e in let k : length (take n l) ≡ length l = ap length (take-all n l (omega arith)) in omega arith)
 
-module _ (name : List ℕ) (width mode room : ℕ) (t : State) (piece : List ℕ) where
+module _ (name : List ℕ) (view : View) (room : ℕ) (t : State) (piece : List ℕ) where
   abbrev line : List ℕ
-  line = begun name width mode room (t .line) piece
+  line = begun name view room (t .line) piece
 
   abbrev ended : State
-  ended = state (nextNumber (t .number)) [] (withLine name width mode t line)
+  ended = state (nextNumber (t .number)) [] (withLine name view t line)
 
   abbrev goes-on : State
   goes-on = state (t .number) line (t .printed)
 
-  piece-end : isEnd piece ≡ true → ended ≡ withPiece name width mode room t piece
+  piece-end : isEnd piece ≡ true → ended ≡ withPiece name view room t piece
   unfolding withPiece
   piece-end e = sym (ap (λ (x : Bool). cond x ended goes-on) e)
 
-  piece-open : isEnd piece ≡ false → goes-on ≡ withPiece name width mode room t piece
+  piece-open : isEnd piece ≡ false → goes-on ≡ withPiece name view room t piece
   unfolding withPiece
   piece-open e = sym (ap (λ (x : Bool). cond x ended goes-on) e)
 
-module _ (name : List ℕ) (width mode : ℕ) (t : State) (line : List ℕ) where
-  pub line-printed : (number : ℕ) (s z : Sink) → number ≡ nextNumber (t .number) → s ≡ emit (t .printed) (lineText name number width mode line) → z ≡ fittedOf name number (countOf (t .printed)) s → z ≡ withLine name width mode t line
+module _ (name : List ℕ) (view : View) (t : State) (line : List ℕ) where
+  pub line-printed : (number : ℕ) (s z : Sink) → number ≡ nextNumber (t .number) → s ≡ emit (t .printed) (lineText name number view line) → z ≡ fittedOf name number (countOf (t .printed)) s → z ≡ withLine name view t line
   unfolding withLine
   line-printed number s z e f g =
       g ∙ ap (fittedOf name number (countOf (t .printed))) f
-      ∙ ap (λ (n : ℕ). fittedOf name n (countOf (t .printed)) (emit (t .printed) (lineText name n width mode line))) e
+      ∙ ap (λ (n : ℕ). fittedOf name n (countOf (t .printed)) (emit (t .printed) (lineText name n view line))) e
 
-module _ (name piece before after out₀ : List ℕ) (width mode : ℕ) (st : Reading) (kept : ℕ) (is : Kept before (st .kept) piece after kept) (x : Bool) (test : x ≡ isEnd piece) where
+module _ (name piece before after out₀ : List ℕ) (view : View) (st : Reading) (kept : ℕ) (is : Kept before (st .kept) piece after kept) (x : Bool) (test : x ≡ isEnd piece) where
   abbrev t₀ : State
   t₀ = stateOf st before out₀
 
-  kept-line : take kept after ≡ begun name width mode (length before) (take (st .kept) before) piece
+  kept-line : take kept after ≡ begun name view (length before) (take (st .kept) before) piece
   kept-line = is .line ∙ ap (λ (k : ℕ). take (st .kept) before ++ take k piece) (sym (left-of (st .kept) before))
 
-  pub piece-ends : (out₁ out : List ℕ) (number at r : ℕ) → x ≡ true → number ≡ nextNumber (st .number) → sink out₁ at ≡ emit (sink out₀ (st .at)) (lineText name number width mode (take kept after)) → sink out r ≡ fittedOf name number (st .at) (sink out₁ at)
-      → stateOf (record { number = number; kept = 0; at = r }) after out ≡ withPiece name width mode (length before) t₀ piece
+  pub piece-ends : (out₁ out : List ℕ) (number at r : ℕ) → x ≡ true → number ≡ nextNumber (st .number) → sink out₁ at ≡ emit (sink out₀ (st .at)) (lineText name number view (take kept after)) → sink out r ≡ fittedOf name number (st .at) (sink out₁ at)
+      → stateOf (record { number = number; kept = 0; at = r }) after out ≡ withPiece name view (length before) t₀ piece
   piece-ends out₁ out number at r e f g h =
-      let l : List ℕ = begun name width mode (length before) (take (st .kept) before) piece in
-      let z : sink out r ≡ withLine name width mode t₀ l = line-printed name width mode t₀ l number (sink out₁ at) (sink out r) f (g ∙ ap (λ (y : List ℕ). emit (sink out₀ (st .at)) (lineText name number width mode y)) kept-line) h in
-      ap₂ (λ (n : ℕ) (y : Sink). state n [] y) f z ∙ piece-end name width mode (length before) t₀ piece (sym test ∙ e)
+      let l : List ℕ = begun name view (length before) (take (st .kept) before) piece in
+      let z : sink out r ≡ withLine name view t₀ l = line-printed name view t₀ l number (sink out₁ at) (sink out r) f (g ∙ ap (λ (y : List ℕ). emit (sink out₀ (st .at)) (lineText name number view y)) kept-line) h in
+      ap₂ (λ (n : ℕ) (y : Sink). state n [] y) f z ∙ piece-end name view (length before) t₀ piece (sym test ∙ e)
 
-  pub piece-goes-on : x ≡ false → stateOf (record { number = st .number; kept = kept; at = st .at }) after out₀ ≡ withPiece name width mode (length before) t₀ piece
-  piece-goes-on e = ap (λ (y : List ℕ). state (st .number) y (sink out₀ (st .at))) kept-line ∙ piece-open name width mode (length before) t₀ piece (sym test ∙ e)
+  pub piece-goes-on : x ≡ false → stateOf (record { number = st .number; kept = kept; at = st .at }) after out₀ ≡ withPiece name view (length before) t₀ piece
+  piece-goes-on e = ap (λ (y : List ℕ). state (st .number) y (sink out₀ (st .at))) kept-line ∙ piece-open name view (length before) t₀ piece (sym test ∙ e)
 
 -- ---- with_part
 
-module _ (name : List ℕ) (width mode room : ℕ) where
+module _ (name : List ℕ) (view : View) (room : ℕ) where
   abbrev all : State → List (List ℕ) → Read
-  all t ps = withPieces name width mode room 65536 t ps
+  all t ps = withPieces name view room 65536 t ps
 
   all-none : (t : State) → all t [] ≡ read t []
   unfolding withPieces
@@ -184,29 +191,29 @@ module _ (name : List ℕ) (width mode room : ℕ) where
   all-enough : (t : State) (ps : List (List ℕ)) → 65536 ≤ countOf (t .printed) → all t ps ≡ read t ps
   unfolding withPieces
   all-enough t [] h = refl
-  all-enough t (p ∷ ps) h = ap (λ (x : Bool). cond x (read t (p ∷ ps)) (withPieces name width mode room 65536 (withPiece name width mode room t p) ps)) (le-leb 65536 (countOf (t .printed)) h)
+  all-enough t (p ∷ ps) h = ap (λ (x : Bool). cond x (read t (p ∷ ps)) (withPieces name view room 65536 (withPiece name view room t p) ps)) (le-leb 65536 (countOf (t .printed)) h)
 
-  all-more : (t : State) (p : List ℕ) (ps : List (List ℕ)) → countOf (t .printed) < 65536 → all t (p ∷ ps) ≡ all (withPiece name width mode room t p) ps
+  all-more : (t : State) (p : List ℕ) (ps : List (List ℕ)) → countOf (t .printed) < 65536 → all t (p ∷ ps) ≡ all (withPiece name view room t p) ps
   unfolding withPieces
-  all-more t p ps h = ap (λ (x : Bool). cond x (read t (p ∷ ps)) (withPieces name width mode room 65536 (withPiece name width mode room t p) ps)) (lt-leb 65536 (countOf (t .printed)) h)
+  all-more t p ps h = ap (λ (x : Bool). cond x (read t (p ∷ ps)) (withPieces name view room 65536 (withPiece name view room t p) ps)) (lt-leb 65536 (countOf (t .printed)) h)
 
-pub record Parting (name : List ℕ) (width mode : ℕ) (part : List ℕ) (from : ℕ) (line₀ out₀ : List ℕ) (st : Reading) (line out : List ℕ) (reading : Reading) (p : ℕ) : Type 0 where
+pub record Parting (name : List ℕ) (view : View) (part : List ℕ) (from : ℕ) (line₀ out₀ : List ℕ) (st : Reading) (line out : List ℕ) (reading : Reading) (p : ℕ) : Type 0 where
   pub kept : length line ≡ length line₀
   pub long : length out ≡ length out₀
-  pub work : all name width mode (length line₀) (stateOf reading line out) (pieces (drop p part)) ≡ all name width mode (length line₀) (stateOf st line₀ out₀) (pieces (drop from part))
+  pub work : all name view (length line₀) (stateOf reading line out) (pieces (drop p part)) ≡ all name view (length line₀) (stateOf st line₀ out₀) (pieces (drop from part))
 
-pub parting-begins : (name : List ℕ) (width mode : ℕ) (part : List ℕ) (from : ℕ) (line out : List ℕ) (st : Reading) → Parting name width mode part from line out st line out st from
-parting-begins name width mode part from line out st = record { kept = refl; long = refl; work = refl }
+pub parting-begins : (name : List ℕ) (view : View) (part : List ℕ) (from : ℕ) (line out : List ℕ) (st : Reading) → Parting name view part from line out st line out st from
+parting-begins name view part from line out st = record { kept = refl; long = refl; work = refl }
 
-module _ (name : List ℕ) (width mode : ℕ) (part : List ℕ) (from : ℕ) (line₀ out₀ : List ℕ) (st : Reading) (line out : List ℕ) (reading : Reading) (p : ℕ) (w : Parting name width mode part from line₀ out₀ st line out reading p) where
-  pub parting-enough : 65536 ≤ reading .at → readOf (record { reading = reading; place = p }) part line out ≡ withPieces name width mode (length line₀) 65536 (stateOf st line₀ out₀) (pieces (drop from part))
-  parting-enough h = sym (all-enough name width mode (length line₀) (stateOf reading line out) (pieces (drop p part)) h) ∙ w .work
+module _ (name : List ℕ) (view : View) (part : List ℕ) (from : ℕ) (line₀ out₀ : List ℕ) (st : Reading) (line out : List ℕ) (reading : Reading) (p : ℕ) (w : Parting name view part from line₀ out₀ st line out reading p) where
+  pub parting-enough : 65536 ≤ reading .at → readOf (record { reading = reading; place = p }) part line out ≡ withPieces name view (length line₀) 65536 (stateOf st line₀ out₀) (pieces (drop from part))
+  parting-enough h = sym (all-enough name view (length line₀) (stateOf reading line out) (pieces (drop p part)) h) ∙ w .work
 
-  pub parting-ends : length part ≤ p → readOf (record { reading = reading; place = p }) part line out ≡ withPieces name width mode (length line₀) 65536 (stateOf st line₀ out₀) (pieces (drop from part))
+  pub parting-ends : length part ≤ p → readOf (record { reading = reading; place = p }) part line out ≡ withPieces name view (length line₀) 65536 (stateOf st line₀ out₀) (pieces (drop from part))
   parting-ends h =
       let none : pieces (drop p part) ≡ [] = ap pieces (drop-of-length-le part h) ∙ pieces-none in
       ap (read (stateOf reading line out)) none
-      ∙ sym (ap (all name width mode (length line₀) (stateOf reading line out)) none ∙ all-none name width mode (length line₀) (stateOf reading line out)) ∙ w .work
+      ∙ sym (ap (all name view (length line₀) (stateOf reading line out)) none ∙ all-none name view (length line₀) (stateOf reading line out)) ∙ w .work
 
   module _ (less : p < length part) (e : ℕ) (is : e ≡ p + lineLength (drop p part)) where
     some : 0 < length (drop p part)
@@ -222,30 +229,30 @@ module _ (name : List ℕ) (width mode : ℕ) (part : List ℕ) (from : ℕ) (li
     next-less = omega (arith, next-further)
 
     pub parting-turn : (line′ out′ : List ℕ) (r : Reading) → reading .at < 65536 → length line′ ≡ length line → length out′ ≡ length out
-        → stateOf r line′ out′ ≡ withPiece name width mode (length line) (stateOf reading line out) (take (e - p) (drop p part)) → Parting name width mode part from line₀ out₀ st line′ out′ r e
+        → stateOf r line′ out′ ≡ withPiece name view (length line) (stateOf reading line out) (take (e - p) (drop p part)) → Parting name view part from line₀ out₀ st line′ out′ r e
     parting-turn line′ out′ r few k l s =
         let n : ℕ = lineLength (drop p part) in
         let t : State = stateOf reading line out in
         let size : e - p ≡ n = omega arith in
         let first : pieces (drop p part) ≡ take n (drop p part) ∷ pieces (drop e part) = pieces-first (drop p part) some ∙ ap (λ (y : List ℕ). take n (drop p part) ∷ pieces y) (drop-drop n p part ∙ ap (λ (i : ℕ). drop i part) (sym is)) in
-        let same : stateOf r line′ out′ ≡ withPiece name width mode (length line₀) t (take n (drop p part)) = s ∙ ap₂ (λ (i j : ℕ). withPiece name width mode i t (take j (drop p part))) (w .kept) size in
+        let same : stateOf r line′ out′ ≡ withPiece name view (length line₀) t (take n (drop p part)) = s ∙ ap₂ (λ (i j : ℕ). withPiece name view i t (take j (drop p part))) (w .kept) size in
         record {
           kept = k ∙ w .kept;
           long = l ∙ w .long;
-          work = ap (λ (y : State). all name width mode (length line₀) y (pieces (drop e part))) same
-              ∙ sym (all-more name width mode (length line₀) t (take n (drop p part)) (pieces (drop e part)) few)
-              ∙ ap (all name width mode (length line₀) t) (sym first) ∙ w .work;
+          work = ap (λ (y : State). all name view (length line₀) y (pieces (drop e part))) same
+              ∙ sym (all-more name view (length line₀) t (take n (drop p part)) (pieces (drop e part)) few)
+              ∙ ap (all name view (length line₀) t) (sym first) ∙ w .work;
         }
 
 -- ---- with_last
 
-module _ (name line out : List ℕ) (width mode : ℕ) (st : Reading) where
-  pub last-none : st .kept ≡ 0 → sink out (st .at) ≡ lastOf name width mode st line out
-  last-none e = sym (ap (λ (x : Bool). cond x (sink out (st .at)) (withLine name width mode (stateOf st line out) (take (st .kept) line))) (eq-eqb (st .kept) 0 e))
+module _ (name line out : List ℕ) (view : View) (st : Reading) where
+  pub last-none : st .kept ≡ 0 → sink out (st .at) ≡ lastOf name view st line out
+  last-none e = sym (ap (λ (x : Bool). cond x (sink out (st .at)) (withLine name view (stateOf st line out) (take (st .kept) line))) (eq-eqb (st .kept) 0 e))
 
-  pub last-line : (kept number at : ℕ) (out₁ : List ℕ) (z : Sink) → (st .kept ≢ 0) → kept ≡ smallerOf (st .kept) (length line) → number ≡ nextNumber (st .number) → sink out₁ at ≡ emit (sink out (st .at)) (lineText name number width mode (take kept line)) → z ≡ fittedOf name number (st .at) (sink out₁ at) → z ≡ lastOf name width mode st line out
+  pub last-line : (kept number at : ℕ) (out₁ : List ℕ) (z : Sink) → (st .kept ≢ 0) → kept ≡ smallerOf (st .kept) (length line) → number ≡ nextNumber (st .number) → sink out₁ at ≡ emit (sink out (st .at)) (lineText name number view (take kept line)) → z ≡ fittedOf name number (st .at) (sink out₁ at) → z ≡ lastOf name view st line out
   last-line kept number at out₁ z e f g h i =
       let t : State = stateOf st line out in
       let l : List ℕ = take (st .kept) line in
-      line-printed name width mode t l number (sink out₁ at) z g (h ∙ ap (λ (y : List ℕ). emit (sink out (st .at)) (lineText name number width mode y)) (ap (λ (k : ℕ). take k line) f ∙ take-smaller (st .kept) line)) i
-      ∙ sym (ap (λ (x : Bool). cond x (sink out (st .at)) (withLine name width mode t l)) (ne-eqb (st .kept) 0 e))
+      line-printed name view t l number (sink out₁ at) z g (h ∙ ap (λ (y : List ℕ). emit (sink out (st .at)) (lineText name number view y)) (ap (λ (k : ℕ). take k line) f ∙ take-smaller (st .kept) line)) i
+      ∙ sym (ap (λ (x : Bool). cond x (sink out (st .at)) (withLine name view t l)) (ne-eqb (st .kept) 0 e))

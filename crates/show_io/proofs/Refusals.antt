@@ -12,9 +12,9 @@ use Rattle.show_io.specs.Lines.{words, refusedText, refusalText}
 pub said : (k n : ℕ) (s z : Sink) → n ≡ k → z ≡ emit s (words k) → z ≡ emit s (words n)
 said k n s z e p = p ∙ ap (λ (m : ℕ). emit s (words m)) (sym e)
 
-pub said-last : (n : ℕ) (s z : Sink) → (n ≢ 1) → (n ≢ 4) → (n ≢ 5) → (n ≢ 8) → z ≡ emit s (words 9) → z ≡ emit s (words n)
+pub said-last : (n : ℕ) (s z : Sink) → (n ≢ 1) → (n ≢ 4) → (n ≢ 5) → (n ≢ 8) → (n ≢ 9) → z ≡ emit s (words 0) → z ≡ emit s (words n)
 unfolding words
-said-last n s z a b c d p = rw (ne-eqb n 1 a, ne-eqb n 4 b, ne-eqb n 5 c, ne-eqb n 8 d) p
+said-last n s z a b c d e p = rw (ne-eqb n 1 a, ne-eqb n 4 b, ne-eqb n 5 c, ne-eqb n 8 d, ne-eqb n 9 e) p
 
 pub refused-pushed : (n : ℕ) (s a b c d z : Sink) → a ≡ emit s (0x3A ∷ 0x20 ∷ 0x72 ∷ 0x65 ∷ 0x66 ∷ 0x75 ∷ 0x73 ∷ 0x65 ∷ 0x64 ∷ 0x20 ∷ []) → b ≡ emit a (decimal n) → c ≡ emit b (0x3A ∷ 0x20 ∷ []) → d ≡ emit c (words n) → z ≡ put d 0x0A → z ≡ emit s (refusedText n)
 unfolding refusedText

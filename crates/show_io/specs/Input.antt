@@ -1,13 +1,16 @@
 -- Input read in parts: lines end behind a newline, which belongs to them; a line is kept as far as question 1 looks.
 use Prim.Native.Nat.{ℕ, suc, _+_, _-_}
-use mathlib.Core.Bool.{Bool, cond}
+use mathlib.Core.Bool.{Bool, cond, _||_}
 use mathlib.Core.List.{List, [], _∷_, _++_}
 use lib.ListN.{length, take, getD}
 use lib.Dec.{eqb, leb, ltb}
 use Rattle.buffer.specs.Sink.{Sink, sink, emit}
 use Rattle.show_io.specs.Lines.{lineText, refusalText}
+use Rattle.show_io.specs.declared.lines.View.{View}
 pub mod Contracts
 pub mod Laws
+pub mod Parts
+pub mod Vectors
 
 -- ---- lines in a part
 
@@ -56,16 +59,16 @@ nextNumber n = cond (ltb n 0xFFFFFFFFFFFFFFFF) (n + 1) n
 abbrev pub countOf : Sink → ℕ
 countOf (sink l r) = r
 
--- a line printed behind a count, or a refusal there where it did not fit
+-- a line printed behind a count, or a refusal there where it printed more than 524,288 bytes or did not fit
 unfoldable pub fittedOf : (name : List ℕ) (number before : ℕ) → Sink → Sink
 unfolding refusalText
-fittedOf name number before (sink l r) = cond (ltb (length l) r) (emit (sink l before) (refusalText name number 9)) (sink l r)
+fittedOf name number before (sink l r) = cond (ltb (length l) r || ltb 524288 (r - before)) (emit (sink l before) (refusalText name number 9)) (sink l r)
 
-module _ (name : List ℕ) (width mode : ℕ) where
+module _ (name : List ℕ) (view : View) where
   -- a whole line
   unfoldable pub withLine : State → List ℕ → Sink
   unfolding fittedOf lineText
-  withLine t line = fittedOf name (nextNumber (t .number)) (countOf (t .printed)) (emit (t .printed) (lineText name (nextNumber (t .number)) width mode line))
+  withLine t line = fittedOf name (nextNumber (t .number)) (countOf (t .printed)) (emit (t .printed) (lineText name (nextNumber (t .number)) view line))
 
   module _ (room : ℕ) where
     -- a line begun and a piece more, as far as there is room for it

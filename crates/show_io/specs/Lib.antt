@@ -1,3 +1,4 @@
 pub mod Ansi
+pub mod SpanText
 pub mod Lines
 pub mod Input

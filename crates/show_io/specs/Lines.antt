@@ -7,12 +7,14 @@ use lib.ListN.{take, getD}
 use lib.Dec.{eqb, leb}
 use Rattle.text.specs.Width.{profile01}
 use Rattle.text.specs.Calls.{Written}
-use Rattle.spans.specs.Calls.{Read}
+use Rattle.spans.specs.Calls.{Read, readCall}
 use Rattle.rows.specs.Calls.{heightCall, rowsCall}
 use Rattle.drawing.specs.Calls.{Drawn, windowCall, rowCall}
 use Rattle.screen.specs.Calls.{screenCall}
 use Rattle.rows_io.specs.Output.{decimal}
+use Rattle.show_io.specs.declared.lines.View.{View}
 use Rattle.show_io.specs.Ansi.{cells, rowText}
+use Rattle.show_io.specs.SpanText.{recordsText}
 pub mod Vectors
 pub mod Contracts
 
@@ -22,12 +24,16 @@ pub mod Contracts
 abbrev pub bench : ℕ
 bench = 0
 
--- mode 0 draws the window of the first `width` columns, others the row with an index
-unfoldable pub drawnRow : (conv places room width mode first : ℕ) (line : List ℕ) → Drawn
+-- the column behind a window; the largest number where the sum has more than 8 bytes
+abbrev pub windowEnd : View → ℕ
+windowEnd v = cond (leb (v .width) (0xFFFFFFFFFFFFFFFF - v .start)) (v .start + v .width) 0xFFFFFFFFFFFFFFFF
+
+-- mode 0 draws the window, others the row with an index
+unfoldable pub drawnRow : (conv places room : ℕ) (view : View) (first : ℕ) (line : List ℕ) → Drawn
 unfolding windowCall rowCall
-drawnRow conv places room width mode first line =
-    cond (eqb mode 0) (windowCall profile01 bench conv places room 0 width none [] line)
-    (rowCall profile01 bench conv places room first 1 width mode none [] line)
+drawnRow conv places room view first line =
+    cond (eqb (view .mode) 0) (windowCall profile01 bench conv places room (view .start) (windowEnd view) none [] line)
+    (rowCall profile01 bench conv places room first 1 (view .width) (view .mode) none [] line)
 
 -- a refusal's number, 0 for none, and what is printed
 pub record Printed : Type 0 where
@@ -61,36 +67,37 @@ columnsIn rows width first =
     let n : ℕ = getD rows (2 * first + 1) 0 - getD rows (2 * first) 0 in
     cond (leb n width) width n
 
-unfoldable pub columnsOf : (width mode first : ℕ) (line : List ℕ) → ℕ
+unfoldable pub columnsOf : (view : View) (first : ℕ) (line : List ℕ) → ℕ
 unfolding rowsCall
-columnsOf width mode first line = cond (eqb mode 0) width (columnsIn (rowsCall profile01 32768 2048 16384 width mode line .rows) width first)
+columnsOf view first line = cond (eqb (view .mode) 0) (view .width) (columnsIn (rowsCall profile01 32768 2048 16384 (view .width) (view .mode) line .rows) (view .width) first)
 
 -- a row in the width's columns, with memory that is enough for most lines; and where that is refused, in its own columns with more
-unfoldable pub smallRow : (width mode : ℕ) (line : List ℕ) (first : ℕ) → Printed
+unfoldable pub smallRow : (view : View) (line : List ℕ) (first : ℕ) → Printed
 unfolding rowOf drawnRow
-smallRow width mode line first = rowOf 16384 width (drawnRow 2048 64 4096 width mode first line)
+smallRow view line first = rowOf 16384 (view .width) (drawnRow 2048 64 4096 view first line)
 
-unfoldable pub largeRow : (width mode : ℕ) (line : List ℕ) (first : ℕ) → Printed
+unfoldable pub largeRow : (view : View) (line : List ℕ) (first : ℕ) → Printed
 unfolding rowOf drawnRow columnsOf
-largeRow width mode line first = rowOf 262144 (columnsOf width mode first line) (drawnRow 32768 2048 131072 width mode first line)
+largeRow view line first = rowOf 262144 (columnsOf view first line) (drawnRow 32768 2048 131072 view first line)
 
-unfoldable pub lineRow : (width mode : ℕ) (line : List ℕ) (first : ℕ) → Printed
+unfoldable pub lineRow : (view : View) (line : List ℕ) (first : ℕ) → Printed
 unfolding smallRow largeRow
-lineRow width mode line first =
-    let a : Printed = smallRow width mode line first in
-    let b : Printed = largeRow width mode line first in
+lineRow view line first =
+    let a : Printed = smallRow view line first in
+    let b : Printed = largeRow view line first in
     cond (eqb (a .number) 0) a b
 
 -- ---- refusals
 
--- why a line is refused
+-- why a line is refused: the words of the question, where the program's arguments and memory leave it a "no"; 9 is of what is printed
 unfoldable pub words : ℕ → List ℕ
 words n =
-    cond (eqb n 1) (0x6D ∷ 0x6F ∷ 0x72 ∷ 0x65 ∷ 0x20 ∷ 0x74 ∷ 0x68 ∷ 0x61 ∷ 0x6E ∷ 0x20 ∷ 0x34 ∷ 0x2C ∷ 0x30 ∷ 0x39 ∷ 0x36 ∷ 0x20 ∷ 0x62 ∷ 0x79 ∷ 0x74 ∷ 0x65 ∷ 0x73 ∷ [])
-    (cond (eqb n 4) (0x6D ∷ 0x6F ∷ 0x72 ∷ 0x65 ∷ 0x20 ∷ 0x74 ∷ 0x68 ∷ 0x61 ∷ 0x6E ∷ 0x20 ∷ 0x32 ∷ 0x2C ∷ 0x30 ∷ 0x34 ∷ 0x38 ∷ 0x20 ∷ 0x73 ∷ 0x70 ∷ 0x61 ∷ 0x6E ∷ 0x73 ∷ [])
-    (cond (eqb n 5) (0x61 ∷ 0x20 ∷ 0x72 ∷ 0x6F ∷ 0x77 ∷ 0x20 ∷ 0x77 ∷ 0x69 ∷ 0x64 ∷ 0x65 ∷ 0x72 ∷ 0x20 ∷ 0x74 ∷ 0x68 ∷ 0x61 ∷ 0x6E ∷ 0x20 ∷ 0x34 ∷ 0x2C ∷ 0x30 ∷ 0x39 ∷ 0x36 ∷ 0x20 ∷ 0x63 ∷ 0x6F ∷ 0x6C ∷ 0x75 ∷ 0x6D ∷ 0x6E ∷ 0x73 ∷ [])
-    (cond (eqb n 8) (0x61 ∷ 0x20 ∷ 0x63 ∷ 0x6C ∷ 0x75 ∷ 0x73 ∷ 0x74 ∷ 0x65 ∷ 0x72 ∷ 0x20 ∷ 0x77 ∷ 0x69 ∷ 0x64 ∷ 0x65 ∷ 0x72 ∷ 0x20 ∷ 0x74 ∷ 0x68 ∷ 0x61 ∷ 0x6E ∷ 0x20 ∷ 0x69 ∷ 0x74 ∷ 0x73 ∷ 0x20 ∷ 0x72 ∷ 0x6F ∷ 0x77 ∷ [])
-    (0x74 ∷ 0x6F ∷ 0x6F ∷ 0x20 ∷ 0x6D ∷ 0x75 ∷ 0x63 ∷ 0x68 ∷ 0x20 ∷ 0x74 ∷ 0x6F ∷ 0x20 ∷ 0x64 ∷ 0x72 ∷ 0x61 ∷ 0x77 ∷ []))))
+    cond (eqb n 1) (0x74 ∷ 0x68 ∷ 0x65 ∷ 0x20 ∷ 0x6C ∷ 0x69 ∷ 0x6E ∷ 0x65 ∷ 0x20 ∷ 0x68 ∷ 0x61 ∷ 0x73 ∷ 0x20 ∷ 0x6D ∷ 0x6F ∷ 0x72 ∷ 0x65 ∷ 0x20 ∷ 0x74 ∷ 0x68 ∷ 0x61 ∷ 0x6E ∷ 0x20 ∷ 0x34 ∷ 0x2C ∷ 0x30 ∷ 0x39 ∷ 0x36 ∷ 0x20 ∷ 0x62 ∷ 0x79 ∷ 0x74 ∷ 0x65 ∷ 0x73 ∷ [])
+    (cond (eqb n 4) (0x6D ∷ 0x6F ∷ 0x72 ∷ 0x65 ∷ 0x20 ∷ 0x73 ∷ 0x70 ∷ 0x61 ∷ 0x6E ∷ 0x73 ∷ 0x20 ∷ 0x74 ∷ 0x68 ∷ 0x61 ∷ 0x6E ∷ 0x20 ∷ 0x74 ∷ 0x68 ∷ 0x65 ∷ 0x20 ∷ 0x6C ∷ 0x69 ∷ 0x73 ∷ 0x74 ∷ 0x20 ∷ 0x68 ∷ 0x61 ∷ 0x73 ∷ 0x20 ∷ 0x70 ∷ 0x6C ∷ 0x61 ∷ 0x63 ∷ 0x65 ∷ 0x73 ∷ [])
+    (cond (eqb n 5) (0x61 ∷ 0x20 ∷ 0x6E ∷ 0x75 ∷ 0x6D ∷ 0x62 ∷ 0x65 ∷ 0x72 ∷ 0x20 ∷ 0x62 ∷ 0x65 ∷ 0x79 ∷ 0x6F ∷ 0x6E ∷ 0x64 ∷ 0x20 ∷ 0x69 ∷ 0x74 ∷ 0x73 ∷ 0x20 ∷ 0x6C ∷ 0x69 ∷ 0x6D ∷ 0x69 ∷ 0x74 ∷ [])
+    (cond (eqb n 8) (0x61 ∷ 0x20 ∷ 0x63 ∷ 0x6C ∷ 0x75 ∷ 0x73 ∷ 0x74 ∷ 0x65 ∷ 0x72 ∷ 0x20 ∷ 0x77 ∷ 0x69 ∷ 0x64 ∷ 0x65 ∷ 0x72 ∷ 0x20 ∷ 0x74 ∷ 0x68 ∷ 0x61 ∷ 0x6E ∷ 0x20 ∷ 0x74 ∷ 0x68 ∷ 0x65 ∷ 0x20 ∷ 0x77 ∷ 0x69 ∷ 0x6E ∷ 0x64 ∷ 0x6F ∷ 0x77 ∷ [])
+    (cond (eqb n 9) (0x6D ∷ 0x6F ∷ 0x72 ∷ 0x65 ∷ 0x20 ∷ 0x74 ∷ 0x6F ∷ 0x20 ∷ 0x70 ∷ 0x72 ∷ 0x69 ∷ 0x6E ∷ 0x74 ∷ 0x20 ∷ 0x74 ∷ 0x68 ∷ 0x61 ∷ 0x6E ∷ 0x20 ∷ 0x74 ∷ 0x68 ∷ 0x65 ∷ 0x72 ∷ 0x65 ∷ 0x20 ∷ 0x69 ∷ 0x73 ∷ 0x20 ∷ 0x72 ∷ 0x6F ∷ 0x6F ∷ 0x6D ∷ 0x20 ∷ 0x66 ∷ 0x6F ∷ 0x72 ∷ [])
+    (0x6E ∷ 0x6F ∷ 0x74 ∷ 0x20 ∷ 0x64 ∷ 0x72 ∷ 0x61 ∷ 0x77 ∷ 0x6E ∷ [])))))
 
 -- `: refused N: words`
 unfoldable pub refusedText : ℕ → List ℕ
@@ -105,20 +112,33 @@ refusalText name line number = name ++ ((0x3A ∷ []) ++ (decimal line ++ refuse
 -- ---- a line
 
 -- how many rows it has; a window is one
-unfoldable pub heightOf : (width mode : ℕ) (line : List ℕ) → Read
+unfoldable pub heightOf : (view : View) (line : List ℕ) → Read
 unfolding heightCall
-heightOf width mode line =
-    let a : Read = heightCall profile01 2048 64 width mode line in
-    let b : Read = heightCall profile01 32768 2048 width mode line in
+heightOf view line =
+    let a : Read = heightCall profile01 2048 64 (view .width) (view .mode) line in
+    let b : Read = heightCall profile01 32768 2048 (view .width) (view .mode) line in
     cond (eqb (a .number) 0) a b
 
-module _ (name : List ℕ) (number width mode : ℕ) (line : List ℕ) where
+-- the spans that `read` found
+unfoldable pub readText : (name : List ℕ) (number : ℕ) → Read → List ℕ
+unfolding recordsText refusalText
+readText name number c =
+    let all : List ℕ = recordsText number (c .conv) (take (c .count) (c .spans)) in
+    let refusal : List ℕ = refusalText name number (c .number) in
+    cond (eqb (c .number) 0) all refusal
+
+-- with memory that is enough for 4,096 bytes
+unfoldable pub spansText : (name : List ℕ) (number : ℕ) (line : List ℕ) → List ℕ
+unfolding readText readCall
+spansText name number line = readText name number (readCall profile01 32768 2048 [] line)
+
+module _ (name : List ℕ) (number : ℕ) (view : View) (line : List ℕ) where
   -- n rows from one on; a refused one is the last
   unfoldable pub rowsFrom : ℕ → ℕ → List ℕ
   unfolding lineRow refusalText
   rowsFrom first zero = []
   rowsFrom first (suc n) =
-      let p : Printed = lineRow width mode line first in
+      let p : Printed = lineRow view line first in
       let more : List ℕ = p .text ++ rowsFrom (suc first) n in
       cond (eqb (p .number) 0) more (refusalText name number (p .number))
 
@@ -132,8 +152,9 @@ module _ (name : List ℕ) (number width mode : ℕ) (line : List ℕ) where
 
   -- the line with a number in a file
   unfoldable pub lineText : List ℕ
-  unfolding rowsFrom allRows heightOf
+  unfolding rowsFrom allRows heightOf spansText
   lineText =
       let window : List ℕ = rowsFrom 0 1 in
-      let wrapped : List ℕ = allRows (heightOf width mode line) in
-      cond (eqb mode 0) window wrapped
+      let spans : List ℕ = spansText name number line in
+      let wrapped : List ℕ = allRows (heightOf view line) in
+      cond (eqb (view .mode) 0) window (cond (eqb (view .mode) 5) spans wrapped)

@@ -2,3 +2,4 @@
 mod ansi;
 pub mod input;
 pub mod lines;
+mod span_text;

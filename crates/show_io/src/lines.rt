@@ -1,5 +1,6 @@
 // Lines: all rows of a line in turn, or a refusal in its place.
 use super::ansi::push_row;
+use super::span_text::push_numbers;
 use buffer::push_byte;
 use buffer::push_bytes;
 use buffer::smaller;
@@ -9,16 +10,27 @@ use rows::numbers::height_numbers;
 use rows::numbers::rows_numbers;
 use rows_io::output::push_decimal;
 use screen::screen_row;
+use spans::numbers::read_numbers;
 use text::Answer;
 ghost use mathlib.Core.Path.{_≡_};
+ghost use Prim.Native.Nat.{_*_};
 ghost use lib.ListN.{length};
 ghost use Rattle.text.specs.Width.{profile01};
 ghost use Rattle.buffer.specs.Sink.{sink, emit};
+ghost use Rattle.buffer.specs.Numbers.{smallerOf};
 ghost use Rattle.spans.specs.Numbers.{placesIn};
 ghost use Rattle.rows.specs.Calls.{heightCall};
 ghost use Rattle.drawing.specs.Numbers.{DrawnNumbers};
-ghost use Rattle.show_io.specs.Lines.{drawnRow, listText, rowOf, columnsIn, columnsOf, smallRow, largeRow, lineRow, words, refusedText, refusalText, heightOf, rowsFrom, lineText};
-ghost use Rattle.show_io.specs.Lines.Contracts.{PrintedTo, AnswerOf};
+ghost use Rattle.show_io.specs.Lines.{windowEnd, drawnRow, listText, rowOf, columnsIn, columnsOf, smallRow, largeRow, lineRow, words, refusedText, refusalText, heightOf, rowsFrom, spansText, lineText};
+ghost use Rattle.show_io.specs.Lines.Contracts.{PrintedTo, AnswerOf, answerText};
+
+// What is drawn of a line: in mode 0 the window of `width` columns from column `start` on, in modes 1 to 4 its rows at that width; in mode 5
+// its spans, without regard to start and width.
+pub struct View {
+    pub mode: usize,
+    pub start: usize,
+    pub width: usize,
+}
 
 // A refusal's number, 0 for none, and the count behind what was printed.
 struct RowPrinted {
@@ -29,27 +41,36 @@ struct RowPrinted {
 // The reader, who sees the links.
 const BENCH: usize = 0;
 
-// A window of the first columns in mode 0, or else a row.
+// The column behind a window; the largest number where the sum has more than 8 bytes.
+fn window_end(view: View) -> usize
+    ensures { λ r. ⌜ r ≡ windowEnd view ⌝ }
+{
+    if view.width <= usize::MAX - view.start {
+        return view.start + view.width;
+    }
+    usize::MAX
+}
+
+// The window in mode 0, or else a row.
 fn draw(
     line: &[u8],
-    width: usize,
-    mode: usize,
+    view: View,
     first: usize,
     conv: &mut [u8],
     numbers: &mut [usize],
     list: &mut [u8],
 ) -> Answer
-    ensures { λ r. ⌜ DrawnNumbers (drawnRow (length (now (conv .entry))) (placesIn (length (now (numbers .entry)))) (length (now (list .entry))) width mode first (now (line .entry))) (length (now (numbers .entry))) r (now (conv .exit)) (now (numbers .exit)) (now (list .exit)) ⌝ }
+    ensures { λ r. ⌜ DrawnNumbers (drawnRow (length (now (conv .entry))) (placesIn (length (now (numbers .entry)))) (length (now (list .entry))) view first (now (line .entry))) (length (now (numbers .entry))) r (now (conv .exit)) (now (numbers .exit)) (now (list .exit)) ⌝ }
 {
     let none: [usize; 0] = [];
-    if mode == 0 {
+    if view.mode == 0 {
         return draw_window_numbers(
             BENCH,
             line,
             &none,
             usize::MAX,
-            0,
-            width,
+            view.start,
+            window_end(view),
             conv,
             numbers,
             list,
@@ -62,8 +83,8 @@ fn draw(
         usize::MAX,
         first,
         1,
-        width,
-        mode,
+        view.width,
+        view.mode,
         conv,
         numbers,
         list,
@@ -99,8 +120,7 @@ fn print_list(
 // A row, with lent memory.
 fn print_row(
     line: &[u8],
-    width: usize,
-    mode: usize,
+    view: View,
     first: usize,
     columns: usize,
     conv: &mut [u8],
@@ -110,9 +130,9 @@ fn print_row(
     out: &mut [u8],
     at: usize,
 ) -> RowPrinted
-    ensures { λ r. ⌜ PrintedTo (rowOf (length (now (cells .entry))) columns (drawnRow (length (now (conv .entry))) (placesIn (length (now (numbers .entry)))) (length (now (list .entry))) width mode first (now (line .entry)))) (sink (now (out .entry)) at) (now (out .exit)) r ⌝ }
+    ensures { λ r. ⌜ PrintedTo (rowOf (length (now (cells .entry))) columns (drawnRow (length (now (conv .entry))) (placesIn (length (now (numbers .entry)))) (length (now (list .entry))) view first (now (line .entry)))) (sink (now (out .entry)) at) (now (out .exit)) r ⌝ }
 {
-    let d = draw(line, width, mode, first, conv, numbers, list);
+    let d = draw(line, view, first, conv, numbers, list);
     if d.number == 0 {
         let n = smaller(d.count, list.len());
         return print_list(&list[..n], columns, conv, cells, out, at);
@@ -123,15 +143,8 @@ fn print_row(
     }
 }
 
-fn small_row(
-    line: &[u8],
-    width: usize,
-    mode: usize,
-    first: usize,
-    out: &mut [u8],
-    at: usize,
-) -> RowPrinted
-    ensures { λ r. ⌜ PrintedTo (smallRow width mode (now (line .entry)) first) (sink (now (out .entry)) at) (now (out .exit)) r ⌝ }
+fn small_row(line: &[u8], view: View, first: usize, out: &mut [u8], at: usize) -> RowPrinted
+    ensures { λ r. ⌜ PrintedTo (smallRow view (now (line .entry)) first) (sink (now (out .entry)) at) (now (out .exit)) r ⌝ }
 {
     let mut conv = [0u8; 2048];
     let mut numbers = [0usize; 256];
@@ -139,10 +152,9 @@ fn small_row(
     let mut cells = [0u8; 16384];
     print_row(
         line,
-        width,
-        mode,
+        view,
         first,
-        width,
+        view.width,
         &mut conv,
         &mut numbers,
         &mut list,
@@ -168,38 +180,37 @@ fn columns_in(rows: &[usize], width: usize, first: usize) -> usize
     width
 }
 
-fn row_columns(line: &[u8], width: usize, mode: usize, first: usize) -> usize
-    ensures { λ r. ⌜ r ≡ columnsOf width mode first (now (line .entry)) ⌝ }
+fn row_columns(line: &[u8], view: View, first: usize) -> usize
+    ensures { λ r. ⌜ r ≡ columnsOf view first (now (line .entry)) ⌝ }
 {
-    if mode == 0 {
-        return width;
+    if view.mode == 0 {
+        return view.width;
     }
     let mut conv = [0u8; 32768];
     let mut numbers = [0usize; 8192];
     let mut rows = [0usize; 16384];
-    rows_numbers(line, width, mode, &mut conv, &mut numbers, &mut rows);
-    columns_in(&rows, width, first)
+    rows_numbers(
+        line,
+        view.width,
+        view.mode,
+        &mut conv,
+        &mut numbers,
+        &mut rows,
+    );
+    columns_in(&rows, view.width, first)
 }
 
-fn large_row(
-    line: &[u8],
-    width: usize,
-    mode: usize,
-    first: usize,
-    out: &mut [u8],
-    at: usize,
-) -> RowPrinted
-    ensures { λ r. ⌜ PrintedTo (largeRow width mode (now (line .entry)) first) (sink (now (out .entry)) at) (now (out .exit)) r ⌝ }
+fn large_row(line: &[u8], view: View, first: usize, out: &mut [u8], at: usize) -> RowPrinted
+    ensures { λ r. ⌜ PrintedTo (largeRow view (now (line .entry)) first) (sink (now (out .entry)) at) (now (out .exit)) r ⌝ }
 {
-    let columns = row_columns(line, width, mode, first);
+    let columns = row_columns(line, view, first);
     let mut conv = [0u8; 32768];
     let mut numbers = [0usize; 8192];
     let mut list = [0u8; 131072];
     let mut cells = [0u8; 262144];
     print_row(
         line,
-        width,
-        mode,
+        view,
         first,
         columns,
         &mut conv,
@@ -212,47 +223,40 @@ fn large_row(
 }
 
 // A row of a line: with little memory, and where that is refused, with more.
-fn line_row(
-    line: &[u8],
-    width: usize,
-    mode: usize,
-    first: usize,
-    out: &mut [u8],
-    at: usize,
-) -> RowPrinted
-    ensures { λ r. ⌜ PrintedTo (lineRow width mode (now (line .entry)) first) (sink (now (out .entry)) at) (now (out .exit)) r ⌝ }
+fn line_row(line: &[u8], view: View, first: usize, out: &mut [u8], at: usize) -> RowPrinted
+    ensures { λ r. ⌜ PrintedTo (lineRow view (now (line .entry)) first) (sink (now (out .entry)) at) (now (out .exit)) r ⌝ }
 {
-    let a = small_row(line, width, mode, first, out, at);
+    let a = small_row(line, view, first, out, at);
     if a.number == 0 {
         return a;
     }
-    large_row(line, width, mode, first, out, at)
+    large_row(line, view, first, out, at)
 }
 
-fn small_height(line: &[u8], width: usize, mode: usize) -> Answer
-    ensures { λ r. ⌜ AnswerOf (heightCall profile01 2048 64 width mode (now (line .entry))) r ⌝ }
+fn small_height(line: &[u8], view: View) -> Answer
+    ensures { λ r. ⌜ AnswerOf (heightCall profile01 2048 64 (view .width) (view .mode) (now (line .entry))) r ⌝ }
 {
     let mut conv = [0u8; 2048];
     let mut numbers = [0usize; 256];
-    height_numbers(line, width, mode, &mut conv, &mut numbers)
+    height_numbers(line, view.width, view.mode, &mut conv, &mut numbers)
 }
 
-fn large_height(line: &[u8], width: usize, mode: usize) -> Answer
-    ensures { λ r. ⌜ AnswerOf (heightCall profile01 32768 2048 width mode (now (line .entry))) r ⌝ }
+fn large_height(line: &[u8], view: View) -> Answer
+    ensures { λ r. ⌜ AnswerOf (heightCall profile01 32768 2048 (view .width) (view .mode) (now (line .entry))) r ⌝ }
 {
     let mut conv = [0u8; 32768];
     let mut numbers = [0usize; 8192];
-    height_numbers(line, width, mode, &mut conv, &mut numbers)
+    height_numbers(line, view.width, view.mode, &mut conv, &mut numbers)
 }
 
-fn line_height(line: &[u8], width: usize, mode: usize) -> Answer
-    ensures { λ r. ⌜ AnswerOf (heightOf width mode (now (line .entry))) r ⌝ }
+fn line_height(line: &[u8], view: View) -> Answer
+    ensures { λ r. ⌜ AnswerOf (heightOf view (now (line .entry))) r ⌝ }
 {
-    let a = small_height(line, width, mode);
+    let a = small_height(line, view);
     if a.number == 0 {
         return a;
     }
-    large_height(line, width, mode)
+    large_height(line, view)
 }
 
 // Why a line is refused.
@@ -260,18 +264,21 @@ fn push_words(out: &mut [u8], at: usize, number: usize) -> usize
     ensures { λ r. ⌜ sink (now (out .exit)) r ≡ emit (sink (now (out .entry)) at) (words number) ⌝ }
 {
     if number == 1 {
-        return push_bytes(out, at, b"more than 4,096 bytes");
+        return push_bytes(out, at, b"the line has more than 4,096 bytes");
     }
     if number == 4 {
-        return push_bytes(out, at, b"more than 2,048 spans");
+        return push_bytes(out, at, b"more spans than the list has places");
     }
     if number == 5 {
-        return push_bytes(out, at, b"a row wider than 4,096 columns");
+        return push_bytes(out, at, b"a number beyond its limit");
     }
     if number == 8 {
-        return push_bytes(out, at, b"a cluster wider than its row");
+        return push_bytes(out, at, b"a cluster wider than the window");
     }
-    push_bytes(out, at, b"too much to draw")
+    if number == 9 {
+        return push_bytes(out, at, b"more to print than there is room for");
+    }
+    push_bytes(out, at, b"not drawn")
 }
 
 // `refused`, a refusal's number and its words.
@@ -301,17 +308,16 @@ fn push_rows(
     at: usize,
     name: &[u8],
     number: usize,
-    width: usize,
-    mode: usize,
+    view: View,
     line: &[u8],
     count: usize,
 ) -> usize
-    ensures { λ r. ⌜ sink (now (out .exit)) r ≡ emit (sink (now (out .entry)) at) (rowsFrom (now (name .entry)) number width mode (now (line .entry)) 0 count) ⌝ }
+    ensures { λ r. ⌜ sink (now (out .exit)) r ≡ emit (sink (now (out .entry)) at) (rowsFrom (now (name .entry)) number view (now (line .entry)) 0 count) ⌝ }
 {
     let mut a = at;
     let mut i = 0;
     while i < count {
-        let p = line_row(line, width, mode, i, out, a);
+        let p = line_row(line, view, i, out, a);
         if p.number == 0 {
             a = p.at;
             i += 1;
@@ -322,24 +328,65 @@ fn push_rows(
     a
 }
 
+// How many of n numbers are the first `count` spans'.
+fn numbers_len(n: usize, count: usize) -> usize
+    ensures { λ r. ⌜ r ≡ smallerOf (4 * count) n ⌝ }
+{
+    if count <= n / 4 {
+        return 4 * count;
+    }
+    n
+}
+
+fn push_read(
+    out: &mut [u8],
+    at: usize,
+    name: &[u8],
+    number: usize,
+    answer: Answer,
+    conv: &[u8],
+    numbers: &[usize],
+) -> usize
+    ensures { λ r. ⌜ sink (now (out .exit)) r ≡ emit (sink (now (out .entry)) at) (answerText (now (name .entry)) number (answer .number) (answer .count) (now (conv .entry)) (now (numbers .entry))) ⌝ }
+{
+    if answer.number == 0 {
+        let n = numbers_len(numbers.len(), answer.count);
+        return push_numbers(out, at, number, conv, &numbers[..n]);
+    }
+    push_refusal(out, at, name, number, answer.number)
+}
+
+// All spans of the line with a number in a file, or its refusal.
+fn push_spans(out: &mut [u8], at: usize, name: &[u8], number: usize, line: &[u8]) -> usize
+    ensures { λ r. ⌜ sink (now (out .exit)) r ≡ emit (sink (now (out .entry)) at) (spansText (now (name .entry)) number (now (line .entry))) ⌝ }
+{
+    let none: [usize; 0] = [];
+    let mut conv = [0u8; 32768];
+    let mut numbers = [0usize; 8192];
+    let a = read_numbers(line, &none, &mut conv, &mut numbers);
+    push_read(out, at, name, number, a, &conv, &numbers)
+}
+
 // What is printed for a line of a file, with its number there.
 pub(crate) fn push_line(
     out: &mut [u8],
     at: usize,
     name: &[u8],
     number: usize,
-    width: usize,
-    mode: usize,
+    view: View,
     line: &[u8],
 ) -> usize
-    ensures { λ r. ⌜ sink (now (out .exit)) r ≡ emit (sink (now (out .entry)) at) (lineText (now (name .entry)) number width mode (now (line .entry))) ⌝ }
+    ensures { λ r. ⌜ sink (now (out .exit)) r ≡ emit (sink (now (out .entry)) at) (lineText (now (name .entry)) number view (now (line .entry))) ⌝ }
 {
-    if mode == 0 {
-        return push_rows(out, at, name, number, width, mode, line, 1);
+    if view.mode == 0 {
+        return push_rows(out, at, name, number, view, line, 1);
     }
-    let h = line_height(line, width, mode);
+    if view.mode == 5 {
+        return push_spans(out, at, name, number, line);
+    }
+    let h = line_height(line, view);
     if h.number == 0 {
-        return push_rows(out, at, name, number, width, mode, line, h.count);
+        return push_rows(out, at, name, number, view, line, h.count);
     }
     push_refusal(out, at, name, number, h.number)
 }

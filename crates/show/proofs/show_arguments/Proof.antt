@@ -4,10 +4,10 @@ use Rattle.show.proofs.show_arguments.Statement.{statement}
 use Rattle.show.proofs.show_arguments.Tie as tie
 
 abbrev Inv-loop : tie.InvT-loop
-Inv-loop count width mode i₀ i = Unit {0}
+Inv-loop count view i₀ i = Unit {0}
 
 abbrev μ-loop : tie.MeasureT-loop
-μ-loop count width mode i₀ i = count - i
+μ-loop count view i₀ i = count - i
 
 loop-holds : tie.Need-loop-holds Inv-loop μ-loop
 loop-holds c = tt

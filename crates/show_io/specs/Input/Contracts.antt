@@ -7,6 +7,7 @@ use lib.ListN.{length, take, drop}
 use lib.Dec.{eqb}
 use Rattle.buffer.specs.Sink.{Sink, sink}
 use Rattle.show_io.specs.Input.{State, state, Read, read, pieces, withLine}
+use Rattle.show_io.specs.declared.lines.View.{View}
 use Rattle.show_io.specs.declared.input.Reading.{Reading}
 use Rattle.show_io.specs.declared.input.Progress.{Progress}
 
@@ -24,5 +25,5 @@ abbrev pub readOf : Progress → List ℕ → List ℕ → List ℕ → Read
 readOf r part line out = read (stateOf (r .reading) line out) (pieces (drop (r .place) part))
 
 -- what the last line prints, where no newline ends it
-abbrev pub lastOf : List ℕ → ℕ → ℕ → Reading → List ℕ → List ℕ → Sink
-lastOf name width mode r line out = cond (eqb (r .kept) 0) (sink out (r .at)) (withLine name width mode (stateOf r line out) (take (r .kept) line))
+abbrev pub lastOf : List ℕ → View → Reading → List ℕ → List ℕ → Sink
+lastOf name view r line out = cond (eqb (r .kept) 0) (sink out (r .at)) (withLine name view (stateOf r line out) (take (r .kept) line))

@@ -1,17 +1,16 @@
-use mathlib.Core.Path.{_≡_, refl}
-use lib.ListN.{length}
+use Rattle.show.proofs.Parts.{Showing, showing-begins, showing-turn, showing-stops, showing-ends}
 use borrow.Author.Needs.{needs}
 use Rattle.show.proofs.file.show_part.Statement.{statement}
 use Rattle.show.proofs.file.show_part.Tie as tie
 
 abbrev Inv-loop : tie.InvT-loop
-Inv-loop name width mode part line₀ out₀ state₀ p₀ turns₀ line out state p turns = (length line ≡ length line₀) × (length out ≡ length out₀)
+Inv-loop name view part line₀ out₀ state₀ p₀ turns₀ line out state p turns = Showing name view part line₀ out₀ (state₀ .reading) line out state p turns
 
 abbrev μ-loop : tie.MeasureT-loop
-μ-loop name width mode part line₀ out₀ state₀ p₀ turns₀ line out state p turns = turns
+μ-loop name view part line₀ out₀ state₀ p₀ turns₀ line out state p turns = turns
 
 loop-holds : tie.Need-loop-holds Inv-loop μ-loop
-loop-holds c = (refl, refl)
+loop-holds c = search showing-begins
 
 with-part-requires : tie.Need-with-part-requires Inv-loop μ-loop
 with-part-requires c κs = search needs
@@ -26,7 +25,7 @@ loop-less : tie.Need-loop-less Inv-loop μ-loop
 loop-less c = search needs
 
 loop-again : tie.Need-loop-again Inv-loop μ-loop
-loop-again c = (search needs, search needs)
+loop-again c = search showing-turn
 
 same-length : tie.Need-same-length Inv-loop μ-loop
 same-length c = search needs
@@ -35,7 +34,7 @@ same-length-2 : tie.Need-same-length-2 Inv-loop μ-loop
 same-length-2 c = search needs
 
 returns : tie.Need-returns Inv-loop μ-loop
-returns c = search needs
+returns c = search showing-stops
 
 same-length-3 : tie.Need-same-length-3 Inv-loop μ-loop
 same-length-3 c = search needs
@@ -44,7 +43,7 @@ same-length-4 : tie.Need-same-length-4 Inv-loop μ-loop
 same-length-4 c = search needs
 
 returns-2 : tie.Need-returns-2 Inv-loop μ-loop
-returns-2 c = search needs
+returns-2 c = search showing-ends
 
 pub show-part-spec : {M : Type 1} → statement M
 show-part-spec =

@@ -1,4 +1,4 @@
-use Rattle.show_io.proofs.Bodies.{uri-within, uri-fits, uri-pushed}
+use Rattle.show_io.proofs.Bodies.{part-within, part-fits, uri-pushed}
 use Rattle.buffer.specs.Numbers.Laws.{smaller-right}
 use borrow.Author.Needs.{needs}
 use Rattle.show_io.proofs.ansi.push_uri.Statement.{statement}
@@ -20,7 +20,7 @@ smaller-requires-2 : tie.Need-smaller-requires-2
 smaller-requires-2 c κs = search needs
 
 add-push-bytes : tie.Need-add-push-bytes
-add-push-bytes c = search (needs, uri-fits)
+add-push-bytes c = search (needs, part-fits)
 
 sub-push-bytes : tie.Need-sub-push-bytes
 sub-push-bytes c = search needs
@@ -29,7 +29,7 @@ part-push-bytes-start : tie.Need-part-push-bytes-start
 part-push-bytes-start c = search needs
 
 part-push-bytes-end : tie.Need-part-push-bytes-end
-part-push-bytes-end c = search uri-within
+part-push-bytes-end c = search part-within
 
 push-bytes-requires : tie.Need-push-bytes-requires
 push-bytes-requires c κs = search needs

@@ -6,10 +6,10 @@ use Rattle.show_io.proofs.input.with_part.Statement.{statement}
 use Rattle.show_io.proofs.input.with_part.Tie as tie
 
 abbrev Inv-loop : tie.InvT-loop
-Inv-loop name width mode part from line₀ out₀ reading₀ p₀ line out reading p = Parting name width mode part from line₀ out₀ reading₀ line out reading p
+Inv-loop name view part from line₀ out₀ reading₀ p₀ line out reading p = Parting name view part from line₀ out₀ reading₀ line out reading p
 
 abbrev μ-loop : tie.MeasureT-loop
-μ-loop name width mode part from line₀ out₀ reading₀ p₀ line out reading p = length part - p
+μ-loop name view part from line₀ out₀ reading₀ p₀ line out reading p = length part - p
 
 loop-holds : tie.Need-loop-holds Inv-loop μ-loop
 loop-holds c = search parting-begins

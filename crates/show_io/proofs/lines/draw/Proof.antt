@@ -6,6 +6,9 @@ use Rattle.show_io.proofs.lines.draw.Tie as tie
 slice-aggregate-draw-window-numbers : tie.Need-slice-aggregate-draw-window-numbers
 slice-aggregate-draw-window-numbers c = search needs
 
+window-end-requires : tie.Need-window-end-requires
+window-end-requires c κs = search needs
+
 draw-window-numbers-requires : tie.Need-draw-window-numbers-requires
 draw-window-numbers-requires c κs = search needs
 
@@ -44,6 +47,7 @@ draw-spec =
     tie.close
     (tie.spec
     slice-aggregate-draw-window-numbers
+    window-end-requires
     draw-window-numbers-requires
     same-length
     same-length-2

@@ -27,7 +27,7 @@ same-length : tie.Need-same-length
 same-length c = search needs
 
 returns : tie.Need-returns
-returns c = large-printed _ _ _ _ _ _ _ _ _ _ _ _ (c .before .before .before .before .before .before .before .before .before .before .before .before .row-columns .ensures) (length-replicate {A = ℕ} 32768 0) (length-replicate {A = ℕ} 8192 0) (length-replicate {A = ℕ} 131072 0) (length-replicate {A = ℕ} 262144 0) (c .before .before .before .before .before .before .print-row .ensures)
+returns c = large-printed _ _ _ _ _ _ _ _ _ _ _ (c .before .before .before .before .before .before .before .before .before .before .before .before .row-columns .ensures) (length-replicate {A = ℕ} 32768 0) (length-replicate {A = ℕ} 8192 0) (length-replicate {A = ℕ} 131072 0) (length-replicate {A = ℕ} 262144 0) (c .before .before .before .before .before .before .print-row .ensures)
 
 pub large-row-spec : {M : Type 1} → statement M
 large-row-spec =

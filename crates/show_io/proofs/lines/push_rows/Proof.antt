@@ -5,10 +5,10 @@ use Rattle.show_io.proofs.lines.push_rows.Statement.{statement}
 use Rattle.show_io.proofs.lines.push_rows.Tie as tie
 
 abbrev Inv-loop : tie.InvT-loop
-Inv-loop out₀ at name number width mode line count a₀ i₀ out a i = Rows name number width mode line out₀ at count out a i
+Inv-loop out₀ at name number view line count a₀ i₀ out a i = Rows name number view line out₀ at count out a i
 
 abbrev μ-loop : tie.MeasureT-loop
-μ-loop out₀ at name number width mode line count a₀ i₀ out a i = count - i
+μ-loop out₀ at name number view line count a₀ i₀ out a i = count - i
 
 loop-holds : tie.Need-loop-holds Inv-loop μ-loop
 loop-holds c = search rows-begin

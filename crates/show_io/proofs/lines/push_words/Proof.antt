@@ -67,7 +67,20 @@ same-length-5 c = search needs
 
 returns-5 : tie.Need-returns-5
 unfolding words
-returns-5 c = let s = c .before .before .before .before .before in said-last _ _ _ (s .before .before .before .if1 .left) (s .before .before .if2 .left) (s .before .if3 .left) (s .if4 .left) (c .before .before .push-bytes5 .ensures)
+returns-5 c = said 9 _ _ _ (c .before .before .before .before .before .if5 .taken) (c .before .before .push-bytes5 .ensures)
+
+slice-aggregate-push-bytes-6 : tie.Need-slice-aggregate-push-bytes-6
+slice-aggregate-push-bytes-6 c = search needs
+
+push-bytes-requires-6 : tie.Need-push-bytes-requires-6
+push-bytes-requires-6 c κs = search needs
+
+same-length-6 : tie.Need-same-length-6
+same-length-6 c = search needs
+
+returns-6 : tie.Need-returns-6
+unfolding words
+returns-6 c = let s = c .before .before .before .before .before in said-last _ _ _ (s .before .before .before .before .if1 .left) (s .before .before .before .if2 .left) (s .before .before .if3 .left) (s .before .if4 .left) (s .if5 .left) (c .before .before .push-bytes6 .ensures)
 
 pub push-words-spec : {M : Type 1} → statement M
 push-words-spec =
@@ -92,4 +105,8 @@ push-words-spec =
     slice-aggregate-push-bytes-5
     push-bytes-requires-5
     same-length-5
-    returns-5)
+    returns-5
+    slice-aggregate-push-bytes-6
+    push-bytes-requires-6
+    same-length-6
+    returns-6)

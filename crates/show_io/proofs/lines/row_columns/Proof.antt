@@ -27,7 +27,7 @@ columns-in-requires : tie.Need-columns-in-requires
 columns-in-requires c κs = search needs
 
 returns-2 : tie.Need-returns-2
-returns-2 c = columns-row _ _ _ _ _ _ _ _ _ _ _ _ _ (c .before .before .before .before .before .before .before .before .before .if1 .left) (length-replicate {A = ℕ} 32768 0) (length-replicate {A = ℕ} 8192 0) (length-replicate {A = ℕ} 16384 0) (c .before .before .before .before .before .rows-numbers .ensures) (c .columns-in .ensures)
+returns-2 c = columns-row _ _ _ _ _ _ _ _ _ _ _ _ (c .before .before .before .before .before .before .before .before .before .if1 .left) (length-replicate {A = ℕ} 32768 0) (length-replicate {A = ℕ} 8192 0) (length-replicate {A = ℕ} 16384 0) (c .before .before .before .before .before .rows-numbers .ensures) (c .columns-in .ensures)
 
 pub row-columns-spec : {M : Type 1} → statement M
 row-columns-spec =

@@ -24,7 +24,7 @@ same-length : tie.Need-same-length
 same-length c = search needs
 
 returns : tie.Need-returns
-returns c = small-printed _ _ _ _ _ _ _ _ _ _ _ (length-replicate {A = ℕ} 2048 0) (length-replicate {A = ℕ} 256 0) (length-replicate {A = ℕ} 4096 0) (length-replicate {A = ℕ} 16384 0) (c .before .before .before .before .before .before .print-row .ensures)
+returns c = small-printed _ _ _ _ _ _ _ _ _ _ (length-replicate {A = ℕ} 2048 0) (length-replicate {A = ℕ} 256 0) (length-replicate {A = ℕ} 4096 0) (length-replicate {A = ℕ} 16384 0) (c .before .before .before .before .before .before .print-row .ensures)
 
 pub small-row-spec : {M : Type 1} → statement M
 small-row-spec =
