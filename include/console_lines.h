@@ -14,8 +14,8 @@
  * Rules of all calls
  *
  * Answer. number is CONSOLE_ACCEPTED and count is what the call tells, or number is that of
- * the first question that is answered no, and count is 0. No call fails otherwise: any bytes,
- * numbers and lengths may be given.
+ * the first question that is answered no, and count is 0. No call fails otherwise, whatever
+ * bytes and numbers it is given.
  *
  * Lent memory. A call allocates nothing; it is lent a pointer and a length for each thing
  * that it reads or writes. Lengths are items, not bytes, where items are numbers or records.

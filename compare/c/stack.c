@@ -3,7 +3,7 @@
  *
  *   stack < crates/vectors/stdout
  *
- * The lines are those of the recorded calls, and long ones of each kind of span. Status 1 where a call takes more than CONSOLE_STACK. */
+ * The lines are one in four of the recorded calls', and long ones of each kind of span. Status 1 where a call takes more than CONSOLE_STACK. */
 #define _XOPEN_SOURCE 700
 #include <stdio.h>
 #include <stdlib.h>
@@ -108,13 +108,14 @@ int main(void) {
             long_line(patterns[p]);
             make_calls();
         }
-    for (; getline(&text, &room, stdin) >= 0; lines++) {
-        recorded_line(text);
-        width = lines % 20;
-        mode = lines % 5;
-        if (lines % 4 == 0)
+    for (size_t recorded = 0; getline(&text, &room, stdin) >= 0; recorded++)
+        if (recorded % 4 == 0) {
+            recorded_line(text);
+            width = lines % 20;
+            mode = lines % 5;
             make_calls();
-    }
+            lines++;
+        }
     free(text);
     for (size_t i = 1; i < CALLS; i++) {
         size_t bytes = calls[i].deepest - calls[0].deepest;
