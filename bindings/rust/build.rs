@@ -31,10 +31,8 @@ fn archive() -> PathBuf {
         None => installed().unwrap_or(built),
     };
     let lost = |e| {
-        panic!(
-            "no library {}: {e}; CONSOLE_LINES_LIBRARY names one",
-            path.display()
-        )
+        let path = path.display();
+        panic!("no library {path}: {e}; build it, install it, or name it in CONSOLE_LINES_LIBRARY")
     };
     fs::canonicalize(&path).unwrap_or_else(lost)
 }
