@@ -1,4 +1,5 @@
 /* Lends each call just what the header says is always enough, on short and hostile lines, and looks for the largest need that is met.
+ * What is lent ends at a page that may not be touched.
  *
  *   sizes SEED RANDOM_LINES [LESS]
  *
@@ -8,6 +9,8 @@
 #include <stdio.h>
 #include <stdlib.h>
 #include <string.h>
+#include <sys/mman.h>
+#include <unistd.h>
 
 #include "console_lines.h"
 
@@ -68,76 +71,110 @@ static void print_met(const char *what, const struct met *m) {
 
 /* ---- the calls, lent just what is said */
 
-static uint8_t conv[CONSOLE_CONV_SIZE(CONSOLE_LINE_MAX)], list[CONSOLE_LIST_SIZE(CONSOLE_LINE_MAX)];
-static uint8_t out[CONSOLE_CELLS_SIZE(CONSOLE_LINE_MAX, CONSOLE_LIST_SIZE(CONSOLE_LINE_MAX))];
-static uint8_t stored[CONSOLE_STORED_SIZE(CONSOLE_LIST_SIZE(CONSOLE_LINE_MAX))];
-static console_span spans[CONSOLE_SPANS_SIZE(CONSOLE_LINE_MAX)];
-static size_t rows[CONSOLE_ROWS_SIZE(CONSOLE_LINE_MAX)], matches[2 * CONSOLE_CONV_SIZE(CONSOLE_LINE_MAX)];
+static uint8_t *line_end, *conv_end, *list_end, *given_end, *stored_end, *out_end;
+static console_span *spans_end;
+static size_t *rows_end, *matches_end;
 
-#define LINE line->bytes, line->n
-#define READ conv, CONSOLE_CONV_SIZE(line->n), spans, CONSOLE_SPANS_SIZE(line->n)
+/* The end of memory for so many bytes. */
+static void *fenced(size_t bytes) {
+    size_t page = (size_t)sysconf(_SC_PAGESIZE), inner = (bytes / page + 1) * page;
+    uint8_t *pages = (uint8_t *)mmap(NULL, inner + page, PROT_READ | PROT_WRITE, MAP_PRIVATE | MAP_ANONYMOUS, -1, 0);
+    if (pages == MAP_FAILED || mprotect(pages + inner, page, PROT_NONE) != 0) {
+        perror("mmap");
+        exit(2);
+    }
+    return pages + inner;
+}
+
+static void fence(void) {
+    size_t list = CONSOLE_LIST_SIZE(CONSOLE_LINE_MAX);
+    line_end = fenced(CONSOLE_LINE_MAX);
+    conv_end = fenced(CONSOLE_CONV_SIZE(CONSOLE_LINE_MAX));
+    spans_end = fenced(CONSOLE_SPANS_SIZE(CONSOLE_LINE_MAX) * sizeof(console_span));
+    rows_end = fenced(CONSOLE_ROWS_SIZE(CONSOLE_LINE_MAX) * sizeof(size_t));
+    matches_end = fenced(2 * CONSOLE_CONV_SIZE(CONSOLE_LINE_MAX) * sizeof(size_t));
+    list_end = fenced(list);
+    given_end = fenced(list);
+    stored_end = fenced(CONSOLE_STORED_SIZE(list));
+    out_end = fenced(CONSOLE_CELLS_SIZE(CONSOLE_SCREEN_WIDTH_MAX, list));
+}
+
+/* Pointer and length of what is lent. */
+#define LENT(end, len) (end) - (len), (len)
+#define LINE LENT(line_end, line->n)
+#define CONVERTED LENT(conv_end, CONSOLE_CONV_SIZE(line->n))
+#define READ CONVERTED, LENT(spans_end, CONSOLE_SPANS_SIZE(line->n))
 
 /* From a change list: its cells in a row of so many columns, its stored form, and that restored. */
-static void receive(const struct line *line, size_t len, size_t width, const char *call) {
-    size_t size = CONSOLE_CELLS_SIZE(width, len), short_form = CONSOLE_STORED_SIZE(len);
-    console_answer a = {0, 0};
+static void receive(const struct line *line, const uint8_t *list, size_t len, size_t width, const char *call) {
+    size_t cells = lend(CONSOLE_CELLS_SIZE(width, len)), short_form = lend(CONSOLE_STORED_SIZE(len));
+    console_answer a;
+    memmove(given_end - len, list, len);
     if (width >= 1 && width <= CONSOLE_SCREEN_WIDTH_MAX) {
-        a = console_screen_row(list, len, width, out, lend(size));
-        note(CELLS, a, a.count, size, line, call);
+        a = console_screen_row(LENT(given_end, len), width, LENT(out_end, cells));
+        note(CELLS, a, a.count, CONSOLE_CELLS_SIZE(width, len), line, call);
     }
-    a = console_store(list, len, stored, lend(short_form));
-    note(STORED, a, a.count, short_form, line, call);
-    size = CONSOLE_RESTORED_SIZE(a.count);
-    a = console_restore(stored, a.count, out, lend(size));
-    note(RESTORED, a, a.count, size, line, call);
+    a = console_store(LENT(given_end, len), LENT(stored_end, short_form));
+    note(STORED, a, a.count, CONSOLE_STORED_SIZE(len), line, call);
+    size_t stored = a.count, restored = lend(CONSOLE_RESTORED_SIZE(stored));
+    memmove(stored_end - stored, stored_end - short_form, stored);
+    a = console_restore(LENT(stored_end, stored), LENT(out_end, restored));
+    note(RESTORED, a, a.count, CONSOLE_RESTORED_SIZE(stored), line, call);
 }
 
 static void window(const struct line *line, size_t matches_len, size_t start, size_t end) {
     char call[80];
     snprintf(call, sizeof call, "draw_window %zu to %zu, %zu matches", start, end, matches_len / 2);
-    size_t columns = end - start, size = CONSOLE_COLUMNS_SIZE(line->n, columns);
-    console_answer a = console_draw_window(CONSOLE_BENCH, LINE, matches, matches_len, 0, start, end, READ, list, lend(size));
+    size_t columns = end - start, size = CONSOLE_COLUMNS_SIZE(line->n, columns), lent = lend(size);
+    console_answer a = console_draw_window(CONSOLE_BENCH, LINE, LENT(matches_end, matches_len), 0, start, end, READ, LENT(list_end, lent));
     note(columns < line->n ? COLUMNS : LIST, a, a.count, size, line, call);
     if (a.number == CONSOLE_ACCEPTED)
-        receive(line, a.count, columns < 4096 ? columns : 4096, call);
+        receive(line, list_end - lent, a.count, columns < 4096 ? columns : 4096, call);
+}
+
+/* The columns of some rows, from the first one's start to the last one's end; none where there is no such row. */
+static size_t columns_of(const struct line *line, size_t first, size_t count, size_t width, size_t mode) {
+    size_t len = CONSOLE_ROWS_SIZE(line->n), *rows = rows_end - len;
+    console_answer a = console_rows(LINE, width, mode, READ, rows, len);
+    size_t last = first + count < a.count ? first + count - 1 : a.count - 1;
+    return first < a.count ? rows[2 * last + 1] - rows[2 * first] : 0;
 }
 
 static void drawn_rows(const struct line *line, size_t matches_len, size_t first, size_t count, size_t width, size_t mode) {
     char call[80];
     snprintf(call, sizeof call, "draw_row %zu, %zu rows, width %zu, mode %zu, %zu matches", first, count, width, mode, matches_len / 2);
-    size_t size = CONSOLE_LIST_SIZE(line->n);
-    console_answer a = console_draw_row(CONSOLE_BENCH, LINE, matches, matches_len, 0, first, count, width, mode, READ, list, lend(size));
+    size_t size = CONSOLE_LIST_SIZE(line->n), lent = lend(size);
+    console_answer a = console_draw_row(CONSOLE_BENCH, LINE, LENT(matches_end, matches_len), 0, first, count, width, mode, READ, LENT(list_end, lent));
     note(LIST, a, a.count, size, line, call);
-    if (matches_len == 0 && a.number == 0) {
-        console_answer r = console_rows(LINE, width, mode, READ, rows, CONSOLE_ROWS_SIZE(line->n));
-        size_t last = first + count < r.count ? first + count - 1 : r.count - 1, end = rows[2 * last + 1];
-        size_t columns = first < r.count ? end - rows[2 * first] : 0, few = CONSOLE_COLUMNS_SIZE(line->n, columns);
-        console_answer b = console_draw_row(CONSOLE_BENCH, LINE, NULL, 0, 0, first, count, width, mode, READ, list, lend(few));
-        note(columns < line->n ? COLUMNS : LIST, b, b.count, few, line, call);
-        receive(line, b.count, columns, call);
-    }
+    if (matches_len > 0 || a.number != CONSOLE_ACCEPTED)
+        return;
+    size_t columns = columns_of(line, first, count, width, mode);
+    size = CONSOLE_COLUMNS_SIZE(line->n, columns);
+    lent = lend(size);
+    a = console_draw_row(CONSOLE_BENCH, LINE, NULL, 0, 0, first, count, width, mode, READ, LENT(list_end, lent));
+    note(columns < line->n ? COLUMNS : LIST, a, a.count, size, line, call);
+    receive(line, list_end - lent, a.count, columns, call);
 }
 
 /* The bytes of the text searched: the largest end of a match that is not refused. */
 static size_t searched(const struct line *line) {
-    size_t whole[2] = {0, 0}, above = console_convert(LINE, conv, CONSOLE_CONV_SIZE(line->n)).count + 1;
-    for (size_t end = 0; end + 1 < above;) {
-        whole[1] = end + (above - end) / 2;
+    size_t end = 0, above = console_convert(LINE, CONVERTED).count + 1;
+    while (end + 1 < above) {
+        size_t whole[2] = {0, end + (above - end) / 2};
         if (console_read(LINE, whole, 2, READ).number == CONSOLE_MATCHES_NOT_IN_ORDER)
             above = whole[1];
         else
             end = whole[1];
-        whole[1] = end;
     }
-    return whole[1];
+    return end;
 }
 
 /* Matches of one byte each, one of so many bytes; how many numbers they are. */
 static size_t each_byte(const struct line *line, size_t step) {
-    size_t len = 0, end = searched(line);
+    size_t end = searched(line), len = 2 * ((end + step - 1) / step), *at = matches_end - len;
     for (size_t i = 0; i < end; i += step) {
-        matches[len++] = i;
-        matches[len++] = i + 1;
+        *at++ = i;
+        *at++ = i + 1;
     }
     return len;
 }
@@ -145,21 +182,24 @@ static size_t each_byte(const struct line *line, size_t step) {
 static void wrap(const struct line *line, size_t width, size_t mode) {
     char call[80];
     snprintf(call, sizeof call, "rows, width %zu, mode %zu", width, mode);
-    size_t size = CONSOLE_ROWS_SIZE(line->n);
-    console_answer a = console_rows(LINE, width, mode, READ, rows, lend(size));
+    size_t size = CONSOLE_ROWS_SIZE(line->n), lent = lend(size);
+    console_answer a = console_rows(LINE, width, mode, READ, LENT(rows_end, lent));
     note(ROWS, a, 2 * a.count, size, line, call);
 }
 
 static void read_spans(const struct line *line, size_t matches_len) {
     char call[80];
     snprintf(call, sizeof call, "read, %zu matches", matches_len / 2);
-    console_answer a = console_read(LINE, matches, matches_len, conv, CONSOLE_CONV_SIZE(line->n), spans, lend(CONSOLE_SPANS_SIZE(line->n)));
-    note(SPANS, a, a.count, CONSOLE_SPANS_SIZE(line->n), line, call);
+    size_t size = CONSOLE_SPANS_SIZE(line->n), lent = lend(size);
+    console_answer a = console_read(LINE, LENT(matches_end, matches_len), CONVERTED, LENT(spans_end, lent));
+    note(SPANS, a, a.count, size, line, call);
 }
 
 /* Conversion, reading and wrapping: what depends on what conversion adds. */
 static void try_reading(const struct line *line) {
-    console_answer a = console_convert(LINE, conv, lend(CONSOLE_CONV_SIZE(line->n)));
+    size_t lent = lend(CONSOLE_CONV_SIZE(line->n));
+    memcpy(line_end - line->n, line->bytes, line->n);
+    console_answer a = console_convert(LINE, LENT(conv_end, lent));
     note(CONV, a, a.count, CONSOLE_CONV_SIZE(line->n), line, "convert");
     read_spans(line, 0);
     for (size_t step = 1; step <= 2; step++)
@@ -171,6 +211,7 @@ static void try_reading(const struct line *line) {
 static void try_drawing(const struct line *line) {
     static const size_t windows[][2] = {{0, CONSOLE_WINDOW_MAX}, {1, CONSOLE_WINDOW_MAX}, {0, 1}, {0, 2}, {1, 4}, {3, 11}, {0, 80}, {1, 81}, {0, 4096}};
     static const size_t widths[] = {1, 2, 4, 8, 80};
+    memcpy(line_end - line->n, line->bytes, line->n);
     for (size_t step = 0; step <= 2; step++) {
         size_t len = step == 0 ? 0 : each_byte(line, step);
         for (size_t i = 0; i < sizeof windows / sizeof windows[0]; i++)
@@ -265,22 +306,27 @@ static void random_lines(size_t count) {
     }
 }
 
-/* Lists that are no drawing's, and cells. */
-static void lists_and_cells(size_t count) {
-    static const uint8_t cell[] = {'a', 3, 'b', 0, 'c', 1, 'd', 2};
+/* Lists that are no drawing's. */
+static void lists(void) {
     struct line line = {{0}, 0, 0};
     for (size_t len = 0; len <= 4096; len += 6) {
         line.n = line.pattern = len;
         for (size_t i = 0; i < len; i++)
-            line.bytes[i] = list[i] = i % 6 == 4 ? 4 : 0;
-        receive(&line, len, 1 + len % 80, "a list of cursor right");
+            line.bytes[i] = i % 6 == 4 ? 4 : 0;
+        receive(&line, line.bytes, len, 1 + len % 80, "a list of cursor right");
     }
+}
+
+static void cells(size_t count) {
+    static const uint8_t cell[] = {'a', 3, 'b', 0, 'c', 1, 'd', 2};
+    struct line line = {{0}, 0, 0};
     for (size_t i = 0; i <= count; i++) {
         line.n = line.pattern = 2 * (i < 1000 ? i : below(2048));
-        size_t kinds = i < 1000 ? 1 : 1 + below(4), size = CONSOLE_WRITTEN_SIZE(line.n);
+        size_t kinds = i < 1000 ? 1 : 1 + below(4), size = CONSOLE_WRITTEN_SIZE(line.n), lent = lend(size);
         for (size_t c = 0; c + 1 < line.n; c += 2)
             memcpy(line.bytes + c, cell + 2 * below(kinds), 2);
-        console_answer a = console_write_cells(line.bytes, line.n, out, lend(size));
+        memcpy(line_end - line.n, line.bytes, line.n);
+        console_answer a = console_write_cells(LENT(line_end, line.n), LENT(out_end, lent));
         note(WRITTEN, a, a.count, size, &line, "write_cells");
     }
 }
@@ -304,9 +350,11 @@ int main(int argc, char **argv) {
     }
     srandom((unsigned)strtoul(argv[1], NULL, 10));
     less = argc == 4 ? strtoul(argv[3], NULL, 10) : 0;
+    fence();
     short_lines();
     repeated_lines();
     random_lines(strtoul(argv[2], NULL, 10));
-    lists_and_cells(20000);
+    lists();
+    cells(20000);
     return print_sizes() > 0;
 }
