@@ -52,9 +52,11 @@ extern "C" {
  * proved (docs/PROOF.md, convert-size); the others follow from the reasons given and were
  * tried on hostile lines (compare/sizes, docs/NOTES.md).
  *
- * All others rest on this: conversion adds a style order only for a cluster that is struck
- * over, and gives up at least two bytes of the line for it. So the orders that it adds, each
- * counted as one, and all other bytes of the converted line are together at most n. */
+ * All others rest on this: for each style order that conversion adds it gives up at least one
+ * byte of the line. A cluster that is struck over gives up two, and has at most one order added
+ * before it and one behind it; where backspaces break an order, more is given up than is left
+ * of it. So the orders added, each counted as one, and all other bytes of the converted line
+ * are together at most n. */
 #define CONSOLE_LINE_MAX 4096
 #define CONSOLE_WIDTH_MAX 65535
 #define CONSOLE_WINDOW_MAX 1048576
@@ -69,8 +71,8 @@ extern "C" {
 #define CONSOLE_SPANS_SIZE(n) (n)
 
 /* rows, in numbers, two for each row: a cluster, tab or mark has at least one byte, and ends
- * at most one row, and a word at most one more before its first cluster. n hyphens have 2 n
- * rows at width 0 by words. One more row where the line is empty. */
+ * at most one row, and a word at most one more before its first cluster; the last row is one
+ * more. n hyphens have 2 n rows at width 0 by words, and the empty line has one. */
 #define CONSOLE_ROWS_SIZE(n) (4 * (n) + 2)
 
 /* list of a drawing, in bytes: for a byte of the line at most attributes (31), the head of a
