@@ -4,7 +4,7 @@ use crate::calls::label;
 use crate::lines::KINDS;
 use crate::memory::{just, Memory};
 use crate::timing::{medians, Effort};
-use console_lines::Wraps;
+use console_lines::raw::WRAPS;
 use oracle::{Call, Sizes};
 use std::hint::black_box;
 
@@ -50,7 +50,7 @@ struct Kept<'l> {
     line: &'l [u8],
     sizes: Sizes,
     memory: Memory,
-    wraps: Box<Wraps>,
+    wraps: Box<[usize; WRAPS]>,
 }
 
 impl Kept<'_> {
@@ -65,7 +65,7 @@ impl Kept<'_> {
             line,
             sizes,
             memory: Memory::new(sizes),
-            wraps: Box::new([0; 8_212]),
+            wraps: Box::new([0; WRAPS]),
         };
         kept.ask(&other(call));
         assert!(kept.wraps[3] > 0, "{call:?}: nothing is kept");

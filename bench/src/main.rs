@@ -107,25 +107,17 @@ fn main() -> ExitCode {
         return ExitCode::from(2);
     };
     println!("{HEADING}");
-    let exported = console_lines::exported();
     for name in Call::NAMES.into_iter().filter(|name| options.wants(name)) {
-        if exported.contains(&name) {
-            measure(name, &options);
-        } else {
-            println!("\n{name}: not in the library");
-        }
+        measure(name, &options);
     }
-    if options.wants(screen::NAME) && exported.contains(&screen::NAME) {
+    if options.wants(screen::NAME) {
         screen::print_times(options.effort);
     }
-    if options.wants(narrowest::NAME) && exported.contains(&narrowest::NAME) {
+    if options.wants(narrowest::NAME) {
         narrowest::print_times();
     }
-    let exported = |name: &&str| exported.contains(name);
-    if cache::NAMES.iter().all(exported) {
-        for name in cache::NAMES.iter().filter(|name| options.wants(name)) {
-            cache::print_times(name, options.effort, options.times);
-        }
+    for name in cache::NAMES.iter().filter(|name| options.wants(name)) {
+        cache::print_times(name, options.effort, options.times);
     }
     ExitCode::SUCCESS
 }

@@ -1,12 +1,13 @@
 //! Memory that is lent to the library.
 
-use console_lines::{Answer, Lent, Span, Wraps};
+use console_lines::raw::{Answer, SpanRecord, WRAPS};
+use library_calls::Lent;
 use oracle::{Call, Sizes};
 
 /// It is not cleared between calls.
 pub struct Memory {
     pub conv: Vec<u8>,
-    spans: Vec<Span>,
+    spans: Vec<SpanRecord>,
     rows: Vec<usize>,
     list: Vec<u8>,
 }
@@ -15,7 +16,7 @@ impl Memory {
     pub fn new([conv, spans, rows, list]: Sizes) -> Memory {
         Memory {
             conv: vec![0; conv],
-            spans: vec![Span::default(); spans],
+            spans: vec![SpanRecord::default(); spans],
             rows: vec![0; rows],
             list: vec![0; list],
         }
@@ -23,12 +24,18 @@ impl Memory {
 
     /// Makes a call of the library, lent so much of the memory.
     pub fn call(&mut self, call: &Call, line: &[u8], sizes: Sizes) -> Answer {
-        console_lines::make(call, line, call.matches(), self.lend(sizes))
+        library_calls::make(call, line, call.matches(), self.lend(sizes))
     }
 
     /// The same with kept wraps.
-    pub fn cached(&mut self, call: &Call, line: &[u8], sizes: Sizes, wraps: &mut Wraps) -> Answer {
-        console_lines::make_cached(call, line, wraps, self.lend(sizes))
+    pub fn cached(
+        &mut self,
+        call: &Call,
+        line: &[u8],
+        sizes: Sizes,
+        wraps: &mut [usize; WRAPS],
+    ) -> Answer {
+        library_calls::make_cached(call, line, wraps, self.lend(sizes))
     }
 
     fn lend(&mut self, [conv, spans, rows, list]: Sizes) -> Lent<'_> {

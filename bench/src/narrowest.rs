@@ -3,7 +3,7 @@
 use crate::lines::{Kind, KINDS};
 use crate::memory::Memory;
 use crate::timing::{medians, Effort};
-use console_lines::{Span, WidthAnswer};
+use console_lines::raw::{SpanRecord, WidthAnswer};
 use oracle::source::SourceLine;
 use oracle::Call;
 use std::hint::black_box;
@@ -38,7 +38,7 @@ struct Fitted {
     line: Vec<u8>,
     mode: usize,
     conv: Vec<u8>,
-    spans: Vec<Span>,
+    spans: Vec<SpanRecord>,
 }
 
 impl Fitted {
@@ -49,14 +49,14 @@ impl Fitted {
             line: line.to_vec(),
             mode,
             conv: vec![0; 8 * line.len()],
-            spans: vec![Span::default(); reading.count],
+            spans: vec![SpanRecord::default(); reading.count],
         }
     }
 
     fn narrowest(&mut self) -> WidthAnswer {
         let line = black_box(&self.line);
         let Fitted { conv, spans, .. } = self;
-        console_lines::narrowest(line, self.mode, WANTED, GREATEST, conv, spans)
+        console_lines::raw::narrowest(line, self.mode, WANTED, GREATEST, conv, spans)
     }
 }
 

@@ -22,7 +22,7 @@ impl Case {
     /// list has, which no row exceeds.
     fn row(&self) -> Vec<u8> {
         let mut out = vec![0; 30 * self.width + self.list.len()];
-        let answer = console_lines::screen_row(&self.list, self.width, &mut out);
+        let answer = console_lines::raw::screen_row(&self.list, self.width, &mut out);
         assert_eq!(answer.number, 0, "a list is refused");
         out.truncate(answer.count);
         out
@@ -177,7 +177,7 @@ pub fn print_times(effort: Effort) {
             effort,
             [&mut || {
                 let list = black_box(&case.list);
-                black_box(console_lines::screen_row(list, case.width, &mut out));
+                black_box(console_lines::raw::screen_row(list, case.width, &mut out));
             }],
         );
         let (list, row) = (case.list.len(), out.len());

@@ -24,13 +24,8 @@ use model::Use;
 use std::fmt;
 use std::time::Instant;
 
-const CALLS: [&str; 2] = ["cached_rows", "cached_height"];
-
 /// Runs all sets, or the given sequences; whether all are equal.
 pub fn run(options: &Options) -> bool {
-    if !has_calls() {
-        return false;
-    }
     let sets = match &options.cases {
         Some(cases) => vec![Set::of("given sequences", cases.sequences.clone())],
         None => sets::sets(options.seed),
@@ -57,17 +52,6 @@ pub fn print_sample() {
     for sequence in sample::sequences() {
         println!("{}", sample::answered(&sequence));
     }
-}
-
-/// Whether the library has the calls; those that it has not are named.
-fn has_calls() -> bool {
-    let exported = console_lines::exported();
-    let mut missing = CALLS.to_vec();
-    missing.retain(|name| !exported.contains(name));
-    if !missing.is_empty() {
-        println!("kept wraps lack {}", missing.join(", "));
-    }
-    missing.is_empty()
 }
 
 /// How many sequences and calls there are, what they were, and what was found.

@@ -18,14 +18,8 @@ use check::{check, Said};
 use std::fmt;
 use std::time::Instant;
 
-/// The call that is asked.
-const CALL: &str = "rows";
-
 /// Runs all sets, or the given cases; whether no list of rows is shorter.
 pub fn run(options: &Options) -> bool {
-    if !has_call() {
-        return false;
-    }
     let sets = match &options.cases {
         Some(cases) => {
             let cases = cases.calls.iter().filter_map(Case::of).collect();
@@ -45,15 +39,6 @@ pub fn run(options: &Options) -> bool {
         _ => println!("mode 1 has NOT the fewest rows: {} cases", grouped(broken)),
     }
     broken == 0 && whole.least > 0
-}
-
-/// Whether the library has the call that is asked.
-fn has_call() -> bool {
-    let there = console_lines::exported().contains(&CALL);
-    if !there {
-        println!("fewest rows lack {CALL}");
-    }
-    there
 }
 
 /// How many cases there are, of how many nothing is said, and what was found.

@@ -4,7 +4,7 @@ use crate::comparison::Comparison;
 use crate::faults::Fault;
 use crate::lent::Lent;
 use crate::readers::seen_by_crew;
-use console_lines::{Span, CREW};
+use console_lines::raw::{SpanRecord, CREW};
 use oracle::format::answer_text;
 use oracle::noise::Program;
 use oracle::{Answer, Call, Case, Record};
@@ -13,7 +13,7 @@ use std::fmt;
 /// What lent bytes hold before a call.
 pub const BYTE: u8 = 0xA7;
 pub const NUMBER: usize = usize::from_ne_bytes([BYTE; 8]);
-const SPAN: Span = Span {
+const SPAN: SpanRecord = SpanRecord {
     kind: NUMBER,
     place: NUMBER,
     len: NUMBER,
@@ -62,7 +62,7 @@ pub struct Library {
     line: Lent<u8>,
     matches: Lent<usize>,
     conv: Lent<u8>,
-    spans: Lent<Span>,
+    spans: Lent<SpanRecord>,
     rows: Lent<usize>,
     list: Lent<u8>,
     calls: usize,
@@ -99,7 +99,7 @@ impl Library {
         &mut self,
         case: &Case,
         expected: &Answer,
-        answer: console_lines::Answer,
+        answer: console_lines::raw::Answer,
     ) -> Option<String> {
         let same = answer.number == expected.number
             && answer.count == expected.count
@@ -131,13 +131,13 @@ impl Library {
         Some(format!("# for the crew\n{difference}"))
     }
 
-    pub fn call(&mut self, case: &Case) -> console_lines::Answer {
-        self.call_by(case, console_lines::make)
+    pub fn call(&mut self, case: &Case) -> console_lines::raw::Answer {
+        self.call_by(case, library_calls::make)
     }
 
-    pub fn call_for(&mut self, reader: usize, case: &Case) -> console_lines::Answer {
+    pub fn call_for(&mut self, reader: usize, case: &Case) -> console_lines::raw::Answer {
         self.call_by(case, |call, line, matches, lent| {
-            console_lines::make_for(reader, call, line, matches, lent)
+            library_calls::make_for(reader, call, line, matches, lent)
         })
     }
 
@@ -158,12 +158,12 @@ impl Library {
     pub fn call_by(
         &mut self,
         case: &Case,
-        make: impl FnOnce(&Call, &[u8], &[usize], console_lines::Lent) -> console_lines::Answer,
-    ) -> console_lines::Answer {
+        make: impl FnOnce(&Call, &[u8], &[usize], library_calls::Lent) -> console_lines::raw::Answer,
+    ) -> console_lines::raw::Answer {
         let [conv, spans, rows, list] = case.sizes();
         let line = self.line.lend_copy(&case.line);
         let matches = self.matches.lend_copy(case.call.matches());
-        let lent = console_lines::Lent {
+        let lent = library_calls::Lent {
             conv: self.conv.lend(conv),
             spans: self.spans.lend(spans),
             rows: self.rows.lend(rows),
@@ -223,7 +223,7 @@ impl Library {
     }
 
     /// Plants a fault in what the last call returned and left; whether it has room.
-    pub fn plant(&mut self, fault: Fault, answer: &mut console_lines::Answer) -> bool {
+    pub fn plant(&mut self, fault: Fault, answer: &mut console_lines::raw::Answer) -> bool {
         let (buffer, place) = match fault {
             Fault::Number => {
                 answer.number ^= 1;
@@ -254,7 +254,7 @@ impl Library {
     }
 
     /// What the library returned and left, zeros included.
-    pub fn whole_answer(&self, answer: console_lines::Answer) -> Answer {
+    pub fn whole_answer(&self, answer: console_lines::raw::Answer) -> Answer {
         Answer {
             number: answer.number,
             count: answer.count,
@@ -305,8 +305,8 @@ impl Library {
     }
 }
 
-fn span(record: &Record) -> Span {
-    Span {
+fn span(record: &Record) -> SpanRecord {
+    SpanRecord {
         kind: record.kind,
         place: record.place,
         len: record.len,
@@ -314,7 +314,7 @@ fn span(record: &Record) -> Span {
     }
 }
 
-fn record(span: &Span) -> Record {
+fn record(span: &SpanRecord) -> Record {
     Record {
         kind: span.kind,
         place: span.place,

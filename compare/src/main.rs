@@ -41,12 +41,8 @@ fn main() -> ExitCode {
             return ExitCode::from(2);
         }
     };
-    let exported = console_lines::exported();
     let wanted = options::names().filter(|name| options.wants(name));
-    let (there, missing): (Vec<&str>, Vec<&str>) = wanted.partition(|name| exported.contains(name));
-    if !missing.is_empty() {
-        println!("not in the library: {}", missing.join(", "));
-    }
+    let wanted: Vec<&str> = wanted.collect();
     let good = if options.sample {
         print_samples(options.cache);
         true
@@ -57,7 +53,7 @@ fn main() -> ExitCode {
     } else if options.faults && options.readers {
         is_found(readers::try_faults(options.seed))
     } else if options.faults {
-        plant_faults(&there, &options)
+        plant_faults(&wanted, &options)
     } else if options.demand3 {
         demand3::run(&options)
     } else if options.picture {
@@ -69,7 +65,7 @@ fn main() -> ExitCode {
     } else if options.readers {
         readers::run(&options)
     } else {
-        compare_calls(&there, &options)
+        compare_calls(&wanted, &options)
     };
     if good {
         ExitCode::SUCCESS

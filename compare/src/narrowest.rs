@@ -13,7 +13,8 @@ pub use sets::sets;
 
 use crate::comparison::Comparison;
 use crate::library::Library;
-use console_lines::{Lent, WidthAnswer};
+use console_lines::raw::WidthAnswer;
+use library_calls::Lent;
 use model::{Expected, Model};
 
 pub const NAME: &str = "narrowest";
@@ -61,7 +62,7 @@ impl Fitter {
                 greatest,
                 ..
             } = *case;
-            let made = console_lines::narrowest(line, mode, wanted, greatest, conv, spans);
+            let made = console_lines::raw::narrowest(line, mode, wanted, greatest, conv, spans);
             answer = Some(made);
             plain(made)
         });
@@ -104,7 +105,7 @@ impl Fitter {
     }
 }
 
-fn plain(answer: WidthAnswer) -> console_lines::Answer {
+fn plain(answer: WidthAnswer) -> console_lines::raw::Answer {
     let WidthAnswer { number, count, .. } = answer;
-    console_lines::Answer { number, count }
+    console_lines::raw::Answer { number, count }
 }

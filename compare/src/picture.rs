@@ -19,14 +19,8 @@ use sets::Pictures;
 use std::fmt;
 use std::time::Instant;
 
-/// The calls that a picture takes.
-const CALLS: [&str; 4] = ["read", "rows", "height", "draw_row"];
-
 /// Runs all sets, or the given cases; whether the picture holds.
 pub fn run(options: &Options) -> bool {
-    if !has_calls() {
-        return false;
-    }
     let sets = match &options.cases {
         Some(cases) => {
             let cases = cases.calls.iter().filter_map(Case::of).collect();
@@ -46,17 +40,6 @@ pub fn run(options: &Options) -> bool {
         _ => println!("the row picture DOES NOT HOLD: {} cases", grouped(broken)),
     }
     broken == 0 && whole.drawings > 0
-}
-
-/// Whether the library has the calls that are taken; those that it has not are named.
-fn has_calls() -> bool {
-    let exported = console_lines::exported();
-    let mut missing = CALLS.to_vec();
-    missing.retain(|name| !exported.contains(name));
-    if !missing.is_empty() {
-        println!("the row picture lacks {}", missing.join(", "));
-    }
-    missing.is_empty()
 }
 
 /// How many cases there are, of how many something is said, and what was found.

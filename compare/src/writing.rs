@@ -52,7 +52,7 @@ pub trait Writing: fmt::Display {
     fn answer(&self) -> Answer;
 
     /// Makes the call of the library.
-    fn call(&self, input: &[u8], out: &mut [u8]) -> console_lines::Answer;
+    fn call(&self, input: &[u8], out: &mut [u8]) -> console_lines::raw::Answer;
 
     /// What more is said of the call, and is not so of the library: as text.
     fn broken(&self, _answer: &Answer) -> Option<String> {
@@ -95,7 +95,7 @@ impl<C: Writing> Comparison for Memory<C> {
 }
 
 impl<C: Writing> Memory<C> {
-    fn call(&mut self, case: &C) -> console_lines::Answer {
+    fn call(&mut self, case: &C) -> console_lines::raw::Answer {
         let input = self.input.lend_copy(case.input());
         let out = self.out.lend(case.size());
         case.call(input, out)
@@ -107,7 +107,7 @@ impl<C: Writing> Memory<C> {
         &mut self,
         case: &C,
         expected: &Answer,
-        answer: console_lines::Answer,
+        answer: console_lines::raw::Answer,
     ) -> Option<String> {
         let same = answer.number == expected.number
             && answer.count == expected.count
@@ -124,7 +124,7 @@ impl<C: Writing> Memory<C> {
         Some(format!("{case} = {expected}\n  library: {faults}"))
     }
 
-    fn left(&self, answer: console_lines::Answer) -> Answer {
+    fn left(&self, answer: console_lines::raw::Answer) -> Answer {
         Answer {
             number: answer.number,
             count: answer.count,
@@ -234,7 +234,7 @@ pub fn try_twists<C: Writing>(name: &str, twists: &[Twist<C>], cases: &[C]) -> b
 fn is_seen<C: Writing>(memory: &mut Memory<C>, case: &C, wrong: Answer) -> bool {
     memory.call(case);
     memory.out.leave(wrong.out.iter().copied());
-    let answer = console_lines::Answer {
+    let answer = console_lines::raw::Answer {
         number: wrong.number,
         count: wrong.count,
     };

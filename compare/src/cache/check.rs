@@ -16,11 +16,11 @@ pub struct Memory {
 
 impl Memory {
     /// Makes a call of the library, lent the kept wraps as they are.
-    pub fn call(&mut self, case: &Case) -> console_lines::Answer {
+    pub fn call(&mut self, case: &Case) -> console_lines::raw::Answer {
         let wraps = self.wraps.lent_again();
         let wraps = wraps.try_into().expect("an array of kept wraps");
         self.library.call_by(case, |call, line, _, lent| {
-            console_lines::make_cached(call, line, wraps, lent)
+            library_calls::make_cached(call, line, wraps, lent)
         })
     }
 }
@@ -33,9 +33,9 @@ pub struct Asked<'a> {
 }
 
 /// Answers calls: the library or, where faults are planted, something worse.
-pub type Answerer<'a> = dyn FnMut(&mut Asked) -> console_lines::Answer + 'a;
+pub type Answerer<'a> = dyn FnMut(&mut Asked) -> console_lines::raw::Answer + 'a;
 
-pub fn by_library(asked: &mut Asked) -> console_lines::Answer {
+pub fn by_library(asked: &mut Asked) -> console_lines::raw::Answer {
     asked.memory.call(asked.case)
 }
 
@@ -158,7 +158,7 @@ impl Checker {
         &mut self,
         case: &Case,
         expected: &Answer,
-        answer: console_lines::Answer,
+        answer: console_lines::raw::Answer,
     ) -> Result<(), String> {
         let library = &mut self.memory.library;
         match library.difference(case, expected, answer) {

@@ -5,14 +5,14 @@ use super::line::Line;
 use super::model::{block_start, BLOCK, HEADS, MOST_KEPT};
 use super::sequence::Sequence;
 use super::twists::{Left, Twist, TWISTS};
-use super::{has_calls, sample, sets, stated};
+use super::{sample, sets, stated};
 use crate::faults::{faults, Fault};
 use crate::lent::Place;
 use std::fmt;
 
 /// Plants each fault; whether all were found.
 pub fn try_faults(seed: u64) -> bool {
-    has_calls() && try_marks() & try_twists(seed)
+    try_marks() & try_twists(seed)
 }
 
 // ---- one number or byte
@@ -83,7 +83,7 @@ fn try_mark(checker: &mut Checker, sequence: &Sequence, call: usize, mark: Mark)
     (planted, found)
 }
 
-fn plant(asked: &mut Asked, mark: Mark, answer: &mut console_lines::Answer) -> bool {
+fn plant(asked: &mut Asked, mark: Mark, answer: &mut console_lines::raw::Answer) -> bool {
     let memory = &mut asked.memory;
     match mark {
         Mark::Answer(fault) => memory.library.plant(fault, answer),
@@ -184,7 +184,11 @@ fn is_found(
 }
 
 /// Makes a call and changes what it left; whether that is anything else.
-fn twisted(asked: &mut Asked, twist: &Twist, line: &mut Line) -> (console_lines::Answer, bool) {
+fn twisted(
+    asked: &mut Asked,
+    twist: &Twist,
+    line: &mut Line,
+) -> (console_lines::raw::Answer, bool) {
     let before = asked.memory.wraps.lent().to_vec();
     let answer = asked.memory.call(asked.case);
     let memory = &mut asked.memory;
@@ -208,7 +212,7 @@ fn twisted(asked: &mut Asked, twist: &Twist, line: &mut Line) -> (console_lines:
     } = left;
     memory.library.leave(&other);
     memory.wraps.leave(other_array.iter().copied());
-    let answer = console_lines::Answer {
+    let answer = console_lines::raw::Answer {
         number: other.number,
         count: other.count,
     };

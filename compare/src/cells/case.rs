@@ -44,8 +44,8 @@ impl Writing for Case {
         write_cells(&self.cells, self.size)
     }
 
-    fn call(&self, input: &[u8], out: &mut [u8]) -> console_lines::Answer {
-        console_lines::write_cells(input, out)
+    fn call(&self, input: &[u8], out: &mut [u8]) -> console_lines::raw::Answer {
+        console_lines::raw::write_cells(input, out)
     }
 
     fn broken(&self, answer: &Answer) -> Option<String> {
@@ -66,13 +66,13 @@ pub fn not_converted(cells: &[u8], written: &[u8]) -> Option<String> {
         return Some(format!("the source converts it to {}", hex(&by_source)));
     }
     let mut conv = vec![0xA7; 8 * written.len()];
-    let answer = console_lines::convert(written, &mut conv);
+    let answer = console_lines::raw::convert(written, &mut conv);
     let (line, rest) = conv.split_at(answer.count.min(conv.len()));
     let zeros = rest.iter().all(|&byte| byte == 0);
     if answer.number == 0 && line == styled && zeros {
         return None;
     }
-    let console_lines::Answer { number, count } = answer;
+    let console_lines::raw::Answer { number, count } = answer;
     Some(format!(
         "console_convert gives {number} {count} {}",
         hex(&conv)

@@ -4,7 +4,7 @@ use super::model::Expected;
 use super::{plain, sample, stated, Case, Fitter, NAME};
 use crate::comparison::Comparison;
 use crate::faults::{faults, Fault};
-use console_lines::WidthAnswer;
+use console_lines::raw::WidthAnswer;
 use oracle::{Answer, Call};
 
 /// Plants each fault; whether all were found.

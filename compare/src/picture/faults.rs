@@ -2,8 +2,8 @@
 
 use super::case::{Case, LARGEST};
 use super::check::check;
+use super::sets;
 use super::shown::shown;
-use super::{has_calls, sets};
 use crate::comparison::Comparison;
 use crate::lent::Place;
 use crate::library::Library;
@@ -60,9 +60,6 @@ fn faults() -> Vec<Fault> {
 
 /// Plants each fault in some cases; whether all were found.
 pub fn try_faults(seed: u64) -> bool {
-    if !has_calls() {
-        return false;
-    }
     let cases = some_cases(seed);
     let (mut all_planted, mut all_found) = (0, 0);
     let mut each_planted = true;

@@ -1,7 +1,7 @@
 //! Another URI of the same length in a URI's stead: nothing that is sent changes.
 
 use super::view::names_uri;
-use console_lines::{BENCH, CREW};
+use console_lines::raw::{BENCH, CREW};
 use oracle::{Answer, Case};
 use std::fmt;
 

@@ -4,7 +4,7 @@ use super::sets::random_pair;
 use super::view::{names_uri, seen_by_crew};
 use crate::comparison::Comparison;
 use crate::library::Library;
-use console_lines::{BENCH, CREW};
+use console_lines::raw::{BENCH, CREW};
 use oracle::random::Random;
 use oracle::{Answer, Case};
 

@@ -3,7 +3,7 @@
 use super::sets::{random_pair, READERS};
 use super::view::View;
 use crate::calls;
-use console_lines::{BENCH, CREW};
+use console_lines::raw::{BENCH, CREW};
 use oracle::random::Random;
 use oracle::{Call, Case, NONE};
 

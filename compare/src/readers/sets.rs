@@ -7,7 +7,7 @@ use crate::calls;
 use crate::comparison::Set;
 use crate::lending;
 use crate::lines::short;
-use console_lines::{BENCH, CREW};
+use console_lines::raw::{BENCH, CREW};
 use oracle::generate;
 use oracle::random::Random;
 use oracle::{Call, Case};

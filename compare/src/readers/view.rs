@@ -1,6 +1,6 @@
 //! A drawing for a reader, and what is expected of it.
 
-use console_lines::{BENCH, CREW};
+use console_lines::raw::{BENCH, CREW};
 use oracle::changes::places;
 use oracle::format::answer_text;
 use oracle::{Answer, Case};

@@ -53,8 +53,8 @@ impl Writing for Case {
         screen_row(&self.list, self.width, self.size)
     }
 
-    fn call(&self, input: &[u8], out: &mut [u8]) -> console_lines::Answer {
-        console_lines::screen_row(input, self.width, out)
+    fn call(&self, input: &[u8], out: &mut [u8]) -> console_lines::raw::Answer {
+        console_lines::raw::screen_row(input, self.width, out)
     }
 
     fn broken(&self, answer: &Answer) -> Option<String> {

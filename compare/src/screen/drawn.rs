@@ -2,7 +2,8 @@
 
 use super::model::LARGEST_WIDTH;
 use super::Case;
-use console_lines::{Lent, Span};
+use console_lines::raw::SpanRecord;
+use library_calls::Lent;
 use oracle::changes::decode;
 use oracle::Call;
 use unicode_width::UnicodeWidthStr;
@@ -10,7 +11,7 @@ use unicode_width::UnicodeWidthStr;
 /// The change list that the library leaves for a drawing; none where it is refused.
 pub fn list(call: &Call, line: &[u8]) -> Option<Vec<u8>> {
     let mut conv = vec![0; 8 * line.len()];
-    let mut spans = vec![Span::default(); 2 * line.len() + 8];
+    let mut spans = vec![SpanRecord::default(); 2 * line.len() + 8];
     let mut list = vec![0; 2_048];
     loop {
         let lent = Lent {
@@ -19,10 +20,10 @@ pub fn list(call: &Call, line: &[u8]) -> Option<Vec<u8>> {
             rows: &mut [],
             list: &mut list,
         };
-        let answer = console_lines::make(call, line, call.matches(), lent);
+        let answer = library_calls::make(call, line, call.matches(), lent);
         match answer.number {
             0 => list.truncate(answer.count),
-            4 => spans = vec![Span::default(); 4 * spans.len()],
+            4 => spans = vec![SpanRecord::default(); 4 * spans.len()],
             9 => list = vec![0; 4 * list.len()],
             _ => return None,
         }

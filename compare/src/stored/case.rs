@@ -68,11 +68,11 @@ impl Writing for Case {
         }
     }
 
-    fn call(&self, input: &[u8], out: &mut [u8]) -> console_lines::Answer {
+    fn call(&self, input: &[u8], out: &mut [u8]) -> console_lines::raw::Answer {
         if self.back {
-            console_lines::restore(input, out)
+            console_lines::raw::restore(input, out)
         } else {
-            console_lines::store(input, out)
+            console_lines::raw::store(input, out)
         }
     }
 

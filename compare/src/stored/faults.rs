@@ -219,8 +219,8 @@ fn ends_in_attributes(list: &[u8]) -> bool {
 }
 
 /// The last attributes lose their alignment.
-fn store_baseline(list: &[u8], out: &mut [u8]) -> console_lines::Answer {
-    let answer = console_lines::store(list, out);
+fn store_baseline(list: &[u8], out: &mut [u8]) -> console_lines::raw::Answer {
+    let answer = console_lines::raw::store(list, out);
     if answer.number == 0 && ends_in_attributes(list) {
         out[answer.count - 1] = 0;
     }
@@ -228,18 +228,18 @@ fn store_baseline(list: &[u8], out: &mut [u8]) -> console_lines::Answer {
 }
 
 /// The last attributes lose a byte.
-fn restore_shorter(stored: &[u8], out: &mut [u8]) -> console_lines::Answer {
-    let mut answer = console_lines::restore(stored, out);
+fn restore_shorter(stored: &[u8], out: &mut [u8]) -> console_lines::raw::Answer {
+    let mut answer = console_lines::raw::restore(stored, out);
     if answer.number == 0 && ends_in_attributes(&out[..answer.count]) {
         answer.count -= 1;
     }
     answer
 }
 
-fn copy(list: &[u8], out: &mut [u8]) -> console_lines::Answer {
+fn copy(list: &[u8], out: &mut [u8]) -> console_lines::raw::Answer {
     let count = list.len();
     out[..count].copy_from_slice(list);
-    console_lines::Answer { number: 0, count }
+    console_lines::raw::Answer { number: 0, count }
 }
 
 const PAIRS: [Pair; 3] = [
@@ -247,14 +247,14 @@ const PAIRS: [Pair; 3] = [
         name: "store forgets an alignment",
         calls: Calls {
             store: store_baseline,
-            restore: console_lines::restore,
+            restore: console_lines::raw::restore,
         },
         seen_back: true,
     },
     Pair {
         name: "restore leaves 24 bytes",
         calls: Calls {
-            store: console_lines::store,
+            store: console_lines::raw::store,
             restore: restore_shorter,
         },
         seen_back: true,

@@ -2,7 +2,7 @@
 //! from either end. Asked of the calls alone, without the model's stored forms.
 
 use super::model::lengthened;
-use console_lines::Answer;
+use console_lines::raw::Answer;
 
 type Call = fn(&[u8], &mut [u8]) -> Answer;
 
@@ -15,8 +15,8 @@ pub struct Calls {
 
 impl Calls {
     pub const LIBRARY: Calls = Calls {
-        store: console_lines::store,
-        restore: console_lines::restore,
+        store: console_lines::raw::store,
+        restore: console_lines::raw::restore,
     };
 }
 

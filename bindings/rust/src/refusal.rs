@@ -1,0 +1,183 @@
+//! Why a call is refused.
+
+use crate::raw::Answer;
+use std::error::Error;
+use std::fmt;
+
+/// The question that a call answers no: docs/SCOPE.md has them in full.
+///
+/// A refused call has written zeros to all memory that it was lent for writing.
+///
+/// ```
+/// use console_lines::{convert, Refusal};
+///
+/// let refusal = convert(&[b'a'; 4097]).unwrap_err();
+/// assert_eq!(refusal, Refusal::LineTooLong);
+/// assert_eq!(refusal.number(), 1);
+/// assert_eq!(refusal.to_string(), "the line has more than 4,096 bytes");
+/// ```
+#[derive(Clone, Copy, Debug, PartialEq, Eq, Hash, PartialOrd, Ord)]
+#[non_exhaustive]
+pub enum Refusal {
+    /// 1: a line, or one that would be written, has more than 4,096 bytes.
+    LineTooLong = 1,
+    /// 2: the conversion buffer has fewer bytes than 8 times the line's.
+    ConversionBufferTooShort = 2,
+    /// 3: the matches are not pairs, in order, each start at most its end, all inside the
+    /// text searched.
+    MatchesOutOfOrder = 3,
+    /// 4: the span list has fewer places than the line has spans.
+    SpanListTooShort = 4,
+    /// 5: a mode, width, row or window number is out of range.
+    NumberOutOfRange = 5,
+    /// 6: the row list has fewer pairs than the line has rows.
+    RowListTooShort = 6,
+    /// 7: a window that starts above 0 does not end behind its start.
+    WindowTooNarrow = 7,
+    /// 8: a cluster begins left of the window and ends right of it.
+    ClusterAcrossWindow = 8,
+    /// 9: the change list, the cells or the stored form do not fit.
+    OutputTooShort = 9,
+    /// 10: a change list or a stored form is malformed.
+    MalformedList = 10,
+    /// 11: a text passes the last column of the screen row.
+    TextPassesRow = 11,
+    /// 12: the body of a change has more than 65,535 bytes.
+    BodyTooLong = 12,
+    /// 16: what is to be written is not whole cells of a byte and a style.
+    MalformedCells = 16,
+    /// 17: the written line does not fit.
+    WrittenLineTooShort = 17,
+    /// 18: the reader is neither the bench nor the crew.
+    UnknownReader = 18,
+}
+
+impl Refusal {
+    /// Every refusal, by number.
+    pub const ALL: [Refusal; 15] = [
+        Refusal::LineTooLong,
+        Refusal::ConversionBufferTooShort,
+        Refusal::MatchesOutOfOrder,
+        Refusal::SpanListTooShort,
+        Refusal::NumberOutOfRange,
+        Refusal::RowListTooShort,
+        Refusal::WindowTooNarrow,
+        Refusal::ClusterAcrossWindow,
+        Refusal::OutputTooShort,
+        Refusal::MalformedList,
+        Refusal::TextPassesRow,
+        Refusal::BodyTooLong,
+        Refusal::MalformedCells,
+        Refusal::WrittenLineTooShort,
+        Refusal::UnknownReader,
+    ];
+
+    /// The question's number.
+    ///
+    /// ```
+    /// assert_eq!(console_lines::Refusal::MalformedList.number(), 10);
+    /// ```
+    pub const fn number(self) -> usize {
+        self as usize
+    }
+
+    /// The refusal of a number, if there is such a question.
+    ///
+    /// ```
+    /// use console_lines::Refusal;
+    ///
+    /// assert_eq!(Refusal::from_number(7), Some(Refusal::WindowTooNarrow));
+    /// assert_eq!(Refusal::from_number(13), None);
+    /// ```
+    pub fn from_number(number: usize) -> Option<Refusal> {
+        let mut all = Refusal::ALL.into_iter();
+        all.find(|refusal| refusal.number() == number)
+    }
+
+    /// Whether more lent memory would have changed the answer.
+    ///
+    /// ```
+    /// use console_lines::{convert_into, Refusal};
+    ///
+    /// let refusal = convert_into(b"abc", &mut [0; 23]).unwrap_err();
+    /// assert!(refusal.is_for_memory());
+    /// assert!(!Refusal::LineTooLong.is_for_memory());
+    /// ```
+    pub const fn is_for_memory(self) -> bool {
+        matches!(
+            self,
+            Refusal::ConversionBufferTooShort
+                | Refusal::SpanListTooShort
+                | Refusal::RowListTooShort
+                | Refusal::OutputTooShort
+                | Refusal::WrittenLineTooShort
+        )
+    }
+}
+
+/// The refusal in words.
+impl fmt::Display for Refusal {
+    fn fmt(&self, f: &mut fmt::Formatter<'_>) -> fmt::Result {
+        f.write_str(match self {
+            Refusal::LineTooLong => "the line has more than 4,096 bytes",
+            Refusal::ConversionBufferTooShort => {
+                "the conversion buffer has fewer than 8 times the line's bytes"
+            }
+            Refusal::MatchesOutOfOrder => {
+                "the matches are not pairs in order inside the text searched"
+            }
+            Refusal::SpanListTooShort => "the span list has too few places",
+            Refusal::NumberOutOfRange => "a mode, width, row or window number is out of range",
+            Refusal::RowListTooShort => "the row list has too few places",
+            Refusal::WindowTooNarrow => "the window's start + 1 is above its end",
+            Refusal::ClusterAcrossWindow => {
+                "a cluster begins left of the window and ends right of it"
+            }
+            Refusal::OutputTooShort => "the output does not fit",
+            Refusal::MalformedList => "the change list is malformed",
+            Refusal::TextPassesRow => "a text passes the last column",
+            Refusal::BodyTooLong => "a body has more than 65,535 bytes",
+            Refusal::MalformedCells => "a cell is half, or its byte or style is another",
+            Refusal::WrittenLineTooShort => "the output buffer is too short",
+            Refusal::UnknownReader => "the reader is neither bench nor crew",
+        })
+    }
+}
+
+impl Error for Refusal {}
+
+/// The count, or the refusal of a number.
+///
+/// # Panics
+///
+/// Where the number is no question's: the library has no such answer.
+pub(crate) fn accepted(answer: Answer) -> Result<usize, Refusal> {
+    match answer.number {
+        0 => Ok(answer.count),
+        number => Err(Refusal::from_number(number).expect("the number of a question")),
+    }
+}
+
+#[cfg(test)]
+mod tests {
+    use super::*;
+
+    #[test]
+    fn numbers_are_the_questions() {
+        let numbers: Vec<usize> = (0..=20)
+            .filter(|&number| Refusal::from_number(number).is_some())
+            .collect();
+        assert_eq!(numbers, [1, 2, 3, 4, 5, 6, 7, 8, 9, 10, 11, 12, 16, 17, 18]);
+        for refusal in Refusal::ALL {
+            assert_eq!(Refusal::from_number(refusal.number()), Some(refusal));
+        }
+    }
+
+    #[test]
+    fn words_differ() {
+        let mut words: Vec<String> = Refusal::ALL.map(|refusal| refusal.to_string()).to_vec();
+        words.sort();
+        words.dedup();
+        assert_eq!(words.len(), Refusal::ALL.len());
+    }
+}
