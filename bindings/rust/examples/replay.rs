@@ -13,10 +13,10 @@ mod recorded;
 use console_lines::raw::{self, Answer, WRAPS};
 use console_lines::{
     convert_into, draw_row_into, draw_window_into, height_into, narrowest_into, read_into,
-    restore_into, rows_into, screen_row_into, store_into, write_cells_into, Match, Narrowest,
-    Reader, Refusal, View, Wrapping, WrappingMode,
+    restore_into, rows_into, screen_row_into, store_into, write_cells_into, Match, Reader, Refusal,
+    View, Wrapping, WrappingMode,
 };
-use recorded::{number_text, Call, Case, Lent, Recorded, Sequence};
+use recorded::{number_text, Call, Case, Lent, Part, Recorded, Sequence};
 use std::process::ExitCode;
 use std::{env, io, slice};
 
@@ -110,56 +110,60 @@ fn lend(case: &Case) -> Lent {
 
 fn raw_answer(case: &Case) -> String {
     let mut lent = lend(case);
-    let input: Box<[u8]> = case.input.clone().into();
+    let line: Box<[u8]> = case.input.clone().into();
     let matches: Box<[usize]> = case.matches.clone().into();
-    let Lent {
-        conv,
-        spans,
-        rows,
-        list,
-    } = &mut lent;
+    let (conv, spans, list) = (&mut lent.conv, &mut lent.spans, &mut lent.list);
     let mut tried = None;
     let answer = match case.call {
-        Call::Convert => raw::convert(&input, conv),
-        Call::Read => raw::read(&input, &matches, conv, spans),
-        Call::Rows { width, mode } => raw::rows(&input, width, mode, conv, spans, rows),
-        Call::Height { width, mode } => raw::height(&input, width, mode, conv, spans),
+        Call::Convert => raw::convert(&line, conv),
+        Call::Read => raw::read(&line, &matches, conv, spans),
+        Call::Rows { width, mode } => raw::rows(&line, width, mode, conv, spans, &mut lent.rows),
+        Call::Height { width, mode } => raw::height(&line, width, mode, conv, spans),
         Call::Narrowest {
             mode,
             wanted,
             greatest,
         } => {
-            let answer = raw::narrowest(&input, mode, wanted, greatest, conv, spans);
+            let answer = raw::narrowest(&line, mode, wanted, greatest, conv, spans);
             tried = Some(answer.tried);
-            Answer {
-                number: answer.number,
-                count: answer.count,
-            }
+            let (number, count) = (answer.number, answer.count);
+            Answer { number, count }
         }
-        Call::DrawWindow {
+        Call::Draw {
             reader,
             current,
-            start,
-            end,
-        } => raw::draw_window(
-            reader, &input, &matches, current, start, end, conv, spans, list,
+            part,
+        } => raw_drawing(reader, &line, &matches, current, part, &mut lent),
+        Call::ScreenRow { width } => raw::screen_row(&line, width, list),
+        Call::Store => raw::store(&line, list),
+        Call::Restore => raw::restore(&line, list),
+        Call::WriteCells => raw::write_cells(&line, list),
+    };
+    answer_text(case, answer, &lent, tried)
+}
+
+fn raw_drawing(
+    reader: usize,
+    line: &[u8],
+    matches: &[usize],
+    current: usize,
+    part: Part,
+    lent: &mut Lent,
+) -> Answer {
+    let (conv, spans, list) = (&mut lent.conv, &mut lent.spans, &mut lent.list);
+    match part {
+        Part::Window { start, end } => raw::draw_window(
+            reader, line, matches, current, start, end, conv, spans, list,
         ),
-        Call::DrawRow {
-            reader,
-            current,
+        Part::Rows {
             first,
             count,
             width,
             mode,
         } => raw::draw_row(
-            reader, &input, &matches, current, first, count, width, mode, conv, spans, list,
+            reader, line, matches, current, first, count, width, mode, conv, spans, list,
         ),
-        Call::ScreenRow { width } => raw::screen_row(&input, width, list),
-        Call::Store => raw::store(&input, list),
-        Call::Restore => raw::restore(&input, list),
-        Call::WriteCells => raw::write_cells(&input, list),
-    };
-    answer_text(case, answer, &lent, tried)
+    }
 }
 
 /// The answers of a sequence, and the first numbers of the kept wraps.
@@ -198,23 +202,21 @@ fn needed(line: &[u8], width: usize, mode: usize, rows: bool) -> [usize; 4] {
 /// None where the types cannot say the call's numbers.
 fn typed_answer(case: &Case) -> Option<String> {
     let mut lent = lend(case);
-    let input: Box<[u8]> = case.input.clone().into();
+    let line: Box<[u8]> = case.input.clone().into();
+    let (conv, spans, list) = (&mut lent.conv, &mut lent.spans, &mut lent.list);
     let mut tried = None;
     let result = match case.call {
-        Call::Convert => convert_into(&input, &mut lent.conv).map(<[u8]>::len),
+        Call::Convert => convert_into(&line, conv).map(<[u8]>::len),
         Call::Read => {
-            let (conv, spans) = (&mut lent.conv, &mut lent.spans);
-            let reading = read_into(&input, &pairs(&case.matches)?, conv, spans);
+            let reading = read_into(&line, &pairs(&case.matches)?, conv, spans);
             reading.map(|reading| reading.spans().count())
         }
         Call::Rows { width, mode } => {
-            let (conv, spans) = (&mut lent.conv, &mut lent.spans);
-            let wrapped = rows_into(&input, wrapping(width, mode)?, conv, spans, &mut lent.rows);
+            let wrapped = rows_into(&line, wrapping(width, mode)?, conv, spans, &mut lent.rows);
             wrapped.map(|wrapped| wrapped.rows().count())
         }
         Call::Height { width, mode } => {
-            let (conv, spans) = (&mut lent.conv, &mut lent.spans);
-            height_into(&input, wrapping(width, mode)?, conv, spans).map(|(height, _)| height)
+            height_into(&line, wrapping(width, mode)?, conv, spans).map(|(height, _)| height)
         }
         Call::Narrowest {
             mode,
@@ -222,66 +224,53 @@ fn typed_answer(case: &Case) -> Option<String> {
             greatest,
         } => {
             let mode = WrappingMode::from_number(mode)?;
-            let (conv, spans) = (&mut lent.conv, &mut lent.spans);
-            let found = narrowest_into(&input, mode, wanted, greatest, conv, spans);
-            let found = found.map(|(found, _)| found);
-            tried = Some(found.map_or(0, |Narrowest { tried, .. }| tried));
-            found.map(|Narrowest { width, .. }| width.unwrap_or(0))
+            let found = narrowest_into(&line, mode, wanted, greatest, conv, spans);
+            tried = Some(found.as_ref().map_or(0, |(found, _)| found.tried));
+            found.map(|(found, _)| found.width.unwrap_or(0))
         }
-        Call::DrawWindow { .. } | Call::DrawRow { .. } => drawn(case, &input, &mut lent)?,
-        Call::ScreenRow { width } => {
-            let cells = screen_row_into(&input, width, &mut lent.list);
-            cells.map(|cells| whole_cells(cells.as_bytes().len(), cells.count() == width))
+        Call::Draw {
+            reader,
+            current,
+            part,
+        } => {
+            let matches = pairs(&case.matches)?;
+            let view = view(reader, &matches, current)?;
+            drawn(&line, &view, part, &mut lent)?
         }
-        Call::Store => store_into(&input, &mut lent.list).map(<[u8]>::len),
-        Call::Restore => restore_into(&input, &mut lent.list).map(<[u8]>::len),
-        Call::WriteCells => {
-            let (cells, []) = input.as_chunks() else {
-                return None;
-            };
-            write_cells_into(cells, &mut lent.list).map(<[u8]>::len)
-        }
+        Call::ScreenRow { width } => printed(&line, width, list),
+        Call::Store => store_into(&line, list).map(<[u8]>::len),
+        Call::Restore => restore_into(&line, list).map(<[u8]>::len),
+        Call::WriteCells => write_cells_into(&pairs(&line)?, list).map(<[u8]>::len),
     };
     Some(answer_text(case, answer(result), &lent, tried))
 }
 
-fn drawn(case: &Case, input: &[u8], lent: &mut Lent) -> Option<Result<usize, Refusal>> {
-    let matches = pairs(&case.matches)?;
+fn drawn(line: &[u8], view: &View, part: Part, lent: &mut Lent) -> Option<Result<usize, Refusal>> {
     let (conv, spans, list) = (&mut lent.conv, &mut lent.spans, &mut lent.list);
-    let drawing = match case.call {
-        Call::DrawWindow {
-            reader,
-            current,
-            start,
-            end,
-        } => {
-            let view = view(reader, &matches, current)?;
-            draw_window_into(input, &view, start..end, conv, spans, list)
-        }
-        Call::DrawRow {
-            reader,
-            current,
+    let drawing = match part {
+        Part::Window { start, end } => draw_window_into(line, view, start..end, conv, spans, list),
+        Part::Rows {
             first,
             count,
             width,
             mode,
         } => {
-            let (view, wrapping) = (view(reader, &matches, current)?, wrapping(width, mode)?);
             let rows = first..first.checked_add(count)?;
-            draw_row_into(input, &view, rows, wrapping, conv, spans, list)
+            draw_row_into(line, view, rows, wrapping(width, mode)?, conv, spans, list)
         }
-        _ => return None,
     };
     Some(drawing.map(|drawing| drawing.list().len()))
 }
 
-/// The count, or none that a call has where there is not a cell for each column.
-fn whole_cells(count: usize, whole: bool) -> usize {
-    if whole {
-        count
+/// The bytes of a screen row; no count of a call's where there is not a cell for each column.
+fn printed(list: &[u8], width: usize, out: &mut [u8]) -> Result<usize, Refusal> {
+    let cells = screen_row_into(list, width, out)?;
+    let bytes = cells.as_bytes().len();
+    Ok(if cells.count() == width {
+        bytes
     } else {
         usize::MAX
-    }
+    })
 }
 
 fn answer(result: Result<usize, Refusal>) -> Answer {
@@ -294,11 +283,9 @@ fn answer(result: Result<usize, Refusal>) -> Answer {
     }
 }
 
-fn pairs(numbers: &[usize]) -> Option<Box<[Match]>> {
-    match numbers.as_chunks() {
-        (pairs, []) => Some(pairs.into()),
-        _ => None,
-    }
+fn pairs<T: Copy>(items: &[T]) -> Option<Box<[[T; 2]]>> {
+    let pairs = items.chunks(2).map(|pair| pair.try_into().ok());
+    pairs.collect()
 }
 
 fn wrapping(width: usize, mode: usize) -> Option<Wrapping> {

@@ -1,12 +1,12 @@
 //! How much memory is always enough, as the header has it.
 //!
-//! The owning calls lend so much; whoever lends memory may lend less, and is refused where
-//! that is too little. A line of more than 4,096 bytes is refused whatever is lent, so no number
-//! here grows beyond that.
+//! The owning calls lend so much where less is refused; whoever lends memory may lend less, and is
+//! refused where that is too little. A line of more than 4,096 bytes is refused whatever is lent,
+//! so no number here grows beyond that.
 //!
-//! Conversion adds a style order only for a cluster that is struck over, and gives up two bytes
-//! of the line for it at least. So the orders added, each counted as one, and all other bytes of
-//! the converted line are together at most the line's bytes.
+//! For each style order that conversion adds it gives up one byte of the line at least. So the
+//! orders added, each counted as one, and all other bytes of the converted line are together at
+//! most the line's bytes.
 //!
 //! ```
 //! use console_lines::{draw_row_into, enough, SpanRecord, View, Wrapping, WrappingMode};

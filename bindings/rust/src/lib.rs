@@ -35,8 +35,8 @@
 //! # Threads
 //!
 //! The library keeps nothing between calls: any of them may run on any threads at once. All
-//! types here are plain data, `Send` and `Sync`. The header says how much stack a call
-//! takes.
+//! types here are plain data, `Send` and `Sync`. A call takes at most 128 KiB of
+//! stack, as the header says.
 #![deny(missing_docs, unsafe_code)]
 
 mod attributes;

@@ -1,5 +1,6 @@
-//! The calls with memory of their own: what [`enough`](crate::enough) says. None is refused for
-//! want of memory.
+//! The calls with memory of their own. None is refused for want of it: a call is lent little at
+//! first, since it writes all that it is lent, and what [`enough`](crate::enough) says where that
+//! is refused.
 
 use crate::cell::{Cells, PrinterCell};
 use crate::change::{self, Change};
@@ -94,18 +95,48 @@ impl ScreenRow {
 /// The most rows of a kept wrap, which may be another line's.
 const KEPT_ROWS: usize = 1_024;
 
-/// Memory to read a line with.
+/// The memory that a call on a line is lent.
 struct Memory {
     conv: Vec<u8>,
     spans: Vec<SpanRecord>,
+    rows: Vec<usize>,
+    list: Vec<u8>,
+}
+
+/// How many numbers of a row list and bytes of a change list are enough for a call.
+#[derive(Clone, Copy, Default)]
+struct Lists {
+    rows: usize,
+    list: usize,
 }
 
 impl Memory {
-    fn of(line: &[u8]) -> Memory {
+    fn new(line: usize, spans: usize, lists: Lists) -> Memory {
         Memory {
-            conv: vec![0; enough::conv(line.len())],
-            spans: vec![SpanRecord::default(); enough::spans(line.len())],
+            conv: vec![0; enough::conv(line)],
+            spans: vec![SpanRecord::default(); spans],
+            rows: vec![0; lists.rows],
+            list: vec![0; lists.list],
         }
+    }
+}
+
+/// Makes a call, lent as much as most lines need and, where that is refused, enough.
+fn lent<T>(
+    line: &[u8],
+    lists: Lists,
+    mut call: impl FnMut(&mut Memory) -> Result<T, Refusal>,
+) -> Result<T, Refusal> {
+    let line = line.len();
+    let spans = enough::spans(line);
+    let few = spans / 8 + 64;
+    let little = Lists {
+        rows: few.min(lists.rows),
+        list: lists.list.min(2 * spans + 1_024),
+    };
+    match call(&mut Memory::new(line, few.min(spans), little)) {
+        Err(refusal) if refusal.is_for_memory() => call(&mut Memory::new(line, spans, lists)),
+        answer => answer,
     }
 }
 
@@ -152,9 +183,10 @@ pub fn convert(line: &[u8]) -> Result<Vec<u8>, Refusal> {
 ///
 /// Questions 1 and 3.
 pub fn read(line: &[u8], matches: &[Match]) -> Result<Line, Refusal> {
-    let mut memory = Memory::of(line);
-    let reading = read_into(line, matches, &mut memory.conv, &mut memory.spans)?;
-    Line::new(line, reading.spans().collect())
+    lent(line, Lists::default(), |memory| {
+        let reading = read_into(line, matches, &mut memory.conv, &mut memory.spans)?;
+        Line::new(line, reading.spans().collect())
+    })
 }
 
 /// Wraps a line into rows.
@@ -171,16 +203,13 @@ pub fn read(line: &[u8], matches: &[Match]) -> Result<Line, Refusal> {
 ///
 /// Questions 1 and 5.
 pub fn rows(line: &[u8], wrapping: Wrapping) -> Result<WrappedLine, Refusal> {
-    let mut memory = Memory::of(line);
-    let mut list = vec![0; enough::rows(line.len())];
-    let wrapped = rows_into(
-        line,
-        wrapping,
-        &mut memory.conv,
-        &mut memory.spans,
-        &mut list,
-    )?;
-    owned(line, wrapped)
+    let rows = enough::rows(line.len());
+    lent(line, Lists { rows, list: 0 }, |memory| {
+        let Memory {
+            conv, spans, rows, ..
+        } = memory;
+        owned(line, rows_into(line, wrapping, conv, spans, rows)?)
+    })
 }
 
 fn owned(line: &[u8], wrapped: Wrapped) -> Result<WrappedLine, Refusal> {
@@ -201,9 +230,10 @@ fn owned(line: &[u8], wrapped: Wrapped) -> Result<WrappedLine, Refusal> {
 ///
 /// Questions 1 and 5.
 pub fn height(line: &[u8], wrapping: Wrapping) -> Result<usize, Refusal> {
-    let mut memory = Memory::of(line);
-    let (height, _) = height_into(line, wrapping, &mut memory.conv, &mut memory.spans)?;
-    Ok(height)
+    lent(line, Lists::default(), |memory| {
+        let (conv, spans) = (&mut memory.conv, &mut memory.spans);
+        height_into(line, wrapping, conv, spans).map(|(height, _)| height)
+    })
 }
 
 /// Finds the narrowest width, from 1 up to `greatest`, at which the line takes at most `wanted`
@@ -227,10 +257,10 @@ pub fn narrowest(
     wanted: usize,
     greatest: usize,
 ) -> Result<Narrowest, Refusal> {
-    let mut memory = Memory::of(line);
-    let (conv, spans) = (&mut memory.conv, &mut memory.spans);
-    let (found, _) = narrowest_into(line, mode, wanted, greatest, conv, spans)?;
-    Ok(found)
+    lent(line, Lists::default(), |memory| {
+        let (conv, spans) = (&mut memory.conv, &mut memory.spans);
+        narrowest_into(line, mode, wanted, greatest, conv, spans).map(|(found, _)| found)
+    })
 }
 
 /// [`rows`] for a line that is asked again and again: a wrap that is kept is not made again.
@@ -254,11 +284,16 @@ pub fn cached_rows(
     wrapping: Wrapping,
     wraps: &mut Wraps,
 ) -> Result<WrappedLine, Refusal> {
-    let mut memory = Memory::of(line);
-    let mut list = vec![0; enough::rows(line.len()).max(2 * KEPT_ROWS)];
-    let (conv, spans) = (&mut memory.conv, &mut memory.spans);
-    let wrapped = cached_rows_into(line, wrapping, wraps, conv, spans, &mut list)?;
-    owned(line, wrapped)
+    let rows = enough::rows(line.len()).max(2 * KEPT_ROWS);
+    lent(line, Lists { rows, list: 0 }, |memory| {
+        let Memory {
+            conv, spans, rows, ..
+        } = memory;
+        owned(
+            line,
+            cached_rows_into(line, wrapping, wraps, conv, spans, rows)?,
+        )
+    })
 }
 
 /// [`height`] with kept wraps.
@@ -274,10 +309,10 @@ pub fn cached_rows(
 ///
 /// Questions 1 and 5. `wraps` stay as they were.
 pub fn cached_height(line: &[u8], wrapping: Wrapping, wraps: &mut Wraps) -> Result<usize, Refusal> {
-    let mut memory = Memory::of(line);
-    let (conv, spans) = (&mut memory.conv, &mut memory.spans);
-    let (height, _) = cached_height_into(line, wrapping, wraps, conv, spans)?;
-    Ok(height)
+    lent(line, Lists::default(), |memory| {
+        let (conv, spans) = (&mut memory.conv, &mut memory.spans);
+        cached_height_into(line, wrapping, wraps, conv, spans).map(|(height, _)| height)
+    })
 }
 
 /// Draws a window: the columns from its start up to its end, at most 1,048,576. Where the start
@@ -299,12 +334,18 @@ pub fn cached_height(line: &[u8], wrapping: Wrapping, wraps: &mut Wraps) -> Resu
 ///
 /// Questions 1, 3, 5, 7 and 8.
 pub fn draw_window(line: &[u8], view: &View, window: Range<usize>) -> Result<DrawnLine, Refusal> {
-    let mut memory = Memory::of(line);
     let columns = window.end.saturating_sub(window.start);
-    let mut list = vec![0; enough::window(line.len(), columns)];
-    let (conv, spans) = (&mut memory.conv, &mut memory.spans);
-    let drawing = draw_window_into(line, view, window, conv, spans, &mut list)?;
-    drawn(line, drawing)
+    let list = enough::window(line.len(), columns);
+    lent(line, Lists { rows: 0, list }, |memory| {
+        let Memory {
+            conv, spans, list, ..
+        } = memory;
+        let window = window.clone();
+        drawn(
+            line,
+            draw_window_into(line, view, window, conv, spans, list)?,
+        )
+    })
 }
 
 fn drawn(line: &[u8], drawing: Drawing) -> Result<DrawnLine, Refusal> {
@@ -334,11 +375,17 @@ pub fn draw_row(
     rows: Range<usize>,
     wrapping: Wrapping,
 ) -> Result<DrawnLine, Refusal> {
-    let mut memory = Memory::of(line);
-    let mut list = vec![0; enough::list(line.len())];
-    let (conv, spans) = (&mut memory.conv, &mut memory.spans);
-    let drawing = draw_row_into(line, view, rows, wrapping, conv, spans, &mut list)?;
-    drawn(line, drawing)
+    let list = enough::list(line.len());
+    lent(line, Lists { rows: 0, list }, |memory| {
+        let Memory {
+            conv, spans, list, ..
+        } = memory;
+        let rows = rows.clone();
+        drawn(
+            line,
+            draw_row_into(line, view, rows, wrapping, conv, spans, list)?,
+        )
+    })
 }
 
 /// Prints the changes of a list into a blank screen row of 1 to 4,096 columns. The list may be

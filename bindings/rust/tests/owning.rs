@@ -8,7 +8,7 @@ mod recorded;
 
 use console_lines::*;
 use random::Random;
-use recorded::{number_text, Call, Case, Recorded};
+use recorded::{number_text, Call, Case, Part, Recorded};
 
 const RECORDED: &str = include_str!("../../../crates/vectors/stdout");
 
@@ -18,8 +18,9 @@ type Given = Option<Result<String, Refusal>>;
 /// None where the types cannot say the call's numbers.
 fn given(case: &Case) -> Given {
     let line = &case.input;
+    let read_text = || read(line, &[]).map_or(String::new(), |line| line_text(&line));
     Some(match case.call {
-        Call::Convert => convert(line).map(|conv| format!("{} {}", conv.len(), hex(&conv))),
+        Call::Convert => convert(line).map(|conv| counted(&conv)),
         Call::Read => {
             let read = read(line, &pairs(&case.matches)?);
             read.map(|line| format!("{} {}", line.spans.len(), line_text(&line)))
@@ -32,82 +33,56 @@ fn given(case: &Case) -> Given {
             })
         }
         Call::Height { width, mode } => {
-            let line = read(line, &[]).map(|line| line_text(&line));
-            let height = height(&case.input, wrapping(width, mode)?);
-            height.map(|height| format!("{height} {}", line.unwrap()))
+            let height = height(line, wrapping(width, mode)?);
+            height.map(|height| format!("{height} {}", read_text()))
         }
         Call::Narrowest {
             mode,
             wanted,
             greatest,
         } => {
-            let line = read(line, &[]).map(|line| line_text(&line));
-            let mode = WrappingMode::from_number(mode)?;
-            let found = narrowest(&case.input, mode, wanted, greatest);
+            let found = narrowest(line, WrappingMode::from_number(mode)?, wanted, greatest);
             found.map(|Narrowest { width, tried }| {
-                format!("{} {} {tried}", width.unwrap_or(0), line.unwrap())
+                format!("{} {} {tried}", width.unwrap_or(0), read_text())
             })
         }
-        Call::DrawWindow { .. } | Call::DrawRow { .. } => drawn(case)?.map(|drawn| {
+        Call::Draw { .. } => drawn(case)?.map(|drawn| {
             let count = drawn.list.len();
             format!("{count} {} {}", line_text(&drawn.line), hex(&drawn.list))
         }),
-        Call::ScreenRow { width } => {
-            let row = screen_row(line, width);
-            row.map(|row| format!("{} {}", row.as_bytes().len(), hex(row.as_bytes())))
-        }
-        Call::Store => store(line).map(|out| format!("{} {}", out.len(), hex(&out))),
-        Call::Restore => restore(line).map(|out| format!("{} {}", out.len(), hex(&out))),
-        Call::WriteCells => {
-            let written = write_cells(&pairs(line)?);
-            written.map(|out| format!("{} {}", out.len(), hex(&out)))
-        }
+        Call::ScreenRow { width } => screen_row(line, width).map(|row| counted(row.as_bytes())),
+        Call::Store => store(line).map(|out| counted(&out)),
+        Call::Restore => restore(line).map(|out| counted(&out)),
+        Call::WriteCells => write_cells(&pairs(line)?).map(|out| counted(&out)),
     })
 }
 
 fn drawn(case: &Case) -> Option<Result<DrawnLine, Refusal>> {
-    let view = |reader, current| {
-        let readers = [Reader::Bench, Reader::Crew];
-        let reader = *readers.get(reader)?;
-        Some((reader, pairs(&case.matches)?, Some(current)))
+    let Call::Draw {
+        reader,
+        current,
+        part,
+    } = case.call
+    else {
+        return None;
     };
-    let line = &case.input;
-    match case.call {
-        Call::DrawWindow {
-            reader,
-            current,
-            start,
-            end,
-        } => {
-            let (reader, matches, current) = view(reader, current)?;
-            let matches = &matches;
-            let view = View {
-                reader,
-                matches,
-                current,
-            };
-            Some(draw_window(line, &view, start..end))
-        }
-        Call::DrawRow {
-            reader,
-            current,
+    let view = View {
+        reader: *[Reader::Bench, Reader::Crew].get(reader)?,
+        matches: &pairs(&case.matches)?,
+        current: Some(current),
+    };
+    Some(match part {
+        Part::Window { start, end } => draw_window(&case.input, &view, start..end),
+        Part::Rows {
             first,
             count,
             width,
             mode,
         } => {
-            let (reader, matches, current) = view(reader, current)?;
-            let matches = &matches;
-            let view = View {
-                reader,
-                matches,
-                current,
-            };
             let rows = first..first.checked_add(count)?;
-            Some(draw_row(line, &view, rows, wrapping(width, mode)?))
+            draw_row(&case.input, &view, rows, wrapping(width, mode)?)
         }
-        _ => None,
-    }
+    })
 }
 
 fn wrapping(width: usize, mode: usize) -> Option<Wrapping> {
@@ -131,6 +106,10 @@ fn hex(bytes: &[u8]) -> String {
             .collect(),
         None => "-".to_string(),
     }
+}
+
+fn counted(bytes: &[u8]) -> String {
+    format!("{} {}", bytes.len(), hex(bytes))
 }
 
 fn line_text(line: &Line) -> String {
@@ -329,14 +308,33 @@ fn types_are_shared_between_threads() {
     shared::<(Line, WrappedLine, DrawnLine, ScreenRow, Wraps)>();
     shared::<(Reading, Wrapped, Drawing, Spans, Rows, Cells, Changes)>();
     shared::<(Refusal, Malformed, Narrowest, View, Wrapping)>();
-    let lines = ["a\x08a", "漢字", "\t-"].map(str::as_bytes);
-    let anew = lines.map(|line| draw_window(line, &View::default(), 0..80));
+}
+
+/// What the calls give for a line, one after the other.
+fn all_calls(line: &[u8]) -> (DrawnLine, ScreenRow, WrappedLine, usize, Narrowest) {
+    let wrapping = Wrapping::new(8, WrappingMode::WordBoundaryAsDrawn);
+    let drawn = draw_window(line, &View::default(), 0..80).unwrap();
+    let row = screen_row(&drawn.list, 80).unwrap();
+    let mut wraps = Wraps::new();
+    let rows = cached_rows(line, wrapping, &mut wraps).unwrap();
+    let height = cached_height(line, wrapping, &mut wraps).unwrap();
+    let narrowest = narrowest(line, WrappingMode::WordBoundary, 9, 99).unwrap();
+    (drawn, row, rows, height, narrowest)
+}
+
+/// The calls with the most memory of their own, at once on threads with little more stack than
+/// the 128 KiB that the header says.
+#[test]
+fn threads_may_call_at_once() {
+    let lines = ["a\x08a", "漢字\t-", "\u{301}\u{301}"].map(|text| text.repeat(200).into_bytes());
+    let alone: Vec<_> = lines.iter().map(|line| all_calls(line)).collect();
     std::thread::scope(|scope| {
-        let draw =
-            |line: &'static [u8]| scope.spawn(move || draw_window(line, &View::default(), 0..80));
-        let drawn = lines
-            .map(draw)
-            .map(|thread| thread.join().expect("a thread"));
-        assert_eq!(drawn, anew);
+        let start = |line| {
+            let thread = std::thread::Builder::new().stack_size(160 * 1_024);
+            thread.spawn_scoped(scope, move || all_calls(line))
+        };
+        let threads: Vec<_> = lines.iter().map(|line| start(line).unwrap()).collect();
+        let given = threads.into_iter().map(|thread| thread.join().unwrap());
+        assert!(given.eq(alone));
     });
 }

@@ -30,19 +30,10 @@ pub enum Call {
         wanted: usize,
         greatest: usize,
     },
-    DrawWindow {
+    Draw {
         reader: usize,
         current: usize,
-        start: usize,
-        end: usize,
-    },
-    DrawRow {
-        reader: usize,
-        current: usize,
-        first: usize,
-        count: usize,
-        width: usize,
-        mode: usize,
+        part: Part,
     },
     ScreenRow {
         width: usize,
@@ -50,6 +41,21 @@ pub enum Call {
     Store,
     Restore,
     WriteCells,
+}
+
+/// What is drawn of a line.
+#[derive(Clone, Copy, Debug)]
+pub enum Part {
+    Window {
+        start: usize,
+        end: usize,
+    },
+    Rows {
+        first: usize,
+        count: usize,
+        width: usize,
+        mode: usize,
+    },
 }
 
 /// A call on a line, or on other bytes that it reads, with the sizes that it is lent.
@@ -131,33 +137,13 @@ fn form(name: &str) -> (bool, [bool; 4]) {
 }
 
 impl Call {
+    /// A drawing for another reader.
     fn for_reader(self, reader: usize) -> Call {
         match self {
-            Call::DrawWindow {
-                current,
-                start,
-                end,
-                ..
-            } => Call::DrawWindow {
+            Call::Draw { current, part, .. } => Call::Draw {
                 reader,
                 current,
-                start,
-                end,
-            },
-            Call::DrawRow {
-                current,
-                first,
-                count,
-                width,
-                mode,
-                ..
-            } => Call::DrawRow {
-                reader,
-                current,
-                first,
-                count,
-                width,
-                mode,
+                part,
             },
             call => call,
         }
@@ -199,19 +185,10 @@ impl<'t> Fields<'t> {
                 wanted: self.number(),
                 greatest: self.number(),
             },
-            "draw_window" | "view_window" => Call::DrawWindow {
+            "draw_window" | "view_window" | "draw_row" | "view_row" => Call::Draw {
                 reader: 0,
                 current: self.current(),
-                start: self.number(),
-                end: self.number(),
-            },
-            "draw_row" | "view_row" => Call::DrawRow {
-                reader: 0,
-                current: self.current(),
-                first: self.number(),
-                count: self.number(),
-                width: self.number(),
-                mode: self.number(),
+                part: self.part(name.ends_with("_window")),
             },
             "screen_row" => Call::ScreenRow {
                 width: self.number(),
@@ -220,6 +197,21 @@ impl<'t> Fields<'t> {
             "restore" => Call::Restore,
             "write_cells" => Call::WriteCells,
             _ => panic!("no call {name:?}"),
+        }
+    }
+
+    fn part(&mut self, window: bool) -> Part {
+        if window {
+            return Part::Window {
+                start: self.number(),
+                end: self.number(),
+            };
+        }
+        Part::Rows {
+            first: self.number(),
+            count: self.number(),
+            width: self.number(),
+            mode: self.number(),
         }
     }
 
