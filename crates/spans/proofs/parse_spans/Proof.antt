@@ -65,6 +65,7 @@ use Rattle.spans.proofs.next_reading as next
 use Rattle.spans.proofs.next_reading.Symbol as next-def
 use Rattle.spans.proofs.next_reading.Symbol.{name as #spans·next-reading}
 use Rattle.spans.proofs.next_reading.Met as next-thm
+use Rattle.spans.proofs.parse_spans.Key.{name as #spans·parse_spans}
 use Rattle.spans.proofs.parse_spans as parse_spans
 use Rattle.spans.proofs.parse_spans.Statement as stated
 use Rattle.spans.proofs.parse_spans.Code as code
