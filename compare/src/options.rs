@@ -1,6 +1,7 @@
 //! The program's options.
 
 use crate::{cache, cells, narrowest, readers, screen, stored};
+use oracle::progress::Progress;
 use oracle::{Call, Case};
 use std::fs;
 
@@ -112,6 +113,15 @@ impl Options {
     /// Whether no call or case is singled out.
     pub fn is_whole(&self) -> bool {
         self.calls.is_empty() && self.cases.is_none()
+    }
+
+    /// Of a set of so many cases; not told where each case is printed.
+    pub fn progress(&self, set: String, all: usize) -> Progress {
+        if self.trace {
+            Progress::none()
+        } else {
+            Progress::of(set, all)
+        }
     }
 
     /// The step from one case of a set to the next.
