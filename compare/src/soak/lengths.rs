@@ -36,7 +36,8 @@ impl fmt::Display for Lengths {
         let mut first = 0;
         for last in BANDS {
             let calls = admitted[first..=last].iter().sum();
-            write!(f, " {first} to {last} bytes: {},", grouped(calls))?;
+            let upto = grouped(last);
+            write!(f, " {first} to {upto} bytes: {},", grouped(calls))?;
             first = last + 1;
         }
         write!(f, " more: {}; each length up to ", grouped(*longer))?;
