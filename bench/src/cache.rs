@@ -5,7 +5,6 @@ use crate::lines::{Kind, KINDS};
 use crate::memory::{just, Memory};
 use crate::timing::{medians, Effort};
 use console_lines::Wraps;
-use oracle::progress::each;
 use oracle::{Call, Sizes};
 use std::hint::black_box;
 
@@ -138,7 +137,7 @@ fn times(call: &Call, line: &[u8], effort: Effort) -> Times {
 pub fn print_times(name: &str, effort: Effort, all: bool) {
     println!("{HEADING}");
     let calls = calls(name);
-    let rows = each(
+    let rows = oracle::progress::each(
         name.to_string(),
         KINDS.iter().collect(),
         |kind: &'static Kind| {

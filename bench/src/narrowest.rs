@@ -4,7 +4,6 @@ use crate::lines::{Kind, KINDS};
 use crate::memory::Memory;
 use crate::timing::{medians, Effort};
 use console_lines::{Span, WidthAnswer};
-use oracle::progress::each;
 use oracle::source::SourceLine;
 use oracle::Call;
 use std::hint::black_box;
@@ -128,7 +127,7 @@ pub fn print_times() {
             "widths", "narrowest", "wraps", "source"
         );
         let measure = |kind: &'static Kind| (kind.name, times(&kind.line(LONGEST), mode));
-        for (name, times) in each(title, lines().collect(), measure) {
+        for (name, times) in oracle::progress::each(title, lines().collect(), measure) {
             let [narrowest, wraps, source] =
                 [times.narrowest, times.wraps, times.source].map(|time| time / 1e6);
             let tried = times.tried;

@@ -3,7 +3,6 @@
 
 use crate::lines::{Kind, KINDS, WIDE};
 use crate::timing::{medians, Effort};
-use oracle::progress::each;
 use oracle::{Call, NONE};
 use std::hint::black_box;
 
@@ -184,7 +183,7 @@ pub fn print_times(effort: Effort) {
         );
         (kind.name, case.list.len(), out.len(), time)
     };
-    for (name, list, row, time) in each(title, kinds.collect(), measure) {
+    for (name, list, row, time) in oracle::progress::each(title, kinds.collect(), measure) {
         println!("{name:<28} {list:>6} {row:>6} {time:>8.0}");
     }
 }

@@ -15,7 +15,6 @@ use job::Job;
 use memory::Memory;
 use mix::Mix;
 use oracle::progress::{rate, Progress};
-use oracle::Call;
 use std::sync::atomic::{AtomicUsize, Ordering};
 use std::sync::Mutex;
 use std::time::{Duration, Instant};
@@ -32,9 +31,6 @@ pub struct Length {
 
 /// Runs the soak; whether all is equal, demand 3 holds and the memory is constant.
 pub fn run(length: Length, options: &Options) -> bool {
-    if !has_calls() {
-        return false;
-    }
     println!("seed {}, {} jobs", options.seed, options.jobs);
     let soak = Soak::new(length, options);
     let start = Instant::now();
@@ -55,17 +51,6 @@ pub fn run(length: Length, options: &Options) -> bool {
     );
     let faults = !options.faults || found.print_planted();
     is_good(&found, &memory) && faults
-}
-
-/// Whether the library has the six calls; those that it has not are named.
-fn has_calls() -> bool {
-    let exported = console_lines::exported();
-    let mut missing = Call::NAMES.to_vec();
-    missing.retain(|name| !exported.contains(name));
-    if !missing.is_empty() {
-        println!("the soak lacks {}", missing.join(", "));
-    }
-    missing.is_empty()
 }
 
 fn is_good(found: &Found, memory: &Memory) -> bool {
