@@ -110,10 +110,11 @@ pub fn each<T, R>(set: String, items: Vec<T>, mut work: impl FnMut(T) -> R) -> V
 /// So many in a time.
 pub fn rate(count: usize, time: Duration) -> String {
     let rate = count as f64 / time.as_secs_f64();
-    if rate < 10.0 {
-        format!("{rate:.1} a second")
-    } else {
-        format!("{} a second", grouped(rate as usize))
+    match rate {
+        10.0.. => format!("{} a second", grouped(rate as usize)),
+        1.0.. => format!("{rate:.1} a second"),
+        _ if count > 0 => format!("{:.1} s each", 1.0 / rate),
+        _ => "none done".to_string(),
     }
 }
 
