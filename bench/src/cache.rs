@@ -1,7 +1,7 @@
 //! Calls with kept wraps: asking again beside asking anew.
 
 use crate::calls::label;
-use crate::lines::KINDS;
+use crate::lines::{Kind, KINDS};
 use crate::memory::{just, Memory};
 use crate::timing::{medians, Effort};
 use console_lines::raw::WRAPS;
@@ -137,12 +137,15 @@ fn times(call: &Call, line: &[u8], effort: Effort) -> Times {
 pub fn print_times(name: &str, effort: Effort, all: bool) {
     println!("{HEADING}");
     let calls = calls(name);
-    let mut rows = Vec::new();
-    for kind in &KINDS {
-        let line = kind.line(LONGEST);
-        let times = calls.each_ref().map(|call| times(call, &line, effort));
-        rows.push((kind.name, times));
-    }
+    let rows = oracle::progress::each(
+        name.to_string(),
+        KINDS.iter().collect(),
+        |kind: &'static Kind| {
+            let line = kind.line(LONGEST);
+            let times = calls.each_ref().map(|call| times(call, &line, effort));
+            (kind.name, times)
+        },
+    );
     let print = |what: &str, cell: &dyn Fn(&Times) -> String| {
         let title = format!("{name}: {what}");
         print!("\n{title:<28}");

@@ -126,11 +126,11 @@ pub fn print_times() {
             "\n{title:<28} {:>7} {:>9} {:>9} {:>9}",
             "widths", "narrowest", "wraps", "source"
         );
-        for kind in lines() {
-            let times = times(&kind.line(LONGEST), mode);
+        let measure = |kind: &'static Kind| (kind.name, times(&kind.line(LONGEST), mode));
+        for (name, times) in oracle::progress::each(title, lines().collect(), measure) {
             let [narrowest, wraps, source] =
                 [times.narrowest, times.wraps, times.source].map(|time| time / 1e6);
-            let (name, tried) = (kind.name, times.tried);
+            let tried = times.tried;
             println!("{name:<28} {tried:>7} {narrowest:>9.1} {wraps:>9.1} {source:>9.1}");
         }
     }

@@ -170,7 +170,8 @@ pub fn once(table: usize, row: usize, size: usize) -> Option<()> {
 pub fn print_times(effort: Effort) {
     let title = format!("{NAME}: a window of 80");
     println!("\n{title:<28} {:>6} {:>6} {:>8}", "list", "row", "just");
-    for kind in KINDS.iter().filter(|kind| !kind.hostile).chain([&WIDE]) {
+    let kinds = KINDS.iter().filter(|kind| !kind.hostile).chain([&WIDE]);
+    let measure = |kind: &'static Kind| {
         let case = window(&kind.line(MANY), 80);
         let mut out = case.row();
         let [time] = medians(
@@ -180,7 +181,9 @@ pub fn print_times(effort: Effort) {
                 black_box(console_lines::raw::screen_row(list, case.width, &mut out));
             }],
         );
-        let (list, row) = (case.list.len(), out.len());
-        println!("{:<28} {list:>6} {row:>6} {time:>8.0}", kind.name);
+        (kind.name, case.list.len(), out.len(), time)
+    };
+    for (name, list, row, time) in oracle::progress::each(title, kinds.collect(), measure) {
+        println!("{name:<28} {list:>6} {row:>6} {time:>8.0}");
     }
 }

@@ -5,6 +5,7 @@ use crate::calls::{self, label};
 use crate::lines::{Kind, HYPHENS, KINDS};
 use crate::times::{copying, times, Times};
 use crate::timing::Effort;
+use oracle::progress::each;
 use oracle::Call;
 
 const LENGTHS: [usize; 4] = [512, 1_024, 2_048, 4_096];
@@ -49,7 +50,7 @@ impl Table {
             let times = times.collect();
             Row { kind, line, times }
         };
-        let rows = lines.map(row).collect();
+        let rows = each(name.to_string(), lines.collect(), row);
         Table { name, calls, rows }
     }
 
@@ -108,8 +109,12 @@ pub fn print_copying(table: &Table, effort: Effort) {
         "\n{:<42} {:>6} {:>9} {:>9}",
         "convert: only copied", "bytes", "just", "copy"
     );
-    for row in table.rows.iter().filter(|row| table.only_copies(&row.line)) {
-        let (just, copy) = (row.times[0].just, copying(&row.line, effort));
+    let rows = table.rows.iter().filter(|row| table.only_copies(&row.line));
+    let rows: Vec<&Row> = rows.collect();
+    let set = "convert: only copied".to_string();
+    let copies = each(set, rows.clone(), |row| copying(&row.line, effort));
+    for (row, copy) in rows.into_iter().zip(copies) {
+        let just = row.times[0].just;
         println!(
             "{:<28} {:>6} {just:>9.0} {copy:>9.0}",
             row.kind.name,
@@ -129,8 +134,10 @@ pub fn print_growths(name: &'static str, effort: Effort) {
             print!("  growth");
         }
         println!();
-        for kind in &KINDS {
-            let times = LENGTHS.map(|len| times(&call, &kind.line(len), effort));
+        let growths = each(title, KINDS.iter().collect(), |kind: &Kind| {
+            LENGTHS.map(|len| times(&call, &kind.line(len), effort))
+        });
+        for (kind, times) in KINDS.iter().zip(growths) {
             print!("{:<24}", kind.name);
             print_growth(times.map(|times| times.just));
             print_growth(times.map(|times| times.source));

@@ -15,10 +15,9 @@ mod twists;
 pub use faults::try_faults;
 pub use sequence::{Sequence, NAME, RECORDED};
 
-use crate::comparison::Set;
+use crate::comparison::{each_part, Set};
 use crate::options::Options;
 use crate::tally::{grouped, Differences};
-use crate::threads;
 use check::{by_library, Checker, Judge, Said};
 use model::Use;
 use std::fmt;
@@ -135,16 +134,11 @@ impl fmt::Display for Found {
     }
 }
 
-/// Runs a set, its sequences dealt out to the jobs, and prints what was found.
+/// Runs a set, and prints what was found.
 fn run_set(set: &Set<Sequence>, options: &Options) -> Found {
     let start = Instant::now();
-    let step = options.step(set.count);
-    let part = |job| {
-        let numbers = (job * step..set.count).step_by(options.jobs * step);
-        run_part(set, numbers, options)
-    };
     let mut whole = Found::default();
-    for found in threads::each_job(options.jobs, part) {
+    for found in each_part("kept wraps", set, options, run_part) {
         whole.add(found);
     }
     let seconds = start.elapsed().as_secs_f64();
@@ -153,14 +147,10 @@ fn run_set(set: &Set<Sequence>, options: &Options) -> Found {
     whole
 }
 
-fn run_part(set: &Set<Sequence>, numbers: impl Iterator<Item = usize>, options: &Options) -> Found {
+fn run_part(sequences: &mut dyn Iterator<Item = Sequence>) -> Found {
     let mut checker = Checker::new();
     let mut found = Found::default();
-    for number in numbers {
-        let sequence = (set.case)(number);
-        if options.trace {
-            eprintln!("{sequence}");
-        }
+    for sequence in sequences {
         found.count(checker.check(&sequence, Judge::Both, &mut by_library));
     }
     found

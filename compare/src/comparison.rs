@@ -39,7 +39,7 @@ pub fn compare_sets<L: Comparison>(call: &str, sets: &[Set<L::Case>], options: &
     let mut whole = Tally::default();
     for set in sets {
         let start = Instant::now();
-        let tally = compare_set::<L>(set, options);
+        let tally = compare_set::<L>(call, set, options);
         let seconds = start.elapsed().as_secs_f64();
         println!("{call}, {}: {tally}, {seconds:.1} s", set.name);
         tally.differences.print();
@@ -49,26 +49,42 @@ pub fn compare_sets<L: Comparison>(call: &str, sets: &[Set<L::Case>], options: &
     whole
 }
 
-/// Compares a set, its cases dealt out to the jobs.
-fn compare_set<L: Comparison>(set: &Set<L::Case>, options: &Options) -> Tally {
+/// Compares a set.
+fn compare_set<L: Comparison>(call: &str, set: &Set<L::Case>, options: &Options) -> Tally {
     let mut whole = Tally::default();
-    for tally in threads::each_job(options.jobs, |job| compare_part::<L>(set, options, job)) {
+    for tally in each_part(call, set, options, compare_part::<L>) {
         whole.add(tally);
     }
     whole
 }
 
-fn compare_part<L: Comparison>(set: &Set<L::Case>, options: &Options, job: usize) -> Tally {
+fn compare_part<L: Comparison>(cases: &mut dyn Iterator<Item = L::Case>) -> Tally {
     let mut library = L::new();
     let mut tally = Tally::default();
-    let step = options.step(set.count);
-    for number in (job * step..set.count).step_by(options.jobs * step) {
-        let case = (set.case)(number);
-        if options.trace {
-            eprintln!("{case}");
-        }
+    for case in cases {
         let (number, difference) = library.compare(&case);
         tally.count(number, difference);
     }
     tally
+}
+
+/// Does the work with the cases of a set, dealt out to the jobs.
+pub fn each_part<C: fmt::Display, T: Send>(
+    name: &str,
+    set: &Set<C>,
+    options: &Options,
+    work: impl Fn(&mut dyn Iterator<Item = C>) -> T + Sync,
+) -> Vec<T> {
+    let step = options.step(set.count);
+    let progress = options.progress(format!("{name}, {}", set.name), set.count.div_ceil(step));
+    threads::each_job(options.jobs, |job| {
+        let numbers = (job * step..set.count).step_by(options.jobs * step);
+        work(&mut progress.counted(numbers).map(|number| {
+            let case = (set.case)(number);
+            if options.trace {
+                eprintln!("{case}");
+            }
+            case
+        }))
+    })
 }

@@ -41,8 +41,9 @@ fn run_half<H: Half>(options: &Options) -> Found {
         random_cases::<H>(options.seed, numbers)
     };
     let short = |job| H::short().skip(job * step).step_by(options.jobs * step);
-    let mut found = run_cases("random", options, random);
-    found.add(run_cases("short", options, short));
+    let mut found = run_cases("random", RANDOM.div_ceil(step), options, random);
+    let count = H::short().count().div_ceil(step);
+    found.add(run_cases("short", count, options, short));
     found
 }
 
@@ -80,22 +81,26 @@ impl Found {
 /// Runs cases, dealt out to the jobs, and prints what was found.
 fn run_cases<H: Half, I: Iterator<Item = H>>(
     lines: &str,
+    count: usize,
     options: &Options,
     cases: impl Fn(usize) -> I + Sync,
 ) -> Found {
     let start = Instant::now();
     let mut whole = Found::default();
-    for found in threads::each_job(options.jobs, |job| check_cases(cases(job))) {
+    let set = format!("demand 3, {}, {lines} lines", H::NAME);
+    let progress = options.progress(set.clone(), count);
+    let part = |job| check_cases(progress.counted(cases(job)));
+    for found in threads::each_job(options.jobs, part) {
         whole.add(found);
     }
+    drop(progress);
     let Counts {
         cases,
         accepted,
         further,
     } = whole.counts;
     println!(
-        "demand 3, {}, {lines} lines: {} cases, {} broken; {} accepted, {} {}, {:.1} s",
-        H::NAME,
+        "{set}: {} cases, {} broken; {} accepted, {} {}, {:.1} s",
         grouped(cases),
         grouped(whole.broken.count),
         grouped(accepted),

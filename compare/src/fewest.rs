@@ -8,11 +8,10 @@ mod sets;
 
 pub use faults::try_faults;
 
-use crate::comparison::{Comparison, Set};
+use crate::comparison::{each_part, Comparison, Set};
 use crate::library::Library;
 use crate::options::Options;
 use crate::tally::{grouped, Differences};
-use crate::threads;
 use case::Case;
 use check::{check, Said};
 use std::fmt;
@@ -90,24 +89,19 @@ impl fmt::Display for Found {
     }
 }
 
-/// Runs a set, its cases dealt out to the jobs, and prints what was found.
+/// Runs a set, and prints what was found.
 fn run_set(set: &Set<Case>, options: &Options) -> Found {
     let start = Instant::now();
-    let step = options.step(set.count);
-    let part = |job| {
+    let part = |cases: &mut dyn Iterator<Item = Case>| {
         let mut library = Library::new();
         let mut found = Found::default();
-        for number in (job * step..set.count).step_by(options.jobs * step) {
-            let case = (set.case)(number);
-            if options.trace {
-                eprintln!("{case}");
-            }
+        for case in cases {
             found.count(library.hold(|program| check(&case, program)));
         }
         found
     };
     let mut whole = Found::default();
-    for found in threads::each_job(options.jobs, part) {
+    for found in each_part("fewest rows", set, options, part) {
         whole.add(found);
     }
     let seconds = start.elapsed().as_secs_f64();

@@ -1,23 +1,37 @@
 //! Sizes lent, at and around what a call needs.
 
 use oracle::random::Random;
-use oracle::{Call, Case, Sizes};
+use oracle::{Answer, Call, Case, Sizes};
 
 /// The call with sizes lent around its need; any of them may be too small.
 pub fn around_need(random: &mut Random, call: Call, line: &[u8]) -> Case {
-    let sizes = need(&call, line).map(|need| around(random, need));
-    Case::new(line, call, sizes)
+    let (just, _) = just(call, line);
+    around_just(random, &just)
+}
+
+/// The call with sizes lent around what another one has, which is just enough.
+pub fn around_just(random: &mut Random, just: &Case) -> Case {
+    just.lent(just.sizes().map(|need| around(random, need)))
+}
+
+/// The call lent just enough, and its answer.
+pub fn just(call: Call, line: &[u8]) -> (Case, Answer) {
+    let answer = call.ample_answer(line);
+    let spans = match answer.number {
+        0 => answer.records.len(),
+        _ => {
+            let matches = call.matches().to_vec();
+            Call::Read { matches }.ample_answer(line).count
+        }
+    };
+    let sizes = [8 * line.len(), spans, answer.pairs.len(), answer.list.len()];
+    (Case::new(line, call, sizes), answer)
 }
 
 /// What the call needs; where it is refused whatever is lent, what reading needs.
 pub fn need(call: &Call, line: &[u8]) -> Sizes {
-    let answer = call.ample_answer(line);
-    let matches = call.matches().to_vec();
-    let spans = match answer.number {
-        0 => answer.records.len(),
-        _ => Call::Read { matches }.ample_answer(line).count,
-    };
-    [8 * line.len(), spans, answer.pairs.len(), answer.list.len()]
+    let (just, _) = just(call.clone(), line);
+    just.sizes()
 }
 
 /// As much as is needed, a little less or more, or much more.

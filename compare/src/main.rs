@@ -19,6 +19,7 @@ mod picture;
 mod readers;
 mod screen;
 mod sets;
+mod soak;
 mod stored;
 mod tally;
 mod threads;
@@ -46,6 +47,8 @@ fn main() -> ExitCode {
     let good = if options.sample {
         print_samples(options.cache);
         true
+    } else if let Some(length) = options.soak {
+        soak::run(length, &options)
     } else if options.faults && options.cache {
         is_found(cache::try_faults(options.seed))
     } else if options.faults && options.fewest {

@@ -1,8 +1,13 @@
 //! The program's options.
 
+use crate::soak::Length;
 use crate::{cache, cells, narrowest, readers, screen, stored};
+use oracle::progress::Progress;
 use oracle::{Call, Case};
 use std::fs;
+use std::hash::{BuildHasher, RandomState};
+use std::thread;
+use std::time::Duration;
 
 pub const USAGE: &str = "usage: compare [--call NAME]... [--quick] [--jobs N] [--seed N] [--trace]
        compare --demand3 [--quick] [--jobs N] [--seed N]
@@ -12,6 +17,7 @@ pub const USAGE: &str = "usage: compare [--call NAME]... [--quick] [--jobs N] [-
        compare --readers [--quick] [--jobs N] [--seed N] [--trace]
        compare [--picture | --cache | --fewest | --readers] --cases FILE [--trace]
        compare --faults [--cache | --fewest | --readers | --call NAME]...
+       compare --minutes N | --rounds N [--jobs N] [--seed N] [--faults]
        compare --sample [--cache]";
 
 /// A quick run takes one case of so many.
@@ -38,6 +44,8 @@ pub struct Options {
     pub fewest: bool,
     /// Runs the crew's view alone.
     pub readers: bool,
+    /// Soaks for so long.
+    pub soak: Option<Length>,
     /// Prints the samples of the calls that the source has not, and of drawings for readers.
     pub sample: bool,
     /// Cases to compare in place of the sets.
@@ -80,16 +88,20 @@ impl Options {
             cache: false,
             fewest: false,
             readers: false,
+            soak: None,
             sample: false,
             cases: None,
         };
+        let (mut jobs, mut seed) = (None, None);
         while let Some(argument) = arguments.next() {
             let mut value = || arguments.next().ok_or(format!("{argument} what?"));
             match argument.as_str() {
                 "--call" => options.calls.push(call(value()?)?),
                 "--quick" => options.quick = true,
-                "--jobs" => options.jobs = number(&value()?)?.max(1) as usize,
-                "--seed" => options.seed = number(&value()?)?,
+                "--jobs" => jobs = Some(number(&value()?)?.max(1) as usize),
+                "--seed" => seed = Some(number(&value()?)?),
+                "--minutes" => options.soaks().time = minutes(number(&value()?)?),
+                "--rounds" => options.soaks().rounds = number(&value()?)? as usize,
                 "--trace" => options.trace = true,
                 "--faults" => options.faults = true,
                 "--demand3" => options.demand3 = true,
@@ -102,7 +114,18 @@ impl Options {
                 _ => return Err(format!("no option {argument}")),
             }
         }
+        let soaks = options.soak.is_some();
+        options.jobs = jobs.unwrap_or(if soaks { cores() } else { 1 });
+        options.seed = seed.unwrap_or_else(|| if soaks { fresh_seed() } else { 1 });
         Ok(options)
+    }
+
+    /// How long to soak, at first without end.
+    fn soaks(&mut self) -> &mut Length {
+        self.soak.get_or_insert(Length {
+            time: Duration::MAX,
+            rounds: usize::MAX,
+        })
     }
 
     pub fn wants(&self, name: &str) -> bool {
@@ -112,6 +135,15 @@ impl Options {
     /// Whether no call or case is singled out.
     pub fn is_whole(&self) -> bool {
         self.calls.is_empty() && self.cases.is_none()
+    }
+
+    /// Of a set of so many cases; not told where each case is printed.
+    pub fn progress(&self, set: String, all: usize) -> Progress {
+        if self.trace {
+            Progress::none()
+        } else {
+            Progress::of(set, all)
+        }
     }
 
     /// The step from one case of a set to the next.
@@ -134,6 +166,19 @@ fn call(name: String) -> Result<String, String> {
 
 fn number(text: &str) -> Result<u64, String> {
     text.parse().map_err(|_| format!("not a number: {text}"))
+}
+
+fn minutes(count: u64) -> Duration {
+    Duration::from_secs(count.saturating_mul(60))
+}
+
+fn cores() -> usize {
+    thread::available_parallelism().map_or(1, usize::from)
+}
+
+/// Another one in each run.
+fn fresh_seed() -> u64 {
+    RandomState::new().hash_one(0) >> 32
 }
 
 /// Lines of the oracle's text format, with or without answers.

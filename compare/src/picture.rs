@@ -8,11 +8,10 @@ mod shown;
 
 pub use faults::try_faults;
 
-use crate::comparison::{Comparison, Set};
+use crate::comparison::{each_part, Comparison, Set};
 use crate::library::Library;
 use crate::options::Options;
 use crate::tally::{grouped, Differences};
-use crate::threads;
 use case::Case;
 use check::{check, Said};
 use sets::Pictures;
@@ -96,7 +95,7 @@ impl fmt::Display for Found {
     }
 }
 
-/// Runs a set, its cases dealt out to the jobs, and prints what was found.
+/// Runs a set, and prints what was found.
 fn run_set(pictures: &Pictures, options: &Options) -> Found {
     let start = Instant::now();
     let step = options.step(pictures.set.count);
@@ -104,11 +103,7 @@ fn run_set(pictures: &Pictures, options: &Options) -> Found {
         lines: pictures.lines(step),
         ..Found::default()
     };
-    let part = |job| {
-        let numbers = job * step..pictures.set.count;
-        run_part(&pictures.set, numbers.step_by(options.jobs * step), options)
-    };
-    for found in threads::each_job(options.jobs, part) {
+    for found in each_part("picture", &pictures.set, options, run_part) {
         whole.add(found);
     }
     let seconds = start.elapsed().as_secs_f64();
@@ -117,14 +112,10 @@ fn run_set(pictures: &Pictures, options: &Options) -> Found {
     whole
 }
 
-fn run_part(set: &Set<Case>, numbers: impl Iterator<Item = usize>, options: &Options) -> Found {
+fn run_part(cases: &mut dyn Iterator<Item = Case>) -> Found {
     let mut library = Library::new();
     let mut found = Found::default();
-    for number in numbers {
-        let case = (set.case)(number);
-        if options.trace {
-            eprintln!("{case}");
-        }
+    for case in cases {
         match library.hold(|program| check(&case, program)) {
             Ok(said) => found.count(said),
             Err(text) => {

@@ -10,11 +10,10 @@ pub use faults::try_faults;
 pub use sample::print_sample;
 pub use view::{seen_by_crew, View, NAMES};
 
-use crate::comparison::{compare_sets, Comparison, Set};
+use crate::comparison::{compare_sets, each_part, Comparison, Set};
 use crate::library::Library;
 use crate::options::Options;
 use crate::tally::{grouped, Differences};
-use crate::threads;
 use exchange::Pair;
 use std::time::Instant;
 
@@ -85,16 +84,11 @@ impl Found {
     }
 }
 
-/// Checks a set of pairs, dealt out to the jobs, and prints what was found.
+/// Checks a set of pairs, and prints what was found.
 fn run_set(set: &Set<Pair>, options: &Options) -> Found {
     let start = Instant::now();
-    let step = options.step(set.count);
     let mut whole = Found::default();
-    let part = |job| {
-        let numbers = (job * step..set.count).step_by(options.jobs * step);
-        check_pairs(numbers.map(|number| (set.case)(number)), options)
-    };
-    for found in threads::each_job(options.jobs, part) {
+    for found in each_part("readers", set, options, check_pairs) {
         whole.add(found);
     }
     println!(
@@ -110,13 +104,10 @@ fn run_set(set: &Set<Pair>, options: &Options) -> Found {
     whole
 }
 
-fn check_pairs(pairs: impl Iterator<Item = Pair>, options: &Options) -> Found {
+fn check_pairs(pairs: &mut dyn Iterator<Item = Pair>) -> Found {
     let mut library = Library::new();
     let mut found = Found::default();
     for pair in pairs {
-        if options.trace {
-            eprintln!("{pair}");
-        }
         found.pairs += 1;
         match pair.check(&mut |reader, case| library.answer_for(reader, case)) {
             Ok(said) => {

@@ -1,5 +1,7 @@
 //! Counts of cases, and the differences found.
 
+pub use oracle::progress::grouped;
+
 use std::fmt;
 
 /// So many differences are printed, the shortest ones.
@@ -79,17 +81,4 @@ impl fmt::Display for Tally {
         let (cases, differ) = (grouped(self.cases), grouped(self.differences.count));
         write!(f, "{cases} cases, {differ} differ")
     }
-}
-
-/// A number with a comma before each three digits.
-pub fn grouped(number: usize) -> String {
-    let digits = number.to_string();
-    let mut text = String::new();
-    for (index, digit) in digits.chars().enumerate() {
-        if index > 0 && (digits.len() - index).is_multiple_of(3) {
-            text.push(',');
-        }
-        text.push(digit);
-    }
-    text
 }

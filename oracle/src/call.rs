@@ -4,7 +4,7 @@
 use crate::answer::{self, Answer};
 
 /// A call with its arguments.
-#[derive(Clone, Debug, PartialEq, Eq)]
+#[derive(Clone, Debug, PartialEq, Eq, Hash)]
 pub enum Call {
     Convert,
     Read {
@@ -117,7 +117,7 @@ impl Call {
 }
 
 /// A call on a line.
-#[derive(Clone, Debug, PartialEq, Eq)]
+#[derive(Clone, Debug, PartialEq, Eq, Hash)]
 pub struct Case {
     pub line: Vec<u8>,
     pub call: Call,

@@ -10,6 +10,7 @@ pub mod drawn;
 pub mod format;
 pub mod generate;
 pub mod noise;
+pub mod progress;
 pub mod random;
 pub mod sample;
 pub mod statements;

@@ -4,6 +4,7 @@ use oracle::coverage::Coverage;
 use oracle::format::answer_text;
 use oracle::generate;
 use oracle::noise::{Counts, Exchange, Half, Separation};
+use oracle::progress::Progress;
 use oracle::random::Random;
 use oracle::statements::{self, Statement};
 use oracle::{sample as recorded, Case};
@@ -154,7 +155,8 @@ fn profile() -> Outcome {
 fn random(count: usize, seed: u64) -> Outcome {
     let mut random = Random::new(seed);
     let mut coverage = Coverage::default();
-    for _ in 0..count {
+    let progress = Progress::of("random calls".to_string(), count);
+    for _ in progress.counted(0..count) {
         let case = generate::case(&mut random, true);
         coverage.add(&case);
         if case.to_string().parse() != Ok(case.clone()) {
@@ -163,6 +165,7 @@ fn random(count: usize, seed: u64) -> Outcome {
         oracle::check_constructors(&case.line);
         oracle::check_last_clusters(&case.line);
     }
+    drop(progress);
     coverage.print();
     Ok(())
 }
@@ -174,22 +177,25 @@ fn demand3(count: usize, seed: u64) -> Outcome {
 
 fn half<H: Half>(count: usize, seed: u64) -> Outcome {
     let random = (0..count).map(|case| H::random(&mut Random::of_case(seed, case)));
-    hold_half("random", random)?;
-    hold_half("short", H::short())
+    hold_half("random", count, random)?;
+    hold_half("short", H::short().count(), H::short())
 }
 
-fn hold_half<H: Half>(lines: &str, cases: impl Iterator<Item = H>) -> Outcome {
+fn hold_half<H: Half>(lines: &str, count: usize, cases: impl Iterator<Item = H>) -> Outcome {
+    let set = format!("demand 3, {}, {lines} lines", H::NAME);
+    let progress = Progress::of(set.clone(), count);
     let mut counts = Counts::default();
-    for case in cases {
+    for case in progress.counted(cases) {
         counts.count(case.check(&mut |case| case.answer())?);
     }
+    drop(progress);
     let Counts {
         cases,
         accepted,
         further,
     } = counts;
-    let (name, what) = (H::NAME, H::FURTHER);
-    println!("demand 3, {name}, {lines} lines: {cases}, {accepted} accepted, {further} {what}");
+    let what = H::FURTHER;
+    println!("{set}: {cases}, {accepted} accepted, {further} {what}");
     Ok(())
 }
 
