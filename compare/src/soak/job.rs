@@ -7,7 +7,7 @@ use crate::faults::faults;
 use crate::lending;
 use crate::library::Library;
 use crate::readers::seen_by_crew;
-use console_lines::{Answer as Returned, CREW};
+use console_lines::raw::{Answer as Returned, CREW};
 use oracle::noise::{Exchange, Half, Said, Separation};
 use oracle::progress::Progress;
 use oracle::random::Random;

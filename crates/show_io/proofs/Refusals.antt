@@ -9,8 +9,9 @@ use Rattle.buffer.specs.Sink.Laws.{then-emit, emit-put}
 use Rattle.rows_io.specs.Output.{decimal}
 use Rattle.show_io.specs.Lines.{words, refusedText, refusalText}
 
-pub said : (k n : ℕ) (s z : Sink) → n ≡ k → z ≡ emit s (words k) → z ≡ emit s (words n)
-said k n s z e p = p ∙ ap (λ (m : ℕ). emit s (words m)) (sym e)
+-- words that are said of the number k, of a number that is k
+pub said : (words : ℕ → List ℕ) (k n : ℕ) (s z : Sink) → n ≡ k → z ≡ emit s (words k) → z ≡ emit s (words n)
+said words k n s z e p = p ∙ ap (λ (m : ℕ). emit s (words m)) (sym e)
 
 pub said-last : (n : ℕ) (s z : Sink) → (n ≢ 1) → (n ≢ 4) → (n ≢ 5) → (n ≢ 8) → (n ≢ 9) → z ≡ emit s (words 0) → z ≡ emit s (words n)
 unfolding words

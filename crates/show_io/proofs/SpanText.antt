@@ -38,10 +38,6 @@ use Rattle.show_io.proofs.LineRows.{take-smaller}
 
 -- ---- kinds
 
--- a word that is said of the kind k, of a kind that is k
-pub said : (word : ℕ → List ℕ) (k n : ℕ) (s z : Sink) → n ≡ k → z ≡ emit s (word k) → z ≡ emit s (word n)
-said word k n s z e p = p ∙ ap (λ (m : ℕ). emit s (word m)) (sym e)
-
 pub sequence-last : (n : ℕ) (s z : Sink) → (n ≢ 6) → (n ≢ 7) → (n ≢ 8) → (n ≢ 9) → z ≡ emit s (sequenceWord 13) → z ≡ emit s (sequenceWord n)
 unfolding sequenceWord
 sequence-last n s z a b c d p = rw (ne-eqb n 6 a, ne-eqb n 7 b, ne-eqb n 8 c, ne-eqb n 9 d) p

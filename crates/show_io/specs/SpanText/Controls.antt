@@ -1,24 +1,31 @@
--- A Text holds no control, 00 to 1F or 7F to 9F: such a scalar is a cluster of its own, or CR and LF are one, and they have no width.
-use mathlib.Core.Path.{_≡_, refl, sym, subst, _∙_}
-use Prim.Native.Nat.{ℕ, zero, suc, _+_, _-_}
+-- A Text holds no control, 00 to 1F or 7F to 9F: such a scalar is a cluster of its own, or CR and LF are one, and they have no width. So no byte of a
+-- Text is below 20 or 7F.
+use mathlib.Core.Path.{_≡_, refl, sym, ap, subst, _∙_}
+use Prim.Native.Nat.{ℕ, zero, suc, _+_, _-_, _≤_}
 use native.Mathlib.Omega.{arith}
 use mathlib.Core.Bool.{Bool, true, false, true≢false, cond, _&&_, _||_}
-use mathlib.Core.List.{List, [], _∷_}
-use mathlib.Core.Logic.{_⊎_, inl, inr, ⊎-elim}
+use mathlib.Core.List.{List, [], _∷_, _++_, append-nil}
+use mathlib.Core.Logic.{_≢_, _⊎_, inl, inr, ⊎-elim}
 use mathlib.Core.Option.{Option, none}
-use lib.ListN.{length}
-use lib.Dec.{eqb}
-use borrow.Author.Tests.{eqb-true}
+use lib.ListN.{length, take, drop, length-append, drop-of-length-le}
+use lib.Seq.{length-take-le, take-all}
+use lib.Dec.{T, eqb, leb, leb→le}
+use borrow.Author.Tests.{eqb-true, le-leb, leb-true, leb-false}
 use Rattle.text.specs.Tests.{and-T, or-T, true-T, is-true, cases}
-use Rattle.text.specs.Each.{All, all-nil, all-cons, all-append, all-map, all-first}
-use Rattle.text.specs.Utf8.{to, within, Scalar, Piece, run, damaged, runs, decode, bytesOf}
+use Rattle.text.specs.Each.{All, all-nil, all-cons, all-append, all-map, all-first, all-both}
+use Rattle.text.specs.Utf8.{Range, to, within, table, fits, lengthIn, sequence, value, Scalar, scalar, Piece, run, damaged, runs, runOf, decode, bytesOf}
+use Rattle.text.specs.Utf8.Laws.{bytesOf-append}
+use Rattle.text.specs.Utf8.Valid.{Valid, valid-sequence}
+use Rattle.text.specs.Utf8.Runs.{run-valid, run-bytes}
 use Rattle.text.specs.Class.{cr, lf, control, extend, zwj, classV, classT, number, among, Profile, inAny, controls, class01, isControl}
 use Rattle.text.specs.Width.{width01, profile01, widthOf}
 use Rattle.text.specs.Cluster.{Context, joined, classOf, context, joins, joinsNext, addToCluster, clustersAfter, clusters, joinAll}
 use Rattle.spans.specs.Spans as spans
-use Rattle.spans.specs.Spans.{Content, text, invalid, unprintable, escape, tab, crlf, Span, ClusterKind, plain, special, joinText, addText, addCluster, clusterKind, readFrom, readPieces, spansAt}
+use Rattle.spans.specs.Spans.{Content, text, invalid, unprintable, escape, tab, crlf, Span, span, ClusterKind, plain, special, joinText, addText, addCluster, clusterKind, readFrom, readPieces, spansAt, recordOf, kindOf, matchOf}
 use Rattle.spans.specs.Spans.FirstSpan.{isPlain, NoText, kind-noText, plainCluster, plain-same}
 use Rattle.spans.specs.Spans.PlainClusters.{plain-wide}
+use Rattle.spans.specs.Spans.ContentLaw.{textIn, contentIn, contentOf, content-front}
+use Rattle.rows.specs.Calls.Reading.{unmatched-spans}
 
 -- ---- clusters: the rules break at all of a cluster's scalars, or at none
 
@@ -118,38 +125,110 @@ plain-free g q h = by (q .value) (q .all)
     by true a = absurd (let w = plain-wide profile01 g h in let z = flat-widths a in omega arith)
     by false a = all-map unbroken-free a
 
+-- ---- bytes
+
+-- neither below 20 nor 7F
+pub record Printable (b : ℕ) : Type 0 where
+  pub low : 0x20 ≤ b
+  pub del : b ≢ 0x7F
+
+unfoldable highRow : List Range → Bool
+highRow [] = true
+highRow (r ∷ rs) = leb 0x80 (r .low) && highRow rs
+
+unfoldable highRows : List (List Range) → Bool
+unfolding highRow
+highRows [] = true
+highRows (row ∷ rows) = highRow row && highRows rows
+
+fits-high : (row : List Range) (s : List ℕ) → T (highRow row) → T (fits row s) → length s ≡ length row → All Printable s
+unfolding highRow fits
+fits-high [] [] h f l = all-nil
+fits-high [] (b ∷ s) h f l = absurd (omega (arith, l))
+fits-high (r ∷ rs) [] h f l = absurd f
+fits-high (r ∷ rs) (b ∷ s) h f l =
+    let x = and-T (leb 0x80 (r .low)) (highRow rs) h in
+    let y = and-T (within r b) (fits rs s) f in
+    let low : r .low ≤ b = leb→le _ _ (and-T (leb (r .low) b) (leb b (r .high)) (y .0) .0) in
+    let high : 0x80 ≤ r .low = leb→le _ _ (x .0) in
+    let here : Printable b = record { low = omega arith; del = λ e. omega arith } in
+    all-cons here (fits-high rs s (x .1) (y .1) (omega (arith, l)))
+
+rows-high : (rows : List (List Range)) (s : List ℕ) → T (highRows rows) → 1 ≤ length s → lengthIn rows s ≡ length s → All Printable s
+unfolding highRows lengthIn
+rows-high [] s h l e = absurd (omega (arith, l, e))
+rows-high (row ∷ rows) s h l e =
+    let x = and-T (highRow row) (highRows rows) h in
+    cases (fits row s) (λ f. fits-high row s (x .0) (true-T f) (sym (rw f at e))) (λ f. rows-high rows s (x .1) l (rw f at e))
+
+-- a sequence of more bytes than one
+many-high : (s : List ℕ) → 2 ≤ length s → sequence s ≡ length s → All Printable s
+unfolding sequence table lengthIn highRows
+many-high s n e = cases (fits (to 0x00 0x7F ∷ []) s) (λ f. absurd (let z : 1 ≡ length s = rw f at e in omega arith)) (λ f. rows-high (drop 1 table) s tt (omega arith) (rw f at e))
+
+byte-free : (b : ℕ) → isControl b ≡ false → Printable b
+unfolding isControl inAny
+byte-free b e =
+    let any : leb 0 b ≡ true = le-leb 0 b (omega arith) in
+    record {
+      low = cases (leb b 0x1F) (λ f. absurd (true≢false (rw (any, f) at e))) (λ f. omega (arith, leb-false b 0x1F f));
+      del = λ d. true≢false (rw d at e);
+    }
+
+scalar-printable : (c : Scalar) → Valid c → Free c → All Printable (c .bytes)
+unfolding scalar value
+scalar-printable c v f = by (c .bytes) refl
+  where
+    by : (s : List ℕ) → c .bytes ≡ s → All Printable (c .bytes)
+    by [] q = absurd (omega (arith, ap length q, v .some))
+    by (b ∷ []) q =
+        let is : c .code ≡ b = ap (λ (x : Scalar). x .code) (valid-sequence c v .is) ∙ ap value q in
+        rw q (all-cons (byte-free b (rw is at f)) all-nil)
+    by (b ∷ d ∷ s) q = many-high (c .bytes) (omega (arith, ap length q)) (valid-sequence c v .length)
+
+text-printable : {t : List Scalar} → All Valid t → All Free t → All Printable (bytesOf t)
+unfolding bytesOf
+text-printable all-nil all-nil = all-nil
+text-printable (all-cons {a = c} v vs) (all-cons f fs) = all-append (scalar-printable c v f) (text-printable vs fs)
+
 -- ---- spans
 
-unfoldable pub ControlFree : Content → Type 0
-ControlFree (text m t) = All Free t
-ControlFree (spans.control b) = Unit {0}
-ControlFree (invalid b) = Unit {0}
-ControlFree (unprintable t) = Unit {0}
-ControlFree (escape e) = Unit {0}
-ControlFree tab = Unit {0}
-ControlFree crlf = Unit {0}
-ControlFree spans.lf = Unit {0}
+-- a Text without controls, and of n bytes
+unfoldable pub ControlFree : ℕ → Content → Type 0
+ControlFree n (text m t) = All Free t × (n ≡ length (bytesOf t))
+ControlFree n (spans.control b) = Unit {0}
+ControlFree n (invalid b) = Unit {0}
+ControlFree n (unprintable t) = Unit {0}
+ControlFree n (escape e) = Unit {0}
+ControlFree n tab = Unit {0}
+ControlFree n crlf = Unit {0}
+ControlFree n spans.lf = Unit {0}
 
-abbrev FreeSpan : Span → Type 0
-FreeSpan s = ControlFree (s .content)
+abbrev pub FreeSpan : Span → Type 0
+FreeSpan s = ControlFree (s .len) (s .content)
 
-joinText-free : (m : Option ℕ) (p : ℕ) (g : List Scalar) (s : Span) (c : Content) (ss : List Span) → All Free g → ControlFree c → FreeSpan s → All FreeSpan ss → All FreeSpan (joinText m p g s c ss)
+text-free : (m : Option ℕ) (p n : ℕ) (t : List Scalar) → All Free t → n ≡ length (bytesOf t) → FreeSpan (span p n (text m t))
+unfolding ControlFree
+text-free m p n t f e = (f, e)
+
+joinText-free : (m : Option ℕ) (p : ℕ) (g : List Scalar) (s : Span) (c : Content) (ss : List Span) → All Free g → ControlFree (s .len) c → FreeSpan s → All FreeSpan ss → All FreeSpan (joinText m p g s c ss)
 unfolding joinText ControlFree
-joinText-free m p g s (text k t) ss f h i a = all-cons (all-append f h) a
-joinText-free m p g s (spans.control b) ss f h i a = all-cons f (all-cons i a)
-joinText-free m p g s (invalid b) ss f h i a = all-cons f (all-cons i a)
-joinText-free m p g s (unprintable t) ss f h i a = all-cons f (all-cons i a)
-joinText-free m p g s (escape e) ss f h i a = all-cons f (all-cons i a)
-joinText-free m p g s tab ss f h i a = all-cons f (all-cons i a)
-joinText-free m p g s crlf ss f h i a = all-cons f (all-cons i a)
-joinText-free m p g s spans.lf ss f h i a = all-cons f (all-cons i a)
+joinText-free m p g s (text k t) ss f h i a =
+    all-cons (text-free m p (length (bytesOf g) + s .len) (g ++ t) (all-append f (h .0)) (ap (λ (n : ℕ). length (bytesOf g) + n) (h .1) ∙ sym (length-append (bytesOf g) (bytesOf t)) ∙ ap length (sym (bytesOf-append g t)))) a
+joinText-free m p g s (spans.control b) ss f h i a = all-cons (text-free m p (length (bytesOf g)) g f refl) (all-cons i a)
+joinText-free m p g s (invalid b) ss f h i a = all-cons (text-free m p (length (bytesOf g)) g f refl) (all-cons i a)
+joinText-free m p g s (unprintable t) ss f h i a = all-cons (text-free m p (length (bytesOf g)) g f refl) (all-cons i a)
+joinText-free m p g s (escape e) ss f h i a = all-cons (text-free m p (length (bytesOf g)) g f refl) (all-cons i a)
+joinText-free m p g s tab ss f h i a = all-cons (text-free m p (length (bytesOf g)) g f refl) (all-cons i a)
+joinText-free m p g s crlf ss f h i a = all-cons (text-free m p (length (bytesOf g)) g f refl) (all-cons i a)
+joinText-free m p g s spans.lf ss f h i a = all-cons (text-free m p (length (bytesOf g)) g f refl) (all-cons i a)
 
 addText-free : (m : Option ℕ) (p : ℕ) (g : List Scalar) (ss : List Span) → All Free g → All FreeSpan ss → All FreeSpan (addText m p g ss)
 unfolding addText ControlFree
-addText-free m p g [] f a = all-cons f all-nil
+addText-free m p g [] f a = all-cons (text-free m p (length (bytesOf g)) g f refl) all-nil
 addText-free m p g (s ∷ ss) f (all-cons i a) = joinText-free m p g s (s .content) ss f i i a
 
-special-free : (c : Content) (k : ℕ) → NoText (special c k) → ControlFree c
+special-free : (c : Content) (k : ℕ) → NoText (special c k) → ControlFree k c
 unfolding NoText ControlFree
 special-free (text m t) k h = absurd h
 special-free (spans.control b) k h = tt
@@ -184,7 +263,43 @@ readPieces-free [] = λ m p. all-nil
 readPieces-free (run s ∷ ps) = λ m p. all-append (readFrom-free (clusters profile01 s) m p zero (clusters-alike profile01 s)) (readPieces-free ps m (p + length (bytesOf s)))
 readPieces-free (damaged b ∷ ps) = λ m p. all-cons tt (readPieces-free ps m (suc p))
 
--- no Text of a converted line holds a control
+-- ---- a converted line s, whatever stands behind it
+
+-- no Text holds a control
 pub spans-free : (s : List ℕ) → All FreeSpan (spans.spans profile01 s)
 unfolding spans.spans spansAt
 spans-free s = readPieces-free (runs (decode s)) none 0
+
+taken-length : (n : ℕ) (l : List ℕ) → length (take n l) ≤ n
+taken-length n l = cases (leb n (length l))
+    (λ e. omega (arith, length-take-le n l (leb-true n (length l) e)))
+    (λ e. let h = leb-false n (length l) e in omega (arith, ap length (take-all n l (omega arith))))
+
+module _ (line : List ℕ) (x : Span) (t : List Scalar) (is : x .content ≡ text none t) where
+  -- what the record says of the line
+  abbrev there : List ℕ
+  there = take (x .len) (drop (x .place) line)
+
+  text-there : contentOf line (recordOf x) ≡ x .content → runOf (decode there) ≡ t
+  unfolding contentOf contentIn textIn recordOf kindOf matchOf
+  text-there e = let f : text none (runOf (decode there)) ≡ text none t = rw is at e in cc
+
+  bytes-there : runOf (decode there) ≡ t → x .len ≡ length (bytesOf t) → there ≡ bytesOf t
+  bytes-there e n =
+      let p : bytesOf t ++ drop (length (bytesOf t)) there ≡ there = rw e at (run-bytes there) in
+      let short : length there ≤ x .len = taken-length (x .len) (drop (x .place) line) in
+      let past : length there ≤ length (bytesOf t) = omega (arith, short, n) in
+      sym p ∙ ap (λ (l : List ℕ). bytesOf t ++ l) (drop-of-length-le there past) ∙ append-nil (bytesOf t)
+
+  free-there : contentOf line (recordOf x) ≡ x .content → FreeSpan x → All Printable there
+  unfolding ControlFree
+  free-there e f =
+      let g : All Free t × (x .len ≡ length (bytesOf t)) = rw is at f in
+      let r = text-there e in
+      subst (All Printable) (sym (bytes-there r (g .1))) (text-printable (subst (All Valid) r (run-valid there)) (g .0))
+
+-- no byte of a Text is below 20 or 7F
+pub texts-printable : (s after : List ℕ) → All (λ (x : Span). (t : List Scalar) → x .content ≡ text none t → All Printable (take (x .len) (drop (x .place) (s ++ after)))) (spans.spans profile01 s)
+texts-printable s after =
+    let held : All (λ (x : Span). contentOf (s ++ after) (recordOf x) ≡ x .content) (spans.spans profile01 s) = rw (unmatched-spans profile01 s) at (content-front profile01 [] s after) in
+    all-map (λ x b t e. free-there (s ++ after) x t e (b .0) (b .1)) (all-both held (spans-free s))

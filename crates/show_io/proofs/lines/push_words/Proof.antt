@@ -15,7 +15,7 @@ same-length c = search needs
 
 returns : tie.Need-returns
 unfolding words
-returns c = said 1 _ _ _ (c .before .before .before .before .before .if1 .taken) (c .before .before .push-bytes .ensures)
+returns c = said words 1 _ _ _ (c .before .before .before .before .before .if1 .taken) (c .before .before .push-bytes .ensures)
 
 slice-aggregate-push-bytes-2 : tie.Need-slice-aggregate-push-bytes-2
 slice-aggregate-push-bytes-2 c = search needs
@@ -28,7 +28,7 @@ same-length-2 c = search needs
 
 returns-2 : tie.Need-returns-2
 unfolding words
-returns-2 c = said 4 _ _ _ (c .before .before .before .before .before .if2 .taken) (c .before .before .push-bytes2 .ensures)
+returns-2 c = said words 4 _ _ _ (c .before .before .before .before .before .if2 .taken) (c .before .before .push-bytes2 .ensures)
 
 slice-aggregate-push-bytes-3 : tie.Need-slice-aggregate-push-bytes-3
 slice-aggregate-push-bytes-3 c = search needs
@@ -41,7 +41,7 @@ same-length-3 c = search needs
 
 returns-3 : tie.Need-returns-3
 unfolding words
-returns-3 c = said 5 _ _ _ (c .before .before .before .before .before .if3 .taken) (c .before .before .push-bytes3 .ensures)
+returns-3 c = said words 5 _ _ _ (c .before .before .before .before .before .if3 .taken) (c .before .before .push-bytes3 .ensures)
 
 slice-aggregate-push-bytes-4 : tie.Need-slice-aggregate-push-bytes-4
 slice-aggregate-push-bytes-4 c = search needs
@@ -54,7 +54,7 @@ same-length-4 c = search needs
 
 returns-4 : tie.Need-returns-4
 unfolding words
-returns-4 c = said 8 _ _ _ (c .before .before .before .before .before .if4 .taken) (c .before .before .push-bytes4 .ensures)
+returns-4 c = said words 8 _ _ _ (c .before .before .before .before .before .if4 .taken) (c .before .before .push-bytes4 .ensures)
 
 slice-aggregate-push-bytes-5 : tie.Need-slice-aggregate-push-bytes-5
 slice-aggregate-push-bytes-5 c = search needs
@@ -67,7 +67,7 @@ same-length-5 c = search needs
 
 returns-5 : tie.Need-returns-5
 unfolding words
-returns-5 c = said 9 _ _ _ (c .before .before .before .before .before .if5 .taken) (c .before .before .push-bytes5 .ensures)
+returns-5 c = said words 9 _ _ _ (c .before .before .before .before .before .if5 .taken) (c .before .before .push-bytes5 .ensures)
 
 slice-aggregate-push-bytes-6 : tie.Need-slice-aggregate-push-bytes-6
 slice-aggregate-push-bytes-6 c = search needs

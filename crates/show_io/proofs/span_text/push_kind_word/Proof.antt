@@ -1,4 +1,5 @@
-use Rattle.show_io.proofs.SpanText.{said, kind-last}
+use Rattle.show_io.proofs.Refusals.{said}
+use Rattle.show_io.proofs.SpanText.{kind-last}
 use Rattle.show_io.specs.SpanText.{kindWord}
 use borrow.Author.Needs.{needs}
 use Rattle.show_io.proofs.span_text.push_kind_word.Statement.{statement}

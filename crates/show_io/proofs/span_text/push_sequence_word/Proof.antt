@@ -1,4 +1,5 @@
-use Rattle.show_io.proofs.SpanText.{said, sequence-last}
+use Rattle.show_io.proofs.Refusals.{said}
+use Rattle.show_io.proofs.SpanText.{sequence-last}
 use Rattle.show_io.specs.SpanText.{sequenceWord}
 use borrow.Author.Needs.{needs}
 use Rattle.show_io.proofs.span_text.push_sequence_word.Statement.{statement}
