@@ -1,6 +1,6 @@
 -- The call `screen_row`: refusals, and what an accepted call leaves.
 use mathlib.Core.Path.{_≡_, refl, sym, ap, _∙_}
-use Prim.Native.Nat.{ℕ}
+use Prim.Native.Nat.{ℕ, _≤_}
 use native.Mathlib.Omega.{arith}
 use mathlib.Core.Bool.{true, false, _&&_}
 use mathlib.Core.Logic.{_≢_}
@@ -8,7 +8,7 @@ use mathlib.Core.Option.{Option, some}
 use mathlib.Core.List.{List}
 use lib.ListN.{length}
 use lib.Dec.{leb}
-use borrow.Author.Tests.{eq-eqb, ne-eqb}
+use borrow.Author.Tests.{eq-eqb, ne-eqb, le-leb}
 use Rattle.text.specs.Tests.{in-range}
 use Rattle.text.specs.Class.{Profile}
 use Rattle.text.specs.Calls.Code as text
@@ -42,12 +42,24 @@ module _ (list : List ℕ) (width : ℕ) (row : List ℕ) (t : code.Screen) (roo
 
 -- ---- the call
 
-pub draw-ready : (row : List ℕ) (width : ℕ) → (leb 1 width && leb width 4096) ≡ true → length row ≡ 12288 → DrawReady width row
-draw-ready row width e l = let w = in-range 1 4096 width e in record { some = w .0; room = omega (arith, l, w .1) }
+module _ (row : List ℕ) (width : ℕ) where
+  module _ (e : (leb 1 width && leb width 128) ≡ true) where
+    pub narrow-ready : length row ≡ 384 → DrawReady width row
+    narrow-ready l = let w = in-range 1 128 width e in record { some = w .0; room = omega (arith, l, w .1) }
+
+    pub narrow-within : width ≤ 4096
+    narrow-within = omega (arith, in-range 1 128 width e .1)
+
+  module _ (e : (leb 1 width && leb width 4096) ≡ true) where
+    pub wide-ready : length row ≡ 12288 → DrawReady width row
+    wide-ready l = let w = in-range 1 4096 width e in record { some = w .0; room = omega (arith, l, w .1) }
+
+    pub wide-within : width ≤ 4096
+    wide-within = in-range 1 4096 width e .1
 
 module _ (P : Profile) (list : List ℕ) (width room : ℕ) where
-  pub row-shown : (row : List ℕ) (t : code.Screen) (s : Written) → (leb 1 width && leb width 4096) ≡ true → Drawn P list width row t → s ≡ shownOf (screenOf list width row t) room → s ≡ screenCall P width room list
-  row-shown row t s w d e = e ∙ ap (λ (o : Option Screen). shownOf o room) (d .same) ∙ screen-shown P width room list w
+  pub row-shown : (before row : List ℕ) (t : code.Screen) (s : Written) → DrawReady width before → width ≤ 4096 → Drawn P list width row t → s ≡ shownOf (screenOf list width row t) room → s ≡ screenCall P width room list
+  row-shown before row t s w h d e = e ∙ ap (λ (o : Option Screen). shownOf o room) (d .same) ∙ screen-shown P width room list (rw (le-leb 1 width (w .some), le-leb width 4096 h) refl)
 
   pub row-refused : (r : Answer) (l : List ℕ) → (leb 1 width && leb width 4096) ≡ false → converted r l ≡ text.refusal 5 room → written r l ≡ screenCall P width room list
   row-refused r l w e = refused r l 5 room e ∙ width-refused P width room list w

@@ -1,13 +1,12 @@
 // The bodies that documents 01 and 02 allow for each kind.
+use super::BODY_SIZE;
 use buffer::byte_at;
 use text::utf8::run_end;
 ghost use mathlib.Core.Path.{_≡_};
 ghost use Prim.Native.Nat.{_≤_};
 ghost use Rattle.screen.specs.WellFormed.{color, fields, bodySizes, ofKind};
 
-// The size of an attribute body, and of an old one, without alignment.
-pub(crate) const BODY_SIZE: usize = 25;
-
+// The size of an old attribute body, without alignment.
 pub(crate) const OLD_SIZE: usize = 24;
 
 // Is it a colour that stands at a place of a body?

@@ -1,5 +1,5 @@
 // A row in bytes: each cell's cluster with its length, and its attribute body.
-use super::body::BODY_SIZE;
+use super::BODY_SIZE;
 use super::row::part_len;
 use super::screen::Screen;
 use buffer::push_bytes;

@@ -1,5 +1,5 @@
 // The stored form of a change list (document 02, U8) and back: records whose lengths have 2 bytes, and 4.
-use super::body::BODY_SIZE;
+use super::BODY_SIZE;
 use super::body::OLD_SIZE;
 use super::body::is_of_kind;
 use super::records::Head;

@@ -4,20 +4,21 @@ use mathlib.Core.Logic.{_≢_, inr}
 use Prim.Native.Nat.{ℕ, zero, suc, _+_, _-_, _≤_, _<_}
 use native.Mathlib.Omega.{arith}
 use native.Mathlib.Numerals.{add-one}
-use mathlib.Core.Bool.{Bool, true, false, cond, _&&_}
+use mathlib.Core.Bool.{Bool, true, false, true≢false, cond, _&&_}
 use mathlib.Core.List.{List, [], _∷_, _++_}
 use lib.ListN.{length, take, drop, getD, length-drop, drop-of-length-le}
 use lib.Seq.{take-all, length-take-le}
-use lib.Dec.{eqb, leb}
+use lib.Dec.{T, eqb, leb, eqb→eq}
 use borrow.Author.Tests.{eq-eqb, ne-eqb, le-leb, lt-leb, leb-true, leb-false}
-use Rattle.text.specs.Tests.{cases}
+use Rattle.text.specs.Tests.{and-T, is-true, true-T, cases}
 use Rattle.buffer.specs.Sink.{Sink, emit}
 use Rattle.buffer.specs.Sink.Laws.{then-emit, emit-none}
 use Rattle.buffer.specs.Numbers.{smallerOf}
 use Rattle.screen.specs.Records.{littleEndian}
 use Rattle.screen.specs.Records.Contracts.{HeadReady}
 use Rattle.show_io.specs.Ansi.{alike, sameStyle, sameLink, styleOrder, uri, linkOrder, change}
-use Rattle.show_io.specs.Ansi.Contracts.{styleChange, linkChange}
+use Rattle.show_io.specs.Ansi.Contracts.{styleChange, linkChange, sameBody}
+use Rattle.show_io.specs.Ansi.Changes.{alike-same}
 
 -- ---- are_alike
 
@@ -49,6 +50,56 @@ module _ (n from : ℕ) (a b : List ℕ) (i : ℕ) (z : Comparing n from a b i) 
 
     pub comparing-turn : x ≡ y → Comparing n from a b (i + 1)
     comparing-turn e = record { within = omega arith; work = let f : from + (i + 1) ≡ suc (from + i) = omega arith in rw f (rw (eq-eqb x y e) at next) }
+
+-- ---- are_same
+
+and-true : (p : Bool) → (p && true) ≡ p
+and-true true = refl
+and-true false = refl
+
+and-and : (p q r : Bool) → ((p && q) && r) ≡ (p && (q && r))
+and-and true q r = refl
+and-and false q r = refl
+
+pub record Matching (a b : List ℕ) (same : Bool) (i : ℕ) : Type 0 where
+  pub within : i ≤ 25
+  pub first : length a ≡ 25
+  pub second : length b ≡ 25
+  pub work : (same && alike (25 - i) i a b) ≡ alike 25 0 a b
+
+module _ (a b : List ℕ) where
+  abbrev whole : Bool
+  whole = eqb (length a) 25 && eqb (length b) 25
+
+  pub matching-begins : whole ≡ true → Matching a b true 0
+  matching-begins e = let p = and-T (eqb (length a) 25) (eqb (length b) 25) (true-T e) in record { within = omega arith; first = eqb→eq (length a) 25 (p .0); second = eqb→eq (length b) 25 (p .1); work = refl }
+
+  pub matching-other : whole ≡ false → false ≡ sameBody a b
+  matching-other e = rw e refl
+
+  module _ (same : Bool) (i : ℕ) (w : Matching a b same i) where
+    pub matching-first : i < 25 → i < length a
+    matching-first h = omega (arith, w .first)
+
+    pub matching-second : i < 25 → i < length b
+    matching-second h = omega (arith, w .second)
+
+    pub matching-turn : i < 25 → Matching a b (same && eqb (getD a i 0) (getD b i 0)) (i + 1)
+    matching-turn h =
+        let one : i + 1 ≡ suc i = omega arith in
+        record {
+          within = omega arith;
+          first = w .first;
+          second = w .second;
+          work = and-and same (eqb (getD a i 0) (getD b i 0)) (alike (25 - (i + 1)) (i + 1) a b)
+              ∙ ap (λ (k : ℕ). same && (eqb (getD a i 0) (getD b i 0) && alike (25 - (i + 1)) k a b)) one
+              ∙ ap (λ (x : Bool). same && x) (sym (alike-next (25 - i) i (25 - (i + 1)) a b (omega arith))) ∙ w .work;
+        }
+
+    pub matching-ends : 25 ≤ i → same ≡ sameBody a b
+    matching-ends h =
+        rw (eq-eqb (length a) 25 (w .first), eq-eqb (length b) 25 (w .second))
+        (sym (and-true same) ∙ ap (λ (x : Bool). same && x) (sym (alike-none (25 - i) i a b (omega arith))) ∙ w .work)
 
 -- ---- numbers
 
@@ -133,6 +184,30 @@ module _ (line a b : List ℕ) (x : Bool) (p : x ≡ alike 8 16 a b) (s : Sink) 
 
   pub link-some : (z : Sink) → x ≡ false → z ≡ emit s (linkOrder (uri line b)) → z ≡ emit s (linkChange line a b)
   link-some z e w = rw (← p, e) w
+
+alike-each : (n at : ℕ) (a b : List ℕ) → T (alike n at a b) → (i : ℕ) → at ≤ i → i < at + n → getD a i 0 ≡ getD b i 0
+unfolding alike
+alike-each zero at a b t i h k = absurd (omega arith)
+alike-each (suc n) at a b t i h k =
+    let p = and-T (eqb (getD a at 0) (getD b at 0)) (alike n (suc at) a b) t in
+    cases (leb (suc at) i)
+    (λ e. alike-each n (suc at) a b (p .1) i (leb-true (suc at) i e) (omega arith))
+    (λ e. let g = leb-false (suc at) i e in let here : i ≡ at = omega arith in rw here (eqb→eq (getD a at 0) (getD b at 0) (p .0)))
+
+same-bytes : (a b : List ℕ) → sameBody a b ≡ true → (i : ℕ) → i < 25 → getD a i 0 ≡ getD b i 0
+same-bytes a b e i h = cases (eqb (length a) 25 && eqb (length b) 25)
+    (λ w. alike-each 25 0 a b (true-T (rw w at e)) i (omega arith) (omega arith))
+    (λ w. absurd (true≢false (sym (rw w at e))))
+
+-- two cells with the same body
+pub change-none : (line a b : List ℕ) (x : Bool) (s : Sink) → x ≡ sameBody a b → x ≡ true → s ≡ emit s (change line a b)
+unfolding change
+change-none line a b x s p e =
+    let f = same-bytes a b (sym p ∙ e) in
+    let style : alike 16 0 a b ≡ true = is-true _ (alike-same 16 0 a b (λ i h k. f i (omega arith))) in
+    let alignment : alike 1 24 a b ≡ true = is-true _ (alike-same 1 24 a b (λ i h k. f i (omega arith))) in
+    let link : alike 8 16 a b ≡ true = is-true _ (alike-same 8 16 a b (λ i h k. f i (omega arith))) in
+    rw (style, alignment, link) (sym (emit-none s))
 
 pub change-pushed : (line a b : List ℕ) (s m z : Sink) → m ≡ emit s (styleChange a b) → z ≡ emit m (linkChange line a b) → z ≡ emit s (change line a b)
 unfolding change

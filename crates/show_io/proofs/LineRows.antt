@@ -27,20 +27,37 @@ use Rattle.text.specs.Calls.{Written}
 use Rattle.text.specs.Calls.Code.{written}
 use Rattle.show_io.specs.Ansi.{cells, rowText}
 use Rattle.show_io.specs.declared.lines.View.{View}
-use Rattle.show_io.specs.Lines.{Printed, printed, bench, windowEnd, drawnRow, screenText, listText, rowOf, columnsIn, columnsOf, smallRow, largeRow, lineRow, heightOf, rowsFrom, allRows, spansText, lineText, refusalText}
-use Rattle.show_io.specs.Lines.Contracts.{PrintedTo, AnswerOf}
+use Rattle.show_io.specs.Lines.{Printed, printed, unless, bench, windowEnd, drawnRow, screenText, listText, rowOf, cellsRoom, columnsIn, columnsOf, smallRow, largeRow, lineRow, heightOf, rowsFrom, allRows, spansText, lineText, refusalText}
+use Rattle.show_io.specs.Lines.Contracts.{PrintedTo, AnswerOf, ReadTo, DrawnTo}
 use Rattle.show_io.specs.declared.lines.RowPrinted.{RowPrinted}
 
--- ---- draw
+-- ---- draw_small, draw_large
 
-module _ (c p l : ℕ) (view : View) (first n : ℕ) (line : List ℕ) (r : Answer) (conv numbers list : List ℕ) where
-  pub window-drawn : view .mode ≡ 0 → (end : ℕ) → end ≡ windowEnd view → DrawnNumbers (windowCall profile01 bench c p l (view .start) end none [] line) n r conv numbers list → DrawnNumbers (drawnRow c p l view first line) n r conv numbers list
+module _ (c p l : ℕ) (view : View) (first : ℕ) (line : List ℕ) where
+  window-is : view .mode ≡ 0 → (end : ℕ) → end ≡ windowEnd view → windowCall profile01 bench c p l (view .start) end none [] line ≡ drawnRow c p l view first line
   unfolding drawnRow
-  window-drawn e end f d = rw (eq-eqb (view .mode) 0 e, ← f) d
+  window-is e end f = rw (eq-eqb (view .mode) 0 e, ← f) refl
 
-  pub row-drawn : (view .mode ≢ 0) → DrawnNumbers (rowCall profile01 bench c p l first 1 (view .width) (view .mode) none [] line) n r conv numbers list → DrawnNumbers (drawnRow c p l view first line) n r conv numbers list
+  row-is : (view .mode ≢ 0) → rowCall profile01 bench c p l first 1 (view .width) (view .mode) none [] line ≡ drawnRow c p l view first line
   unfolding drawnRow
-  row-drawn e d = rw (ne-eqb (view .mode) 0 e) d
+  row-is e = rw (ne-eqb (view .mode) 0 e) refl
+
+  module _ (r : Answer) (conv list : List ℕ) where
+    pub small-window-drawn : view .mode ≡ 0 → (end : ℕ) → end ≡ windowEnd view → DrawnTo (windowCall profile01 bench c p l (view .start) end none [] line) r conv list → DrawnTo (drawnRow c p l view first line) r conv list
+    small-window-drawn e end f d = subst (λ (x : Drawn). DrawnTo x r conv list) (window-is e end f) d
+
+    pub small-row-drawn : (view .mode ≢ 0) → DrawnTo (rowCall profile01 bench c p l first 1 (view .width) (view .mode) none [] line) r conv list → DrawnTo (drawnRow c p l view first line) r conv list
+    small-row-drawn e d = subst (λ (x : Drawn). DrawnTo x r conv list) (row-is e) d
+
+    module _ (n : ℕ) (numbers : List ℕ) where
+      pub window-drawn : view .mode ≡ 0 → (end : ℕ) → end ≡ windowEnd view → DrawnNumbers (windowCall profile01 bench c p l (view .start) end none [] line) n r conv numbers list → DrawnNumbers (drawnRow c p l view first line) n r conv numbers list
+      window-drawn e end f d = subst (λ (x : Drawn). DrawnNumbers x n r conv numbers list) (window-is e end f) d
+
+      pub row-drawn : (view .mode ≢ 0) → DrawnNumbers (rowCall profile01 bench c p l first 1 (view .width) (view .mode) none [] line) n r conv numbers list → DrawnNumbers (drawnRow c p l view first line) n r conv numbers list
+      row-drawn e d = subst (λ (x : Drawn). DrawnNumbers x n r conv numbers list) (row-is e) d
+
+numbers-drawn : {d : Drawn} {n : ℕ} {r : Answer} {conv numbers list : List ℕ} → DrawnNumbers d n r conv numbers list → DrawnTo d r conv list
+numbers-drawn d = record { read = record { number = d .read .number; count = d .read .count; line = d .read .bytes }; changes = d .changes }
 
 -- ---- print_list
 
@@ -67,18 +84,21 @@ module _ (room columns : ℕ) (line list out : List ℕ) (t : Answer) (after : L
   unfolding listText
   list-refused at e = subst (λ (x : Written). PrintedTo (screenText line x) (sink out at) out (record { number = t .number; at = at })) is (screen-refused line out (written t after) at e)
 
--- ---- print_row
+-- ---- print_drawn
 
-module _ (room columns n : ℕ) (d : Drawn) (r : Answer) (conv numbers list out : List ℕ) (is : DrawnNumbers d n r conv numbers list) where
-  pub row-printed : (k : ℕ) (s : Sink) (q : RowPrinted) → r .number ≡ 0 → k ≡ smallerOf (r .count) (length list) → PrintedTo (listText room columns conv (take k list)) s out q → PrintedTo (rowOf room columns d) s out q
-  unfolding rowOf
-  row-printed k s q e m p =
-      let same : take k list ≡ take (d .count) (d .list) = ap (λ (j : ℕ). take j list) m ∙ take-smaller (r .count) list ∙ ap₂ (λ (j : ℕ) (l : List ℕ). take j l) (is .read .count) (is .changes) in
-      rw (eq-eqb (d .number) 0 (sym (is .read .number) ∙ e), ← same, ← (is .read .bytes)) p
+module _ (room columns : ℕ) (r : Answer) (conv list out : List ℕ) where
+  abbrev drawnText : Printed
+  drawnText = unless (r .number) (listText room columns conv (take (r .count) list))
 
-  pub row-refused : (at : ℕ) → (r .number ≢ 0) → PrintedTo (rowOf room columns d) (sink out at) out (record { number = r .number; at = at })
+  pub drawn-printed : (k : ℕ) (s : Sink) (q : RowPrinted) → r .number ≡ 0 → k ≡ smallerOf (r .count) (length list) → PrintedTo (listText room columns conv (take k list)) s out q → PrintedTo drawnText s out q
+  drawn-printed k s q e m p = let same : take k list ≡ take (r .count) list = ap (λ (j : ℕ). take j list) m ∙ take-smaller (r .count) list in rw (eq-eqb (r .number) 0 e, ← same) p
+
+  pub drawn-refused : (at : ℕ) → (r .number ≢ 0) → PrintedTo drawnText (sink out at) out (record { number = r .number; at = at })
+  drawn-refused at e = rw (ne-eqb (r .number) 0 e) record { number = refl; text = sym (emit-none (sink out at)) }
+
+  drawn-row : (d : Drawn) → DrawnTo d r conv list → drawnText ≡ rowOf room columns d
   unfolding rowOf
-  row-refused at e = rw (ne-eqb (d .number) 0 (λ z. e (is .read .number ∙ z))) record { number = is .read .number; text = sym (emit-none (sink out at)) }
+  drawn-row d is = rw (is .read .number, is .read .count, is .read .line, is .changes) refl
 
 -- ---- a refused row prints nothing
 
@@ -96,16 +116,29 @@ row-none room columns d h = cases (eqb (d .number) 0)
     (λ e. rw e (list-none room columns (d .conv) (take (d .count) (d .list)) (rw e at h)))
     (λ e. rw e refl)
 
--- ---- small_row, large_row, line_row
+-- ---- print_small, small_row, large_row, line_row
 
-module _ (view : View) (first c n l room : ℕ) (line out : List ℕ) (s : Sink) (r : RowPrinted) where
-  pub small-printed : c ≡ 2048 → n ≡ 256 → l ≡ 4096 → room ≡ 16384 → PrintedTo (rowOf room (view .width) (drawnRow c (placesIn n) l view first line)) s out r → PrintedTo (smallRow view line first) s out r
+module _ (view : View) (first room : ℕ) (line out : List ℕ) (s : Sink) (r : RowPrinted) where
+  abbrev smallOf : Drawn
+  smallOf = drawnRow 2048 64 4096 view first line
+
+  module _ (c l : ℕ) (a : Answer) (conv list : List ℕ) where
+    pub small-printed : c ≡ 2048 → l ≡ 4096 → DrawnTo (drawnRow c 64 l view first line) a conv list → PrintedTo (drawnText room (view .width) a conv list out) s out r → PrintedTo (rowOf room (view .width) smallOf) s out r
+    small-printed e f d p = subst (λ (x : Printed). PrintedTo x s out r) (drawn-row room (view .width) a conv list out smallOf (rw (e, f) at d)) p
+
+    pub large-printed : (columns n m : ℕ) (numbers : List ℕ) → columns ≡ columnsOf view first line → c ≡ 32768 → n ≡ 8192 → l ≡ 131072 → room ≡ 262144 → DrawnNumbers (drawnRow c (placesIn n) l view first line) m a conv numbers list
+        → PrintedTo (drawnText room columns a conv list out) s out r → PrintedTo (largeRow view line first) s out r
+    unfolding largeRow
+    large-printed columns n m numbers k e f g h d p =
+        subst (λ (x : Printed). PrintedTo x s out r) (drawn-row room columns a conv list out (drawnRow 32768 2048 131072 view first line) (numbers-drawn (rw (e, f, g) at d)) ∙ ap₂ (λ (i j : ℕ). rowOf i j (drawnRow 32768 2048 131072 view first line)) h k) p
+
+  pub narrow-printed : view .width ≤ 128 → room ≡ 4096 → PrintedTo (rowOf room (view .width) smallOf) s out r → PrintedTo (smallRow view line first) s out r
   unfolding smallRow
-  small-printed e f g h p = rw (e, f, g, h) at p
+  narrow-printed h e p = rw (le-leb (view .width) 128 h) (rw e at p)
 
-  pub large-printed : (columns : ℕ) → columns ≡ columnsOf view first line → c ≡ 32768 → n ≡ 8192 → l ≡ 131072 → room ≡ 262144 → PrintedTo (rowOf room columns (drawnRow c (placesIn n) l view first line)) s out r → PrintedTo (largeRow view line first) s out r
-  unfolding largeRow
-  large-printed columns k e f g h p = rw (e, f, g, h, k) at p
+  pub wide-printed : 128 < view .width → room ≡ 16384 → PrintedTo (rowOf room (view .width) smallOf) s out r → PrintedTo (smallRow view line first) s out r
+  unfolding smallRow
+  wide-printed h e p = rw (lt-leb (view .width) 128 h) (rw e at p)
 
 abbrev pub listOf : Sink → List ℕ
 listOf (sink l r) = l
@@ -119,7 +152,7 @@ module _ (view : View) (first : ℕ) (line out₀ out : List ℕ) (at : ℕ) (a 
   unfolding lineRow smallRow
   line-large out′ r e q =
       let differs : smallRow view line first .number ≢ 0 = λ z. e (p .number ∙ z) in
-      let none : smallRow view line first .text ≡ [] = row-none 16384 (view .width) (drawnRow 2048 64 4096 view first line) differs in
+      let none : smallRow view line first .text ≡ [] = row-none (cellsRoom (view .width)) (view .width) (drawnRow 2048 64 4096 view first line) differs in
       let same : out ≡ out₀ = ap listOf (p .text ∙ ap (emit (sink out₀ at)) none ∙ emit-none (sink out₀ at)) in
       rw (ne-eqb (smallRow view line first .number) 0 differs) (rw same at q)
 

@@ -71,10 +71,14 @@ unfoldable pub columnsOf : (view : View) (first : ℕ) (line : List ℕ) → ℕ
 unfolding rowsCall
 columnsOf view first line = cond (eqb (view .mode) 0) (view .width) (columnsIn (rowsCall profile01 32768 2048 16384 (view .width) (view .mode) line .rows) (view .width) first)
 
+-- bytes for the cells of most rows
+abbrev pub cellsRoom : ℕ → ℕ
+cellsRoom width = cond (leb width 128) 4096 16384
+
 -- a row in the width's columns, with memory that is enough for most lines; and where that is refused, in its own columns with more
 unfoldable pub smallRow : (view : View) (line : List ℕ) (first : ℕ) → Printed
 unfolding rowOf drawnRow
-smallRow view line first = rowOf 16384 (view .width) (drawnRow 2048 64 4096 view first line)
+smallRow view line first = rowOf (cellsRoom (view .width)) (view .width) (drawnRow 2048 64 4096 view first line)
 
 unfoldable pub largeRow : (view : View) (line : List ℕ) (first : ℕ) → Printed
 unfolding rowOf drawnRow columnsOf

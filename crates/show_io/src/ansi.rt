@@ -4,6 +4,7 @@ use buffer::push_byte;
 use buffer::push_bytes;
 use buffer::smaller;
 use rows_io::output::push_decimal;
+use screen::BODY_SIZE;
 use screen::records::read_length;
 ghost use mathlib.Core.Path.{_≡_};
 ghost use mathlib.Core.Bool.{cond};
@@ -13,10 +14,7 @@ ghost use lib.ListN.{length, take, drop};
 ghost use Rattle.buffer.specs.Sink.{sink, emit};
 ghost use Rattle.screen.specs.Records.{littleEndian};
 ghost use Rattle.show_io.specs.Ansi.{cells, valued, colored, fontOf, flagsOf, colorsOf, further, styleOrder, uri, linkOrder, alike, change, rowText};
-ghost use Rattle.show_io.specs.Ansi.Contracts.{styleChange, linkChange, placesAt, bodyIn, clusterIn, InRow, cellText};
-
-// The size of an attribute body.
-const BODY: usize = 25;
+ghost use Rattle.show_io.specs.Ansi.Contracts.{styleChange, linkChange, sameBody, placesAt, bodyIn, clusterIn, InRow, cellText};
 
 // A cell's places in a row: where its cluster and its body begin, and where it ends.
 struct Places {
@@ -183,10 +181,29 @@ fn push_link_change(out: &mut [u8], at: usize, line: &[u8], was: &[u8], body: &[
     push_link(out, at, line, body)
 }
 
-// From the attributes of one body to those of another.
+// Are two whole bodies the same? All bytes are looked at, so that the compiler may take many at once.
+fn are_same(a: &[u8], b: &[u8]) -> bool
+    ensures { λ r. ⌜ r ≡ sameBody (now (a .entry)) (now (b .entry)) ⌝ }
+{
+    if (a.len() == BODY_SIZE) & (b.len() == BODY_SIZE) {
+        let mut same = true;
+        let mut i = 0;
+        while i < BODY_SIZE {
+            same = same & (a[i] == b[i]);
+            i += 1;
+        }
+        return same;
+    }
+    false
+}
+
+// From the attributes of one body to those of another; from a cell to the next they are the same mostly.
 fn push_change(out: &mut [u8], at: usize, line: &[u8], was: &[u8], body: &[u8]) -> usize
     ensures { λ r. ⌜ sink (now (out .exit)) r ≡ emit (sink (now (out .entry)) at) (change (now (line .entry)) (now (was .entry)) (now (body .entry))) ⌝ }
 {
+    if are_same(was, body) {
+        return at;
+    }
     let a = push_style_change(out, at, was, body);
     push_link_change(out, a, line, was, body)
 }
@@ -200,7 +217,7 @@ fn places_at(row: &[u8], at: usize) -> Places
     Places {
         cluster: smaller(at + 4, row.len()),
         body: smaller(at + 4 + len, row.len()),
-        end: smaller(at + 4 + len + BODY, row.len()),
+        end: smaller(at + 4 + len + BODY_SIZE, row.len()),
     }
 }
 

@@ -1,5 +1,6 @@
 // Lines: all rows of a line in turn, or a refusal in its place.
 use super::ansi::push_row;
+use super::few_spans;
 use super::span_text::push_numbers;
 use buffer::push_byte;
 use buffer::push_bytes;
@@ -14,15 +15,15 @@ use spans::numbers::read_numbers;
 use text::Answer;
 ghost use mathlib.Core.Path.{_≡_};
 ghost use Prim.Native.Nat.{_*_};
-ghost use lib.ListN.{length};
+ghost use lib.ListN.{length, take};
 ghost use Rattle.text.specs.Width.{profile01};
 ghost use Rattle.buffer.specs.Sink.{sink, emit};
 ghost use Rattle.buffer.specs.Numbers.{smallerOf};
 ghost use Rattle.spans.specs.Numbers.{placesIn};
 ghost use Rattle.rows.specs.Calls.{heightCall};
 ghost use Rattle.drawing.specs.Numbers.{DrawnNumbers};
-ghost use Rattle.show_io.specs.Lines.{windowEnd, drawnRow, listText, rowOf, columnsIn, columnsOf, smallRow, largeRow, lineRow, words, refusedText, refusalText, heightOf, rowsFrom, spansText, lineText};
-ghost use Rattle.show_io.specs.Lines.Contracts.{PrintedTo, AnswerOf, answerText};
+ghost use Rattle.show_io.specs.Lines.{windowEnd, drawnRow, unless, listText, rowOf, columnsIn, columnsOf, smallRow, largeRow, lineRow, words, refusedText, refusalText, heightOf, rowsFrom, spansText, lineText};
+ghost use Rattle.show_io.specs.Lines.Contracts.{PrintedTo, AnswerOf, DrawnTo, answerText};
 
 // What is drawn of a line: in mode 0 the window of `width` columns from column `start` on, in modes 1 to 4 its rows at that width; in mode 5
 // its spans, without regard to start and width.
@@ -51,46 +52,6 @@ fn window_end(view: View) -> usize
     usize::MAX
 }
 
-// The window in mode 0, or else a row.
-fn draw(
-    line: &[u8],
-    view: View,
-    first: usize,
-    conv: &mut [u8],
-    numbers: &mut [usize],
-    list: &mut [u8],
-) -> Answer
-    ensures { λ r. ⌜ DrawnNumbers (drawnRow (length (now (conv .entry))) (placesIn (length (now (numbers .entry)))) (length (now (list .entry))) view first (now (line .entry))) (length (now (numbers .entry))) r (now (conv .exit)) (now (numbers .exit)) (now (list .exit)) ⌝ }
-{
-    let none: [usize; 0] = [];
-    if view.mode == 0 {
-        return draw_window_numbers(
-            BENCH,
-            line,
-            &none,
-            usize::MAX,
-            view.start,
-            window_end(view),
-            conv,
-            numbers,
-            list,
-        );
-    }
-    draw_row_numbers(
-        BENCH,
-        line,
-        &none,
-        usize::MAX,
-        first,
-        1,
-        view.width,
-        view.mode,
-        conv,
-        numbers,
-        list,
-    )
-}
-
 // A change list in a screen row.
 fn print_list(
     list: &[u8],
@@ -117,51 +78,85 @@ fn print_list(
     }
 }
 
-// A row, with lent memory.
-fn print_row(
-    line: &[u8],
-    view: View,
-    first: usize,
+// The same of a drawing, by its answer.
+fn print_drawn(
+    drawn: Answer,
+    conv: &[u8],
+    list: &[u8],
     columns: usize,
-    conv: &mut [u8],
-    numbers: &mut [usize],
-    list: &mut [u8],
     cells: &mut [u8],
     out: &mut [u8],
     at: usize,
 ) -> RowPrinted
-    ensures { λ r. ⌜ PrintedTo (rowOf (length (now (cells .entry))) columns (drawnRow (length (now (conv .entry))) (placesIn (length (now (numbers .entry)))) (length (now (list .entry))) view first (now (line .entry)))) (sink (now (out .entry)) at) (now (out .exit)) r ⌝ }
+    ensures { λ r. ⌜ PrintedTo (unless (drawn .number) (listText (length (now (cells .entry))) columns (now (conv .entry)) (take (drawn .count) (now (list .entry))))) (sink (now (out .entry)) at) (now (out .exit)) r ⌝ }
 {
-    let d = draw(line, view, first, conv, numbers, list);
-    if d.number == 0 {
-        let n = smaller(d.count, list.len());
+    if drawn.number == 0 {
+        let n = smaller(drawn.count, list.len());
         return print_list(&list[..n], columns, conv, cells, out, at);
     }
     RowPrinted {
-        number: d.number,
+        number: drawn.number,
         at: at,
     }
+}
+
+// The window in mode 0, or else a row.
+fn draw_small(line: &[u8], view: View, first: usize, conv: &mut [u8], list: &mut [u8]) -> Answer
+    ensures { λ r. ⌜ DrawnTo (drawnRow (length (now (conv .entry))) 64 (length (now (list .entry))) view first (now (line .entry))) r (now (conv .exit)) (now (list .exit)) ⌝ }
+{
+    let none: [usize; 0] = [];
+    if view.mode == 0 {
+        return few_spans::draw_window(
+            BENCH,
+            line,
+            &none,
+            usize::MAX,
+            view.start,
+            window_end(view),
+            conv,
+            list,
+        );
+    }
+    few_spans::draw_row(
+        BENCH,
+        line,
+        &none,
+        usize::MAX,
+        first,
+        1,
+        view.width,
+        view.mode,
+        conv,
+        list,
+    )
+}
+
+// A row with little memory, that of its cells lent.
+fn print_small(
+    line: &[u8],
+    view: View,
+    first: usize,
+    cells: &mut [u8],
+    out: &mut [u8],
+    at: usize,
+) -> RowPrinted
+    ensures { λ r. ⌜ PrintedTo (rowOf (length (now (cells .entry))) (view .width) (drawnRow 2048 64 4096 view first (now (line .entry)))) (sink (now (out .entry)) at) (now (out .exit)) r ⌝ }
+{
+    let mut conv = [0u8; 2048];
+    let mut list = [0u8; 4096];
+    let d = draw_small(line, view, first, &mut conv, &mut list);
+    print_drawn(d, &conv, &list, view.width, cells, out, at)
 }
 
 fn small_row(line: &[u8], view: View, first: usize, out: &mut [u8], at: usize) -> RowPrinted
     ensures { λ r. ⌜ PrintedTo (smallRow view (now (line .entry)) first) (sink (now (out .entry)) at) (now (out .exit)) r ⌝ }
 {
-    let mut conv = [0u8; 2048];
-    let mut numbers = [0usize; 256];
-    let mut list = [0u8; 4096];
+    if view.width <= 128 {
+        let mut cells = [0u8; 4096];
+        return print_small(line, view, first, &mut cells, out, at);
+    }
     let mut cells = [0u8; 16384];
-    print_row(
-        line,
-        view,
-        first,
-        view.width,
-        &mut conv,
-        &mut numbers,
-        &mut list,
-        &mut cells,
-        out,
-        at,
-    )
+    print_small(line, view, first, &mut cells, out, at)
 }
 
 // The columns of a row in a list of rows, or the width where that is more.
@@ -200,6 +195,45 @@ fn row_columns(line: &[u8], view: View, first: usize) -> usize
     columns_in(&rows, view.width, first)
 }
 
+fn draw_large(
+    line: &[u8],
+    view: View,
+    first: usize,
+    conv: &mut [u8],
+    numbers: &mut [usize],
+    list: &mut [u8],
+) -> Answer
+    ensures { λ r. ⌜ DrawnNumbers (drawnRow (length (now (conv .entry))) (placesIn (length (now (numbers .entry)))) (length (now (list .entry))) view first (now (line .entry))) (length (now (numbers .entry))) r (now (conv .exit)) (now (numbers .exit)) (now (list .exit)) ⌝ }
+{
+    let none: [usize; 0] = [];
+    if view.mode == 0 {
+        return draw_window_numbers(
+            BENCH,
+            line,
+            &none,
+            usize::MAX,
+            view.start,
+            window_end(view),
+            conv,
+            numbers,
+            list,
+        );
+    }
+    draw_row_numbers(
+        BENCH,
+        line,
+        &none,
+        usize::MAX,
+        first,
+        1,
+        view.width,
+        view.mode,
+        conv,
+        numbers,
+        list,
+    )
+}
+
 fn large_row(line: &[u8], view: View, first: usize, out: &mut [u8], at: usize) -> RowPrinted
     ensures { λ r. ⌜ PrintedTo (largeRow view (now (line .entry)) first) (sink (now (out .entry)) at) (now (out .exit)) r ⌝ }
 {
@@ -208,18 +242,8 @@ fn large_row(line: &[u8], view: View, first: usize, out: &mut [u8], at: usize) -
     let mut numbers = [0usize; 8192];
     let mut list = [0u8; 131072];
     let mut cells = [0u8; 262144];
-    print_row(
-        line,
-        view,
-        first,
-        columns,
-        &mut conv,
-        &mut numbers,
-        &mut list,
-        &mut cells,
-        out,
-        at,
-    )
+    let d = draw_large(line, view, first, &mut conv, &mut numbers, &mut list);
+    print_drawn(d, &conv, &list, columns, &mut cells, out, at)
 }
 
 // A row of a line: with little memory, and where that is refused, with more.
@@ -237,8 +261,7 @@ fn small_height(line: &[u8], view: View) -> Answer
     ensures { λ r. ⌜ AnswerOf (heightCall profile01 2048 64 (view .width) (view .mode) (now (line .entry))) r ⌝ }
 {
     let mut conv = [0u8; 2048];
-    let mut numbers = [0usize; 256];
-    height_numbers(line, view.width, view.mode, &mut conv, &mut numbers)
+    few_spans::height(line, view.width, view.mode, &mut conv)
 }
 
 fn large_height(line: &[u8], view: View) -> Answer

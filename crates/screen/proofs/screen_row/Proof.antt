@@ -1,47 +1,53 @@
-use Rattle.screen.proofs.RowCall.{draw-ready, row-shown, row-refused}
-use Rattle.text.specs.Class.Code.{profileOf}
+use Rattle.screen.proofs.RowCall.{narrow-ready, narrow-within, wide-ready, wide-within, row-refused}
 use borrow.Author.Needs.{needs}
 use Rattle.screen.proofs.screen_row.Statement.{statement}
 use Rattle.screen.proofs.screen_row.Tie as tie
 
-slice-aggregate-draw : tie.Need-slice-aggregate-draw
-slice-aggregate-draw c = search needs
+slice-aggregate-show-row : tie.Need-slice-aggregate-show-row
+slice-aggregate-show-row c = search needs
 
-draw-requires : tie.Need-draw-requires
-draw-requires c κs = search draw-ready
-
-slice-aggregate-finish : tie.Need-slice-aggregate-finish
-slice-aggregate-finish c = search needs
-
-finish-requires : tie.Need-finish-requires
-finish-requires c κs = search needs
+show-row-requires : tie.Need-show-row-requires
+show-row-requires c κs = (search narrow-ready, search narrow-within)
 
 same-length : tie.Need-same-length
 same-length c = search needs
 
 returns : tie.Need-returns
-unfolding profileOf
-returns c = search row-shown
+returns c = search needs
 
-refuse-requires : tie.Need-refuse-requires
-refuse-requires c κs = search needs
+slice-aggregate-show-row-2 : tie.Need-slice-aggregate-show-row-2
+slice-aggregate-show-row-2 c = search needs
+
+show-row-requires-2 : tie.Need-show-row-requires-2
+show-row-requires-2 c κs = (search wide-ready, search wide-within)
 
 same-length-2 : tie.Need-same-length-2
 same-length-2 c = search needs
 
 returns-2 : tie.Need-returns-2
-returns-2 c = search row-refused
+returns-2 c = search needs
+
+refuse-requires : tie.Need-refuse-requires
+refuse-requires c κs = search needs
+
+same-length-3 : tie.Need-same-length-3
+same-length-3 c = search needs
+
+returns-3 : tie.Need-returns-3
+returns-3 c = search row-refused
 
 pub screen-row-spec : {M : Type 1} → statement M
 screen-row-spec =
     tie.close
     (tie.spec
-    slice-aggregate-draw
-    draw-requires
-    slice-aggregate-finish
-    finish-requires
+    slice-aggregate-show-row
+    show-row-requires
     same-length
     returns
-    refuse-requires
+    slice-aggregate-show-row-2
+    show-row-requires-2
     same-length-2
-    returns-2)
+    returns-2
+    refuse-requires
+    same-length-3
+    returns-3)

@@ -49,7 +49,7 @@ alike-through (suc n) at a x b s t =
     let e : eqb (getD a at 0) (getD b at 0) ≡ true = eq-eqb (getD a at 0) (getD b at 0) (eqb→eq (getD a at 0) (getD x at 0) (p .0) ∙ eqb→eq (getD x at 0) (getD b at 0) (q .0)) in
     rw e (alike-through n (suc at) a x b (p .1) (q .1))
 
-alike-same : (n at : ℕ) (a b : List ℕ) → ((i : ℕ) → at ≤ i → i < at + n → getD a i 0 ≡ getD b i 0) → T (alike n at a b)
+pub alike-same : (n at : ℕ) (a b : List ℕ) → ((i : ℕ) → at ≤ i → i < at + n → getD a i 0 ≡ getD b i 0) → T (alike n at a b)
 unfolding alike
 alike-same zero at a b f = tt
 alike-same (suc n) at a b f = rw (eq-eqb (getD a at 0) (getD b at 0) (f at (omega arith) (omega arith))) (alike-same n (suc at) a b (λ i h k. f i (omega arith) (omega arith)))

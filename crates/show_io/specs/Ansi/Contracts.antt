@@ -1,11 +1,12 @@
 -- What the contracts of src/ansi.rt say of places in a row.
 use Prim.Native.Nat.{ℕ, _+_, _-_, _≤_}
-use mathlib.Core.Bool.{cond}
+use mathlib.Core.Bool.{Bool, false, cond, _&&_}
 use mathlib.Core.List.{List, [], _++_}
 use lib.ListN.{length, take, drop}
+use lib.Dec.{eqb}
 use Rattle.buffer.specs.Numbers.{smallerOf}
 use Rattle.screen.specs.WellFormed.{bodySize}
-use Rattle.show_io.specs.Ansi.{lengthAt, sameStyle, sameLink, styleOrder, linkOrder, uri, change}
+use Rattle.show_io.specs.Ansi.{lengthAt, alike, sameStyle, sameLink, styleOrder, linkOrder, uri, change}
 use Rattle.show_io.specs.declared.ansi.Places.{Places}
 
 -- the parts of a change
@@ -14,6 +15,10 @@ styleChange a b = cond (sameStyle a b) [] (styleOrder b)
 
 abbrev pub linkChange : List ℕ → List ℕ → List ℕ → List ℕ
 linkChange line a b = cond (sameLink a b) [] (linkOrder (uri line b))
+
+-- two whole bodies with the same bytes
+abbrev pub sameBody : List ℕ → List ℕ → Bool
+sameBody a b = cond (eqb (length a) bodySize && eqb (length b) bodySize) (alike bodySize 0 a b) false
 
 -- the cell that begins at a place, cut where the row ends
 abbrev pub placesAt : List ℕ → ℕ → Places

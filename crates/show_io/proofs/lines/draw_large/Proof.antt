@@ -1,7 +1,7 @@
 use Rattle.show_io.proofs.LineRows.{window-drawn, row-drawn}
 use borrow.Author.Needs.{needs}
-use Rattle.show_io.proofs.lines.draw.Statement.{statement}
-use Rattle.show_io.proofs.lines.draw.Tie as tie
+use Rattle.show_io.proofs.lines.draw_large.Statement.{statement}
+use Rattle.show_io.proofs.lines.draw_large.Tie as tie
 
 slice-aggregate-draw-window-numbers : tie.Need-slice-aggregate-draw-window-numbers
 slice-aggregate-draw-window-numbers c = search needs
@@ -42,8 +42,8 @@ same-length-6 c = search needs
 returns-2 : tie.Need-returns-2
 returns-2 c = search row-drawn
 
-pub draw-spec : {M : Type 1} → statement M
-draw-spec =
+pub draw-large-spec : {M : Type 1} → statement M
+draw-large-spec =
     tie.close
     (tie.spec
     slice-aggregate-draw-window-numbers
