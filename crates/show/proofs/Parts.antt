@@ -11,12 +11,12 @@ use lib.Dec.{ltb}
 use borrow.Author.Tests.{ltb-true, ltb-false}
 use Rattle.text.specs.Tests.{cases, and-T, true-T, is-true}
 use Rattle.show_io.specs.declared.lines.View.{View}
-use Rattle.show_io.specs.Input.{State, Read, lineLength, pieces, withPieces}
+use Rattle.show_io.specs.Input.{State, lineLength, pieces, withPieces}
 use Rattle.show_io.specs.Input.Contracts.{stateOf, readOf}
 use Rattle.show_io.specs.Input.Laws.{pieces-first, pieces-none}
 use Rattle.show_io.specs.declared.input.Reading.{Reading}
 use Rattle.show_io.specs.declared.input.Progress.{Progress}
-use Rattle.show.specs.Parts.{Shown, shown, behind, emptied, Given, inTurns, withPart, withParts}
+use Rattle.show.specs.Parts.{Shown, shown, behind, Given, inTurns, withPart, withParts}
 use Rattle.show.specs.Parts.Laws.{turnsLeft, turns-none, turns-end, turns-more, part-ends, part-goes-on, parts-none, parts-more}
 use Rattle.show.specs.Parts.Contracts.{Taken, written, Written, shownOf, start, InTurns, PartShown, MoreShown, AllShown}
 use Rattle.show.specs.declared.file.Reach.{Reach}

@@ -1,9 +1,9 @@
 -- Where the system takes all that it is handed, that is what is shown of the file, however the file is cut into parts.
-use Prim.Native.Nat.{ℕ, zero, suc, _+_, _≤_, _<_}
+use Prim.Native.Nat.{ℕ, zero, suc, _≤_, _<_}
 use native.Mathlib.Omega.{arith}
 use mathlib.Core.Bool.{Bool, true, false, cond}
 use mathlib.Core.List.{List, [], _∷_, _++_, append-nil, append-assoc}
-use mathlib.Core.Path.{_≡_, refl, sym, ap, ap₂, _∙_}
+use mathlib.Core.Path.{_≡_, refl, sym, ap, _∙_}
 use lib.ListN.{length, take, replicate, length-replicate, length-take}
 use lib.Dec.{eqb}
 use borrow.Author.Tests.{eqb-true, eqb-false, eq-eqb, ne-eqb}
@@ -15,10 +15,10 @@ use Rattle.show_io.specs.Input.{joinFirst, pieces, State, state, Read, countOf,
 use Rattle.show_io.specs.Input.Contracts.{stateOf, lastOf}
 use Rattle.show_io.specs.Input.Laws.{pieces-none}
 use Rattle.show_io.specs.Input.Parts.{each-none}
-use Rattle.show.specs.Whole.{textOf, listOf, fileShown}
+use Rattle.show.specs.Whole.{textOf, fileShown}
 use Rattle.show.specs.Whole.Buffers.{ShortName, short-name}
 use Rattle.show.specs.Whole.Laws.{Told, told, toldOf, Roomy, tell, withTold, tell-parts, with-line, Told-on, told-on, told-first, finished, told-file}
-use Rattle.show.specs.Parts.{Shown, shown, behind, emptied, Given, inTurns, withPart, withParts}
+use Rattle.show.specs.Parts.{Shown, shown, emptied, Given, inTurns, withPart, withParts}
 use Rattle.show.specs.Parts.Laws.{turns-end, turns-more, part-ends, part-goes-on, parts-none, parts-more}
 
 -- a part, of which all that is printed is taken

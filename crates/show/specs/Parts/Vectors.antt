@@ -1,13 +1,12 @@
 -- A file `f` at width 2 by clusters, in a line of 4 bytes and a buffer of 8.
 use mathlib.Core.Path.{_≡_, refl}
-use mathlib.Core.Bool.{Bool, true, false}
+use mathlib.Core.Bool.{true, false}
 use mathlib.Core.List.{List, [], _∷_}
-use Prim.Native.Nat.{ℕ}
 use lib.ListN.{replicate}
 use Rattle.text.specs.Width as width
 use Rattle.spans.specs.Search as search
-use Rattle.buffer.specs.Sink.{Sink, sink, saturated, put, emit}
-use Rattle.show_io.specs.Input.{State, state}
+use Rattle.buffer.specs.Sink.{sink, saturated, put, emit}
+use Rattle.show_io.specs.Input.{state}
 use Rattle.show_io.specs.declared.lines.View.{View}
 use Rattle.show.specs.Parts.{Shown, shown, Given, withParts}
 use Rattle.show.specs.Parts.File.{bytesOf}
