@@ -2,15 +2,14 @@
 use Prim.Native.Nat.{ℕ}
 use mathlib.Core.Bool.{Bool, _&&_}
 use mathlib.Core.List.{List, [], _∷_, _++_, append-assoc}
-use mathlib.Core.Path.{_≡_, refl, sym, ap, ap₂, _∙_}
+use mathlib.Core.Path.{_≡_, refl, sym, ap, _∙_}
 use Rattle.rows_io.specs.FirstLine.{empty, withBytes, inForm, partOf}
 use Rattle.rows_io.specs.FirstLine.Laws.{bytes-append}
 use Rattle.rows_io.specs.declared.first_line.FirstLine.{FirstLine}
 use Rattle.rows_io.specs.declared.first_line.Part.{Part}
 use Rattle.show_io.specs.declared.lines.View.{View}
-use Rattle.show.specs.Arguments.{pairOf, numberOf, inRange, argumentsOf, ArgumentRead, ArgumentsRead}
+use Rattle.show.specs.Arguments.{pairOf, numberOf, inRange, ArgumentRead, ArgumentsRead}
 use Rattle.show.specs.Arguments.Laws.{pair-is, arguments-are}
-use Rattle.show.specs.declared.arguments.Arguments.{Arguments}
 
 pub argument-read : (first : FirstLine) (text end : List ℕ) (a b : Part) → a ≡ partOf first text → b ≡ partOf (a .first) end → ArgumentRead first end (b .first)
 argument-read first text end a b e f =

@@ -1,16 +1,15 @@
 -- Arguments that are decimal digits are the numbers that these say.
 use Prim.Native.Nat.{ℕ, _<_}
-use mathlib.Core.Bool.{Bool, true, _&&_}
+use mathlib.Core.Bool.{true, _&&_}
 use mathlib.Core.List.{List, [], _∷_, _++_}
-use mathlib.Core.Path.{_≡_, refl, sym, ap, ap₂, _∙_}
+use mathlib.Core.Path.{_≡_, refl, sym, ap₂, _∙_}
 use native.Mathlib.Omega.{arith}
 use lib.ListN.{length}
 use Rattle.rows_io.specs.FirstLine.{empty, withBytes, inForm}
 use Rattle.rows_io.specs.FirstLine.Form.{allDigits, numberFrom, form-read}
 use Rattle.rows_io.specs.declared.first_line.FirstLine.{FirstLine}
 use Rattle.show_io.specs.declared.lines.View.{View}
-use Rattle.show.specs.Arguments.{pairOf, numberOf, viewOf, inRange, argumentsOf}
-use Rattle.show.specs.declared.arguments.Arguments.{Arguments}
+use Rattle.show.specs.Arguments.{pairOf, numberOf, inRange, argumentsOf}
 
 pub pair-is : (a b : List ℕ) → pairOf a b ≡ withBytes empty (a ++ 0x20 ∷ (b ++ 0x0A ∷ []))
 unfolding pairOf

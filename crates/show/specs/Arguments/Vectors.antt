@@ -1,8 +1,7 @@
 -- Arguments and what they say.
 use mathlib.Core.Path.{_≡_, refl}
-use mathlib.Core.Bool.{Bool, true, false}
-use mathlib.Core.List.{List, [], _∷_}
-use Prim.Native.Nat.{ℕ}
+use mathlib.Core.Bool.{true, false}
+use mathlib.Core.List.{[], _∷_}
 use Rattle.show.specs.Arguments.{argumentsOf}
 
 -- `80`, `4`, `10`

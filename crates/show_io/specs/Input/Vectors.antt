@@ -5,9 +5,8 @@ use Prim.Native.Nat.{ℕ}
 use lib.ListN.{replicate}
 use Rattle.text.specs.Width as width
 use Rattle.spans.specs.Search as search
-use Rattle.buffer.specs.Sink.{Sink, sink, saturated, put, emit}
-use Rattle.show_io.specs.Input.{State, state, Read, read, withPieces}
-use Rattle.show_io.specs.declared.lines.View.{View}
+use Rattle.buffer.specs.Sink.{sink, saturated, put, emit}
+use Rattle.show_io.specs.Input.{state, Read, read, withPieces}
 
 -- in a line of 4 bytes and a buffer of 8
 abbrev taken : ℕ → ℕ → List (List ℕ) → Read
