@@ -18,7 +18,7 @@ use Rattle.show_io.specs.declared.input.Reading.{Reading}
 use Rattle.show_io.specs.declared.input.Progress.{Progress}
 use Rattle.show.specs.Parts.{Shown, shown, behind, Given, inTurns, withPart, withParts}
 use Rattle.show.specs.Parts.Laws.{turnsLeft, turns-none, turns-end, turns-more, part-ends, part-goes-on, parts-none, parts-more}
-use Rattle.show.specs.Parts.Contracts.{Taken, written, Written, shownOf, start, PartShown, MoreShown, AllShown}
+use Rattle.show.specs.Parts.Contracts.{Taken, written, Written, shownOf, start, InTurns, PartShown, MoreShown, AllShown}
 use Rattle.show.specs.declared.file.Reach.{Reach}
 
 pub all-printed : (out : List ℕ) (at : ℕ) → length out ≤ at → out ≡ take at out
@@ -56,7 +56,7 @@ module _ (name : List ℕ) (view : View) (part line₀ out₀ : List ℕ) (befor
     t = stateOf (state .reading) line out
 
     -- the turns that are left change nothing
-    shown-by : (tooks : List Bool) → length tooks ≡ turns → turnsLeft name view room (state .on) tooks t (pieces (drop p part)) ≡ shown t [] (state .on) → PartShown name view line₀ out₀ line out before part state
+    shown-by : (tooks : List Bool) → length tooks ≡ turns → turnsLeft name view room (state .on) tooks t (pieces (drop p part)) ≡ shown t [] (state .on) → InTurns name view line₀ out₀ line out before part state
     shown-by tooks n e =
         record {
           taken = z .taken ++ tooks;
@@ -74,7 +74,7 @@ module _ (name : List ℕ) (view : View) (part line₀ out₀ : List ℕ) (befor
     left-none : (ps : List (List ℕ)) → turnsLeft name view room (state .on) [] t ps ≡ shown t [] (state .on)
     left-none ps = cases (state .on) (λ o. rw o (turns-none name view room t ps)) (λ o. left-shut [] ps o)
 
-    pub showing-stops : (state .on && ltb p (length part)) ≡ false → PartShown name view line₀ out₀ line out before part state
+    pub showing-stops : (state .on && ltb p (length part)) ≡ false → InTurns name view line₀ out₀ line out before part state
     showing-stops e =
         let tooks : List Bool = replicate turns true in
         shown-by tooks (length-replicate {A = Bool} turns true)
@@ -82,7 +82,7 @@ module _ (name : List ℕ) (view : View) (part line₀ out₀ : List ℕ) (befor
         (λ o. left-end tooks (pieces (drop p part)) (ap pieces (drop-of-length-le part (ltb-false p (length part) (ap (λ (b : Bool). b && ltb p (length part)) (sym o) ∙ e))) ∙ pieces-none))
         (λ o. left-shut tooks (pieces (drop p part)) o))
 
-    pub showing-ends : turns ≤ 0 → PartShown name view line₀ out₀ line out before part state
+    pub showing-ends : turns ≤ 0 → InTurns name view line₀ out₀ line out before part state
     showing-ends h = shown-by [] (omega arith) (left-none (pieces (drop p part)))
 
     pub showing-turn : (line′ out′ : List ℕ) (r : Progress) (s : Reach) → 0 < turns → (state .on && ltb p (length part)) ≡ true → length line′ ≡ length line → length out′ ≡ length out
@@ -115,16 +115,24 @@ module _ (name : List ℕ) (view : View) (part line₀ out₀ : List ℕ) (befor
 -- ---- one part
 
 module _ (name : List ℕ) (view : View) (line out : List ℕ) (before : Reading) where
-  -- no answer is asked for
-  pub more-ends : (n : ℕ) → n ≡ 0 → MoreShown name view line out line out before (record { reading = before; on = false })
-  more-ends n e =
-      let g : Given = record { part = []; taken = []; many = refl } in
-      record { given = g; handed = []; shows = sym (part-ends name view (length line) (stateOf before line out) g refl) }
+  pub part-none : (part : List ℕ) → length part ≡ 0 → PartShown name view line out line out before part (record { reading = before; on = false })
+  part-none part e =
+      let n : length (replicate (length part) true) ≡ length part = length-replicate {A = Bool} (length part) true in
+      record {
+        taken = replicate (length part) true;
+        many = n;
+        handed = [];
+        shows = sym (part-ends name view (length line) (stateOf before line out) (record { part = part; taken = replicate (length part) true; many = n }) e);
+      }
 
-  pub more-shown : (line′ out′ part : List ℕ) (n : ℕ) (r : Reach) → (n ≢ 0) → n ≡ length part → PartShown name view line out line′ out′ before part r → MoreShown name view line out line′ out′ before r
-  more-shown line′ out′ part n r some e z =
-      let g : Given = record { part = part; taken = z .taken; many = z .many } in
-      record { given = g; handed = z .handed; shows = z .shows ∙ sym (part-goes-on name view (length line) (stateOf before line out) g (λ q. some (e ∙ q))) }
+  module _ (line′ out′ part : List ℕ) (r : Reach) where
+    pub part-some : (length part ≢ 0) → InTurns name view line out line′ out′ before part r → PartShown name view line out line′ out′ before part r
+    part-some some z =
+        let g : Given = record { part = part; taken = z .taken; many = z .many } in
+        record { taken = z .taken; many = z .many; handed = z .handed; shows = z .shows ∙ sym (part-goes-on name view (length line) (stateOf before line out) g some) }
+
+    pub more-shown : PartShown name view line out line′ out′ before part r → MoreShown name view line out line′ out′ before r
+    more-shown z = record { given = record { part = part; taken = z .taken; many = z .many }; handed = z .handed; shows = z .shows }
 
 -- ---- part after part
 

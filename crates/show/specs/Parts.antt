@@ -12,6 +12,7 @@ use Rattle.show.specs.Whole.{textOf, listOf}
 pub mod Contracts
 pub mod Laws
 pub mod File
+pub mod Vectors
 
 -- what was read, what was handed to the system, and whether to go on
 pub record Shown : Type 0 where

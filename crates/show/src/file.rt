@@ -6,7 +6,7 @@ use show_io::input::with_part;
 use show_io::lines::View;
 ghost use mathlib.Core.Path.{_≡_};
 ghost use lib.ListN.{take};
-ghost use Rattle.show.specs.Parts.Contracts.{Taken, Written, PartShown, MoreShown, AllShown};
+ghost use Rattle.show.specs.Parts.Contracts.{Taken, Written, InTurns, PartShown, MoreShown, AllShown};
 
 // What was read, and whether to go on: the input has not ended, and what is printed can be written.
 struct Reach {
@@ -46,7 +46,7 @@ fn written(reading: Reading, out: &[u8]) -> Reach
 }
 
 // A part, written as often as enough is printed. Each turn reads one piece of a line or more, so there are no more turns than bytes.
-fn show_part(
+fn in_turns(
     name: &[u8],
     view: View,
     before: Reading,
@@ -54,7 +54,7 @@ fn show_part(
     line: &mut [u8],
     out: &mut [u8],
 ) -> Reach
-    ensures { λ r. ⌜ PartShown (now (name .entry)) view (now (line .entry)) (now (out .entry)) (now (line .exit)) (now (out .exit)) before (now (part .entry)) r ⌝ }
+    ensures { λ r. ⌜ InTurns (now (name .entry)) view (now (line .entry)) (now (out .entry)) (now (line .exit)) (now (out .exit)) before (now (part .entry)) r ⌝ }
 {
     let mut state = Reach {
         reading: before,
@@ -75,6 +75,26 @@ fn show_part(
     state
 }
 
+// A part that the system handed over; the input has ended where it is empty.
+fn show_part(
+    name: &[u8],
+    view: View,
+    before: Reading,
+    part: &[u8],
+    line: &mut [u8],
+    out: &mut [u8],
+) -> Reach
+    ensures { λ r. ⌜ PartShown (now (name .entry)) view (now (line .entry)) (now (out .entry)) (now (line .exit)) (now (out .exit)) before (now (part .entry)) r ⌝ }
+{
+    if part.len() == 0 {
+        return Reach {
+            reading: before,
+            on: false,
+        };
+    }
+    in_turns(name, view, before, part, line, out)
+}
+
 // One part more.
 fn more(fd: i32, name: &[u8], view: View, before: Reading, line: &mut [u8], out: &mut [u8]) -> Reach
     ensures { λ r. ⌜ MoreShown (now (name .entry)) view (now (line .entry)) (now (out .entry)) (now (line .exit)) (now (out .exit)) before r ⌝ }
@@ -85,12 +105,6 @@ fn more(fd: i32, name: &[u8], view: View, before: Reading, line: &mut [u8], out:
         os::fail(name);
     }
     let n = io::count(got, &buf);
-    if n == 0 {
-        return Reach {
-            reading: before,
-            on: false,
-        };
-    }
     show_part(name, view, before, &buf[..n], line, out)
 }
 

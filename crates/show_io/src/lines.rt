@@ -14,15 +14,15 @@ use screen::screen_row;
 use spans::numbers::read_numbers;
 use text::Answer;
 ghost use mathlib.Core.Path.{_≡_};
-ghost use lib.ListN.{length, take};
 ghost use Prim.Native.Nat.{_*_};
+ghost use lib.ListN.{length, take};
 ghost use Rattle.text.specs.Width.{profile01};
 ghost use Rattle.buffer.specs.Sink.{sink, emit};
 ghost use Rattle.buffer.specs.Numbers.{smallerOf};
 ghost use Rattle.spans.specs.Numbers.{placesIn};
 ghost use Rattle.rows.specs.Calls.{heightCall};
 ghost use Rattle.drawing.specs.Numbers.{DrawnNumbers};
-ghost use Rattle.show_io.specs.Lines.{windowEnd, drawnRow, unless, listText, rowOf, columnsIn, columnsOf, smallRow, largeRow, lineRow, words, refusedText, refusalText, heightOf, rowsFrom, lineText, spansText};
+ghost use Rattle.show_io.specs.Lines.{windowEnd, drawnRow, unless, listText, rowOf, columnsIn, columnsOf, smallRow, largeRow, lineRow, words, refusedText, refusalText, heightOf, rowsFrom, spansText, lineText};
 ghost use Rattle.show_io.specs.Lines.Contracts.{PrintedTo, AnswerOf, DrawnTo, answerText};
 
 // What is drawn of a line: in mode 0 the window of `width` columns from column `start` on, in modes 1 to 4 its rows at that width; in mode 5

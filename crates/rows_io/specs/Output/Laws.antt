@@ -135,7 +135,7 @@ fewer [] = omega arith
 fewer (d ∷ []) = omega arith
 fewer (d ∷ e ∷ l) = cases (eqb d 0x30) (λ p. rw p (omega (arith, fewer (e ∷ l)))) (λ p. rw p (omega arith))
 
-decimal-length : (n : ℕ) → length (decimal n) ≤ 20
+pub decimal-length : (n : ℕ) → length (decimal n) ≤ 20
 unfolding decimal
 decimal-length n = omega (arith, fewer (digits 10 20 n), digits-length 20 n)
 

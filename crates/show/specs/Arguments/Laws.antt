@@ -10,7 +10,6 @@ use Rattle.rows_io.specs.FirstLine.Form.{allDigits, numberFrom, form-read}
 use Rattle.rows_io.specs.declared.first_line.FirstLine.{FirstLine}
 use Rattle.show_io.specs.declared.lines.View.{View}
 use Rattle.show.specs.Arguments.{pairOf, numberOf, inRange, argumentsOf}
-use Rattle.show.specs.declared.arguments.Arguments.{Arguments}
 
 pub pair-is : (a b : List ℕ) → pairOf a b ≡ withBytes empty (a ++ 0x20 ∷ (b ++ 0x0A ∷ []))
 unfolding pairOf

@@ -32,12 +32,19 @@ abbrev pub start : Reading
 start = record { number = 0; kept = 0; at = 0 }
 
 module _ (name : List ℕ) (view : View) (line₀ out₀ line out : List ℕ) where
-  -- a part, as far as it was taken
-  pub record PartShown (before : Reading) (part : List ℕ) (r : Reach) : Type 0 where
+  -- a part in turns, as many as no part uses up
+  pub record InTurns (before : Reading) (part : List ℕ) (r : Reach) : Type 0 where
     pub taken : List Bool
     pub many : length taken ≡ length part
     pub handed : List ℕ
     pub shows : shownOf r line out handed ≡ inTurns name view (length line₀) taken (stateOf before line₀ out₀) (pieces part)
+
+  -- one part more
+  pub record PartShown (before : Reading) (part : List ℕ) (r : Reach) : Type 0 where
+    pub taken : List Bool
+    pub many : length taken ≡ length part
+    pub handed : List ℕ
+    pub shows : shownOf r line out handed ≡ withPart name view (length line₀) (stateOf before line₀ out₀) (record { part = part; taken = taken; many = many })
 
   -- the part that the system gives
   pub record MoreShown (before : Reading) (r : Reach) : Type 0 where

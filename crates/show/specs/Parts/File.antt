@@ -1,5 +1,5 @@
 -- Where the system takes all that it is handed, that is what is shown of the file, however the file is cut into parts.
-use Prim.Native.Nat.{ℕ, zero, suc, _+_, _≤_, _<_}
+use Prim.Native.Nat.{ℕ, zero, suc, _≤_, _<_}
 use native.Mathlib.Omega.{arith}
 use mathlib.Core.Bool.{Bool, true, false, cond}
 use mathlib.Core.List.{List, [], _∷_, _++_, append-nil, append-assoc}
@@ -16,7 +16,7 @@ use Rattle.show_io.specs.Input.Contracts.{stateOf, lastOf}
 use Rattle.show_io.specs.Input.Laws.{pieces-none}
 use Rattle.show_io.specs.Input.Parts.{each-none}
 use Rattle.show.specs.Whole.{textOf, fileShown}
-use Rattle.show.specs.Whole.Buffers.{ShortName}
+use Rattle.show.specs.Whole.Buffers.{ShortName, short-name}
 use Rattle.show.specs.Whole.Laws.{Told, told, toldOf, Roomy, tell, withTold, tell-parts, with-line, Told-on, told-on, told-first, finished, told-file}
 use Rattle.show.specs.Parts.{Shown, shown, emptied, Given, inTurns, withPart, withParts}
 use Rattle.show.specs.Parts.Laws.{turns-end, turns-more, part-ends, part-goes-on, parts-none, parts-more}
@@ -47,6 +47,10 @@ pieces-few [] = omega arith
 pieces-few (b ∷ s) =
     let h : length (pieces s) ≤ length s = pieces-few s in
     cases (eqb b 0x0A) (λ e. rw e (omega arith)) (λ e. rw e (omega (arith, joined-few b (pieces s))))
+
+-- with the last line, where no newline ends it
+abbrev pub ended : List ℕ → View → State → Sink
+ended name view t = cond (eqb (length (t .line)) 0) (t .printed) (withLine name view t (t .line))
 
 module _ (name : List ℕ) (view : View) (short : ShortName name) where
   abbrev turns : ℕ → State → List (List ℕ) → Shown
@@ -126,24 +130,22 @@ module _ (name : List ℕ) (view : View) (short : ShortName name) where
 
   -- ---- all of the file
 
-  -- with the last line, where no newline ends it
-  abbrev pub ended : State → Sink
-  ended t = cond (eqb (length (t .line)) 0) (t .printed) (withLine name view t (t .line))
-
-  ended-told : (t : State) (h : List ℕ) → Roomy (t .printed) → countOf (t .printed) ≡ 0 → h ++ textOf (ended t) ≡ finished name view (toldOf h t)
+  ended-told : (t : State) (h : List ℕ) → Roomy (t .printed) → countOf (t .printed) ≡ 0 → h ++ textOf (ended name view t) ≡ finished name view (toldOf h t)
   ended-told t h size none = cases (eqb (length (t .line)) 0) (λ e. rw e refl) (λ e. rw e (with-line name view short t h size (omega arith) (t .line) .0))
 
-  pub shows-file : (out : List ℕ) (ps : List (List ℕ)) → length out ≡ 589824
-      → let s : Shown = withParts name view 4097 (state 0 [] (sink out 0)) (given ps) in s .handed ++ textOf (ended (s .state)) ≡ fileShown name view (bytesOf ps)
-  shows-file out ps size =
-      let t : State = state 0 [] (sink out 0) in
-      let s : Shown = all t ps in
-      let z : Asked [] t (bytesOf ps) s = asked ps t [] size refl in
-      ended-told (s .state) (s .handed) (z .size) (z .none) ∙ ap (finished name view) (z .same) ∙ told-file name view (bytesOf ps)
+-- a file's name has at most 4,096 bytes
+pub shows-file : (name : List ℕ) (view : View) (out : List ℕ) (ps : List (List ℕ)) → length name ≤ 4096 → length out ≡ 589824
+    → let s : Shown = withParts name view 4097 (state 0 [] (sink out 0)) (given ps) in s .handed ++ textOf (ended name view (s .state)) ≡ fileShown name view (bytesOf ps)
+shows-file name view out ps few size =
+    let short : ShortName name = short-name name few in
+    let t : State = state 0 [] (sink out 0) in
+    let s : Shown = all name view short t ps in
+    let z : Asked name view short [] t (bytesOf ps) s = asked name view short ps t [] size refl in
+    ended-told name view short (s .state) (s .handed) (z .size) (z .none) ∙ ap (finished name view) (z .same) ∙ told-file name view (bytesOf ps)
 
 -- that is what with_last prints, in a buffer for the line as the program lends it
-pub last-ended : (name : List ℕ) (view : View) (short : ShortName name) (r : Reading) (line out : List ℕ) → 0 < length line → lastOf name view r line out ≡ ended name view short (stateOf r line out)
-last-ended name view short r line out some =
+pub last-ended : (name : List ℕ) (view : View) (r : Reading) (line out : List ℕ) → 0 < length line → lastOf name view r line out ≡ ended name view (stateOf r line out)
+last-ended name view r line out some =
     let t : State = stateOf r line out in
     ap (λ (b : Bool). cond b (t .printed) (withLine name view t (t .line)))
     (cases (eqb (r .kept) 0)

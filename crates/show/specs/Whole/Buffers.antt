@@ -11,6 +11,7 @@ use borrow.Author.Tests.{lt-ltb, le-ltb, leb-true, leb-false, ltb-true, ltb-fals
 use Rattle.text.specs.Tests.{cases}
 use Rattle.buffer.specs.Sink.{Sink, sink, put, emit, written}
 use Rattle.buffer.specs.Sink.Laws.{put-in, put-past, emit-room, written-length}
+use Rattle.rows_io.specs.Output.Laws.{decimal-length}
 use Rattle.show_io.specs.Lines.{refusalText}
 use Rattle.show_io.specs.Input.{countOf, fittedOf}
 use Rattle.show.specs.Whole.{textOf, listOf}
@@ -55,6 +56,10 @@ emit-text l xs c h =
 -- names whose refusals fit
 abbrev pub ShortName : List ℕ → Type 0
 ShortName name = (number : ℕ) → length (refusalText name number 9) ≤ 524288
+
+pub short-name : (name : List ℕ) → length name ≤ 4096 → ShortName name
+unfolding refusalText
+short-name name h number = simp length-append (omega (arith, decimal-length number))
 
 -- xs stands behind the first c bytes of l
 pub record Behind (l : List ℕ) (c : ℕ) (xs : List ℕ) (z : Sink) : Type 0 where

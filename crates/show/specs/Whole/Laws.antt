@@ -1,6 +1,6 @@
 -- What is read and printed piece by piece, however the input is cut into parts, is what is shown of the whole.
 use mathlib.Core.Path.{_≡_, refl, sym, ap, ap₂, _∙_}
-use Prim.Native.Nat.{ℕ, suc, _+_, _-_, _≤_, _<_}
+use Prim.Native.Nat.{ℕ, suc, _-_, _≤_, _<_}
 use native.Mathlib.Omega.{arith}
 use mathlib.Core.Bool.{Bool, true, false, cond}
 use mathlib.Core.List.{List, [], _∷_, _++_, append-nil, append-assoc}
@@ -10,7 +10,7 @@ use borrow.Author.Tests.{leb-false, lt-leb, ne-eqb}
 use Rattle.text.specs.Tests.{cases}
 use Rattle.buffer.specs.Sink.{Sink, sink, emit}
 use Rattle.show_io.specs.Lines.{lineText}
-use Rattle.show_io.specs.Input.{joinFirst, pieces, isEnd, State, state, Read, read, nextNumber, countOf, fittedOf, withLine, begun, withPiece, withPieces}
+use Rattle.show_io.specs.Input.{joinFirst, pieces, isEnd, State, state, Read, nextNumber, countOf, fittedOf, withLine, begun, withPiece, withPieces}
 use Rattle.show_io.specs.Input.Parts.{each, each-none, each-more, in-parts, end-joined, begun-twice}
 use Rattle.show.specs.Whole.{textOf, listOf, lineShown, linesShown, fileShown}
 use Rattle.show.specs.Whole.Buffers.{ShortName, fitted-text}

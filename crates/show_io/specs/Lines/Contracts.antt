@@ -10,8 +10,8 @@ use Rattle.buffer.specs.Sink.{Sink, sink, emit}
 use Rattle.spans.specs.Calls.{Read}
 use Rattle.drawing.specs.Calls.{Drawn}
 use Rattle.drawing.specs.Numbers.{readOf}
-use Rattle.show_io.specs.Lines.{Printed, refusalText}
 use Rattle.show_io.specs.SpanText.Contracts.{numbersText}
+use Rattle.show_io.specs.Lines.{Printed, refusalText}
 use Rattle.show_io.specs.declared.lines.RowPrinted.{RowPrinted}
 
 -- a refusal's number, and what is printed written to a buffer

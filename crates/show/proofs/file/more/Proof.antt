@@ -1,4 +1,4 @@
-use Rattle.show.proofs.Parts.{more-ends, more-shown}
+use Rattle.show.proofs.Parts.{more-shown}
 use borrow.Author.Needs.{needs}
 use Rattle.show.proofs.file.more.Statement.{statement}
 use Rattle.show.proofs.file.more.Tie as tie
@@ -21,9 +21,6 @@ slice-aggregate-count c = search needs
 count-requires : tie.Need-count-requires
 count-requires c κs = search needs
 
-returns : tie.Need-returns
-returns c = search more-ends
-
 array-share-prefix-buf : tie.Need-array-share-prefix-buf
 array-share-prefix-buf c = search needs
 
@@ -39,8 +36,8 @@ same-length c = search needs
 same-length-2 : tie.Need-same-length-2
 same-length-2 c = search needs
 
-returns-2 : tie.Need-returns-2
-returns-2 c = search more-shown
+returns : tie.Need-returns
+returns c = search more-shown
 
 pub more-spec : {M : Type 1} → statement M
 more-spec =
@@ -52,10 +49,9 @@ more-spec =
     fail-requires
     slice-aggregate-count
     count-requires
-    returns
     array-share-prefix-buf
     slice-aggregate-show-part
     show-part-requires
     same-length
     same-length-2
-    returns-2)
+    returns)
