@@ -474,6 +474,8 @@ def main(words):
     with tempfile.TemporaryDirectory() as folder:
         calls, measured = Library(library), Measured(folder)
         for width in map(int, widths.split(',')):
+            if width < len(mark(len(lines))):
+                sys.exit(f'width {width} is too narrow for the marks between lines')
             for mode in map(int, modes.split(',')):
                 trial = Trial(calls, measured, folder, lines, program, width, mode)
                 report = trial.report()
