@@ -21,7 +21,7 @@ JOINER, ABOVE_7F = '\u200d', 'é'
 
 def show_words(width, mode):
     """the words of `show` before the files"""
-    return [str(width), str(mode)]
+    return [str(width), str(mode), '0']
 
 
 # ---- the library
