@@ -198,7 +198,7 @@ same-bytes a b e i h = cases (eqb (length a) 25 && eqb (length b) 25)
     (λ w. alike-each 25 0 a b (true-T (rw w at e)) i (omega arith) (omega arith))
     (λ w. absurd (true≢false (sym (rw w at e))))
 
--- two cells with the same body
+-- between two cells with the same body
 pub change-none : (line a b : List ℕ) (x : Bool) (s : Sink) → x ≡ sameBody a b → x ≡ true → s ≡ emit s (change line a b)
 unfolding change
 change-none line a b x s p e =

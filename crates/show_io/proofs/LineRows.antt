@@ -9,7 +9,7 @@ use mathlib.Core.Option.{none}
 use lib.ListN.{length, take, getD, List·getD-eq-default}
 use lib.Seq.{take-all}
 use lib.Dec.{eqb, leb}
-use borrow.Author.Tests.{eq-eqb, ne-eqb, le-leb, lt-leb, leb-false, eqb-true}
+use borrow.Author.Tests.{eq-eqb, ne-eqb, le-leb, lt-leb, lt-ltb, le-ltb, leb-false, eqb-true}
 use Rattle.text.specs.Tests.{cases}
 use Rattle.text.specs.Width.{profile01}
 use Rattle.text.specs.declared.Answer.{Answer}
@@ -27,7 +27,7 @@ use Rattle.text.specs.Calls.{Written}
 use Rattle.text.specs.Calls.Code.{written}
 use Rattle.show_io.specs.Ansi.{cells, rowText}
 use Rattle.show_io.specs.declared.lines.View.{View}
-use Rattle.show_io.specs.Lines.{Printed, printed, unless, bench, windowEnd, drawnRow, screenText, listText, rowOf, cellsRoom, columnsIn, columnsOf, smallRow, largeRow, lineRow, heightOf, rowsFrom, allRows, spansText, lineText, refusalText}
+use Rattle.show_io.specs.Lines.{Printed, printed, unless, bench, windowEnd, drawnRow, screenText, listText, rowOf, isLong, cellsRoom, columnsIn, columnsOf, smallRow, largeRow, lineRow, heightOf, rowsFrom, allRows, lineText, refusalText, spansText}
 use Rattle.show_io.specs.Lines.Contracts.{PrintedTo, AnswerOf, DrawnTo}
 use Rattle.show_io.specs.declared.lines.RowPrinted.{RowPrinted}
 
@@ -120,10 +120,10 @@ row-none room columns d h = cases (eqb (d .number) 0)
 
 module _ (view : View) (first room : ℕ) (line out : List ℕ) (s : Sink) (r : RowPrinted) where
   abbrev smallOf : Drawn
-  smallOf = drawnRow 2048 64 4096 view first line
+  smallOf = drawnRow 2048 64 2048 view first line
 
   module _ (c l : ℕ) (a : Answer) (conv list : List ℕ) where
-    pub small-printed : c ≡ 2048 → l ≡ 4096 → DrawnTo (drawnRow c 64 l view first line) a conv list → PrintedTo (drawnText room (view .width) a conv list out) s out r → PrintedTo (rowOf room (view .width) smallOf) s out r
+    pub small-printed : c ≡ 2048 → l ≡ 2048 → DrawnTo (drawnRow c 64 l view first line) a conv list → PrintedTo (drawnText room (view .width) a conv list out) s out r → PrintedTo (rowOf room (view .width) smallOf) s out r
     small-printed e f d p = subst (λ (x : Printed). PrintedTo x s out r) (drawn-row room (view .width) a conv list out smallOf (rw (e, f) at d)) p
 
     pub large-printed : (columns n m : ℕ) (numbers : List ℕ) → columns ≡ columnsOf view first line → c ≡ 32768 → n ≡ 8192 → l ≡ 131072 → room ≡ 262144 → DrawnNumbers (drawnRow c (placesIn n) l view first line) m a conv numbers list
@@ -144,24 +144,32 @@ abbrev pub listOf : Sink → List ℕ
 listOf (sink l r) = l
 
 module _ (view : View) (first : ℕ) (line out₀ out : List ℕ) (at : ℕ) (a : RowPrinted) (p : PrintedTo (smallRow view line first) (sink out₀ at) out a) where
-  pub line-small : a .number ≡ 0 → PrintedTo (lineRow view line first) (sink out₀ at) out a
+  pub line-small : length line ≤ 256 → a .number ≡ 0 → PrintedTo (lineRow view line first) (sink out₀ at) out a
   unfolding lineRow
-  line-small e = rw (eq-eqb (smallRow view line first .number) 0 (sym (p .number) ∙ e)) p
+  line-small h e = rw (le-ltb 256 (length line) h, eq-eqb (smallRow view line first .number) 0 (sym (p .number) ∙ e)) p
 
-  pub line-large : (out′ : List ℕ) (r : RowPrinted) → (a .number ≢ 0) → PrintedTo (largeRow view line first) (sink out at) out′ r → PrintedTo (lineRow view line first) (sink out₀ at) out′ r
+  pub line-large : (out′ : List ℕ) (r : RowPrinted) → length line ≤ 256 → (a .number ≢ 0) → PrintedTo (largeRow view line first) (sink out at) out′ r → PrintedTo (lineRow view line first) (sink out₀ at) out′ r
   unfolding lineRow smallRow
-  line-large out′ r e q =
+  line-large out′ r h e q =
       let differs : smallRow view line first .number ≢ 0 = λ z. e (p .number ∙ z) in
-      let none : smallRow view line first .text ≡ [] = row-none (cellsRoom (view .width)) (view .width) (drawnRow 2048 64 4096 view first line) differs in
+      let none : smallRow view line first .text ≡ [] = row-none (cellsRoom (view .width)) (view .width) (drawnRow 2048 64 2048 view first line) differs in
       let same : out ≡ out₀ = ap listOf (p .text ∙ ap (emit (sink out₀ at)) none ∙ emit-none (sink out₀ at)) in
-      rw (ne-eqb (smallRow view line first .number) 0 differs) (rw same at q)
+      rw (le-ltb 256 (length line) h, ne-eqb (smallRow view line first .number) 0 differs) (rw same at q)
+
+pub line-long : (view : View) (first : ℕ) (line out : List ℕ) (s : Sink) (r : RowPrinted) → 256 < length line → PrintedTo (largeRow view line first) s out r → PrintedTo (lineRow view line first) s out r
+unfolding lineRow
+line-long view first line out s r h p = rw (lt-ltb 256 (length line) h) p
 
 -- a refused row prints nothing
 refused-text : (view : View) (first : ℕ) (line : List ℕ) → (lineRow view line first .number ≢ 0) → lineRow view line first .text ≡ []
 unfolding lineRow smallRow largeRow
-refused-text view first line h = cases (eqb (smallRow view line first .number) 0)
-    (λ e. absurd (h (rw e (eqb-true (smallRow view line first .number) 0 e))))
-    (λ e. rw e (row-none 262144 (columnsOf view first line) (drawnRow 32768 2048 131072 view first line) (rw e at h)))
+refused-text view first line h =
+    let none : (largeRow view line first .number ≢ 0) → largeRow view line first .text ≡ [] = row-none 262144 (columnsOf view first line) (drawnRow 32768 2048 131072 view first line) in
+    cases (isLong line)
+    (λ l. rw l (none (rw l at h)))
+    (λ l. cases (eqb (smallRow view line first .number) 0)
+    (λ e. absurd (h (rw (l, e) (eqb-true (smallRow view line first .number) 0 e))))
+    (λ e. rw (l, e) (none (rw (l, e) at h))))
 
 -- ---- columns
 
@@ -202,13 +210,17 @@ module _ (view : View) (first : ℕ) (line : List ℕ) where
 -- ---- heights
 
 module _ (view : View) (line : List ℕ) (a : Answer) (p : AnswerOf (heightCall profile01 2048 64 (view .width) (view .mode) line) a) where
-  pub height-small : a .number ≡ 0 → AnswerOf (heightOf view line) a
+  pub height-small : length line ≤ 256 → a .number ≡ 0 → AnswerOf (heightOf view line) a
   unfolding heightOf
-  height-small e = rw (eq-eqb (heightCall profile01 2048 64 (view .width) (view .mode) line .number) 0 (sym (p .number) ∙ e)) p
+  height-small h e = rw (le-ltb 256 (length line) h, eq-eqb (heightCall profile01 2048 64 (view .width) (view .mode) line .number) 0 (sym (p .number) ∙ e)) p
 
-  pub height-large : (r : Answer) → (a .number ≢ 0) → AnswerOf (heightCall profile01 32768 2048 (view .width) (view .mode) line) r → AnswerOf (heightOf view line) r
+  pub height-large : (r : Answer) → length line ≤ 256 → (a .number ≢ 0) → AnswerOf (heightCall profile01 32768 2048 (view .width) (view .mode) line) r → AnswerOf (heightOf view line) r
   unfolding heightOf
-  height-large r e q = rw (ne-eqb (heightCall profile01 2048 64 (view .width) (view .mode) line .number) 0 (λ z. e (p .number ∙ z))) q
+  height-large r h e q = rw (le-ltb 256 (length line) h, ne-eqb (heightCall profile01 2048 64 (view .width) (view .mode) line .number) 0 (λ z. e (p .number ∙ z))) q
+
+pub height-long : (view : View) (line : List ℕ) (r : Answer) → 256 < length line → AnswerOf (heightCall profile01 32768 2048 (view .width) (view .mode) line) r → AnswerOf (heightOf view line) r
+unfolding heightOf
+height-long view line r h p = rw (lt-ltb 256 (length line) h) p
 
 -- ---- all rows
 

@@ -2,6 +2,7 @@
 use mathlib.Core.Path.{_≡_, refl, sym, ap, ap₂, _∙_}
 use Prim.Native.Nat.{ℕ, suc, _+_, _-_, _≤_, _<_}
 use native.Mathlib.Omega.{arith}
+use mathlib.Core.Bool.{Bool, true, false}
 use mathlib.Core.List.{List, [], _∷_, _++_, append-assoc}
 use lib.ListN.{length, take, drop, getD, drop-of-length-le}
 use lib.Seq.{drop-cons, drop-drop}
@@ -17,9 +18,9 @@ use Rattle.screen.specs.WellFormed.{bodySize}
 use Rattle.screen.specs.Row.{Cell, cell}
 use Rattle.show_io.specs.Ansi.{lengthAt, cellAt, cells, change, textFrom, rowText}
 use Rattle.show_io.specs.Ansi.Cells.{cells-none, cells-first}
-use Rattle.show_io.specs.Ansi.Contracts.{placesAt, clusterIn, bodyIn, InRow, cellText}
+use Rattle.show_io.specs.Ansi.Contracts.{placesAt, clusterIn, bodyIn, InRow, cellText, sameBody}
 use Rattle.show_io.specs.declared.ansi.Places.{Places}
-use Rattle.show_io.proofs.Bodies.{part-cut}
+use Rattle.show_io.proofs.Bodies.{part-cut, change-none}
 
 pub places-are : (row : List ℕ) (at n x y z : ℕ) → n ≡ littleEndian (take 4 (drop at row)) → x ≡ smallerOf (at + 4) (length row) → y ≡ smallerOf (at + 4 + n) (length row) → z ≡ smallerOf (at + 4 + n + 25) (length row)
     → record { cluster = x; body = y; end = z } ≡ placesAt row at
@@ -72,6 +73,9 @@ module _ (row : List ℕ) (at : ℕ) where
 
 pub cell-pushed : (line row : List ℕ) (was next : Places) (s a z : Sink) → a ≡ emit s (change line (bodyIn row was) (bodyIn row next)) → z ≡ emit a (clusterIn row next) → z ≡ emit s (cellText line row was next)
 cell-pushed line row was next s a z e f = then-emit s a z _ _ e f
+
+pub cell-same : (line row : List ℕ) (was next : Places) (x : Bool) (s z : Sink) → x ≡ sameBody (bodyIn row was) (bodyIn row next) → x ≡ true → z ≡ emit s (clusterIn row next) → z ≡ emit s (cellText line row was next)
+cell-same line row was next x s z p e f = then-emit s s z _ _ (change-none line (bodyIn row was) (bodyIn row next) x s p e) f
 
 -- ---- push_row
 

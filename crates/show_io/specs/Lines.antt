@@ -1,10 +1,10 @@
 -- What the program `show` prints for a line: its rows one after the other, or a refusal in its place.
 use Prim.Native.Nat.{ℕ, zero, suc, _+_, _-_, _*_}
-use mathlib.Core.Bool.{cond}
+use mathlib.Core.Bool.{Bool, cond}
 use mathlib.Core.List.{List, [], _∷_, _++_}
 use mathlib.Core.Option.{none}
-use lib.ListN.{take, getD}
-use lib.Dec.{eqb, leb}
+use lib.ListN.{length, take, getD}
+use lib.Dec.{eqb, leb, ltb}
 use Rattle.text.specs.Width.{profile01}
 use Rattle.text.specs.Calls.{Written}
 use Rattle.spans.specs.Calls.{Read, readCall}
@@ -71,6 +71,10 @@ unfoldable pub columnsOf : (view : View) (first : ℕ) (line : List ℕ) → ℕ
 unfolding rowsCall
 columnsOf view first line = cond (eqb (view .mode) 0) (view .width) (columnsIn (rowsCall profile01 32768 2048 16384 (view .width) (view .mode) line .rows) (view .width) first)
 
+-- little memory has no room for the conversion of a line of more than 256 bytes (question 2)
+abbrev pub isLong : List ℕ → Bool
+isLong line = ltb 256 (length line)
+
 -- bytes for the cells of most rows
 abbrev pub cellsRoom : ℕ → ℕ
 cellsRoom width = cond (leb width 128) 4096 16384
@@ -78,7 +82,7 @@ cellsRoom width = cond (leb width 128) 4096 16384
 -- a row in the width's columns, with memory that is enough for most lines; and where that is refused, in its own columns with more
 unfoldable pub smallRow : (view : View) (line : List ℕ) (first : ℕ) → Printed
 unfolding rowOf drawnRow
-smallRow view line first = rowOf (cellsRoom (view .width)) (view .width) (drawnRow 2048 64 4096 view first line)
+smallRow view line first = rowOf (cellsRoom (view .width)) (view .width) (drawnRow 2048 64 2048 view first line)
 
 unfoldable pub largeRow : (view : View) (line : List ℕ) (first : ℕ) → Printed
 unfolding rowOf drawnRow columnsOf
@@ -89,7 +93,7 @@ unfolding smallRow largeRow
 lineRow view line first =
     let a : Printed = smallRow view line first in
     let b : Printed = largeRow view line first in
-    cond (eqb (a .number) 0) a b
+    cond (isLong line) b (cond (eqb (a .number) 0) a b)
 
 -- ---- refusals
 
@@ -121,7 +125,7 @@ unfolding heightCall
 heightOf view line =
     let a : Read = heightCall profile01 2048 64 (view .width) (view .mode) line in
     let b : Read = heightCall profile01 32768 2048 (view .width) (view .mode) line in
-    cond (eqb (a .number) 0) a b
+    cond (isLong line) b (cond (eqb (a .number) 0) a b)
 
 -- the spans that `read` found
 unfoldable pub readText : (name : List ℕ) (number : ℕ) → Read → List ℕ

@@ -197,13 +197,10 @@ fn are_same(a: &[u8], b: &[u8]) -> bool
     false
 }
 
-// From the attributes of one body to those of another; from a cell to the next they are the same mostly.
+// From the attributes of one body to those of another.
 fn push_change(out: &mut [u8], at: usize, line: &[u8], was: &[u8], body: &[u8]) -> usize
     ensures { λ r. ⌜ sink (now (out .exit)) r ≡ emit (sink (now (out .entry)) at) (change (now (line .entry)) (now (was .entry)) (now (body .entry))) ⌝ }
 {
-    if are_same(was, body) {
-        return at;
-    }
     let a = push_style_change(out, at, was, body);
     push_link_change(out, a, line, was, body)
 }
@@ -221,7 +218,7 @@ fn places_at(row: &[u8], at: usize) -> Places
     }
 }
 
-// A cell behind another: what changes, and its cluster.
+// A cell behind another: what changes, mostly nothing, and its cluster.
 fn push_cell(out: &mut [u8], at: usize, line: &[u8], row: &[u8], was: Places, cell: Places) -> usize
     requires { ⌜ InRow (now row) was ⌝ }
     requires { ⌜ InRow (now row) cell ⌝ }
@@ -232,6 +229,9 @@ fn push_cell(out: &mut [u8], at: usize, line: &[u8], row: &[u8], was: Places, ce
     let start = cell.cluster;
     let body = cell.body;
     let end = cell.end;
+    if are_same(&row[from..to], &row[body..end]) {
+        return push_bytes(out, at, &row[start..body]);
+    }
     let a = push_change(out, at, line, &row[from..to], &row[body..end]);
     push_bytes(out, a, &row[start..body])
 }

@@ -140,10 +140,10 @@ fn print_small(
     out: &mut [u8],
     at: usize,
 ) -> RowPrinted
-    ensures { λ r. ⌜ PrintedTo (rowOf (length (now (cells .entry))) (view .width) (drawnRow 2048 64 4096 view first (now (line .entry)))) (sink (now (out .entry)) at) (now (out .exit)) r ⌝ }
+    ensures { λ r. ⌜ PrintedTo (rowOf (length (now (cells .entry))) (view .width) (drawnRow 2048 64 2048 view first (now (line .entry)))) (sink (now (out .entry)) at) (now (out .exit)) r ⌝ }
 {
     let mut conv = [0u8; 2048];
-    let mut list = [0u8; 4096];
+    let mut list = [0u8; 2048];
     let d = draw_small(line, view, first, &mut conv, &mut list);
     print_drawn(d, &conv, &list, view.width, cells, out, at)
 }
@@ -246,10 +246,13 @@ fn large_row(line: &[u8], view: View, first: usize, out: &mut [u8], at: usize) -
     print_drawn(d, &conv, &list, columns, &mut cells, out, at)
 }
 
-// A row of a line: with little memory, and where that is refused, with more.
+// A row of a line: with little memory, and where that is refused, as it is for a long line, with more.
 fn line_row(line: &[u8], view: View, first: usize, out: &mut [u8], at: usize) -> RowPrinted
     ensures { λ r. ⌜ PrintedTo (lineRow view (now (line .entry)) first) (sink (now (out .entry)) at) (now (out .exit)) r ⌝ }
 {
+    if 256 < line.len() {
+        return large_row(line, view, first, out, at);
+    }
     let a = small_row(line, view, first, out, at);
     if a.number == 0 {
         return a;
@@ -275,6 +278,9 @@ fn large_height(line: &[u8], view: View) -> Answer
 fn line_height(line: &[u8], view: View) -> Answer
     ensures { λ r. ⌜ AnswerOf (heightOf view (now (line .entry))) r ⌝ }
 {
+    if 256 < line.len() {
+        return large_height(line, view);
+    }
     let a = small_height(line, view);
     if a.number == 0 {
         return a;

@@ -30,7 +30,7 @@ same-length-2 : tie.Need-same-length-2
 same-length-2 c = search needs
 
 returns : tie.Need-returns
-returns c = small-printed _ _ _ _ _ _ _ _ _ _ _ _ (length-replicate {A = ℕ} 2048 0) (length-replicate {A = ℕ} 4096 0) (c .before .before .before .before .before .before .before .before .before .before .before .draw-small .ensures) (c .before .before .before .before .print-drawn .ensures)
+returns c = small-printed _ _ _ _ _ _ _ _ _ _ _ _ (length-replicate {A = ℕ} 2048 0) (length-replicate {A = ℕ} 2048 0) (c .before .before .before .before .before .before .before .before .before .before .before .draw-small .ensures) (c .before .before .before .before .print-drawn .ensures)
 
 pub print-small-spec : {M : Type 1} → statement M
 print-small-spec =
