@@ -6,6 +6,7 @@ use lib.ListN.{replicate}
 use Rattle.text.specs.Width as width
 use Rattle.spans.specs.Search as search
 use Rattle.buffer.specs.Sink.{sink, saturated, put, emit}
+use Rattle.show_io.specs.Lines.{refusalText}
 use Rattle.show_io.specs.Input.{state}
 use Rattle.show_io.specs.declared.lines.View.{View}
 use Rattle.show.specs.Parts.{Shown, shown, Given, withParts}
@@ -43,7 +44,7 @@ abbrev ends : bytesOf ((0x61 ∷ []) ∷ (0x62 ∷ []) ∷ [] ∷ (0x63 ∷ []) 
 unfolding bytesOf
 ends = refl
 
--- 4,097 times `a`: `f:1: refused 1: more than 4,096 bytes`
-abbrev long : fileShown (0x66 ∷ []) view (replicate 4097 0x61) ≡ 0x66 ∷ 0x3A ∷ 0x31 ∷ 0x3A ∷ 0x20 ∷ 0x72 ∷ 0x65 ∷ 0x66 ∷ 0x75 ∷ 0x73 ∷ 0x65 ∷ 0x64 ∷ 0x20 ∷ 0x31 ∷ 0x3A ∷ 0x20 ∷ 0x6D ∷ 0x6F ∷ 0x72 ∷ 0x65 ∷ 0x20 ∷ 0x74 ∷ 0x68 ∷ 0x61 ∷ 0x6E ∷ 0x20 ∷ 0x34 ∷ 0x2C ∷ 0x30 ∷ 0x39 ∷ 0x36 ∷ 0x20 ∷ 0x62 ∷ 0x79 ∷ 0x74 ∷ 0x65 ∷ 0x73 ∷ 0x0A ∷ []
+-- 4,097 times `a`
+abbrev long : fileShown (0x66 ∷ []) view (replicate 4097 0x61) ≡ refusalText (0x66 ∷ []) 1 1
 unfolding fileShown width.profile01 search.inOrder
 long = refl
