@@ -5,7 +5,7 @@ use std::iter::FusedIterator;
 use std::ops::Range;
 
 /// A match of a search: its start and end in the text searched, which is the converted line
-/// without its final newline and without sequences at ESC.
+/// without its last newline and without each style order; other sequences at ESC stay in it.
 pub type Match = [usize; 2];
 
 /// What a span is.
@@ -31,7 +31,7 @@ pub enum SpanKind {
     Ignore,
     /// A tab.
     Tab,
-    /// CR LF at the line's end.
+    /// CR LF.
     CrLf,
     /// LF.
     Lf,
