@@ -13,10 +13,10 @@ mod recorded;
 use console_lines::raw::{self, Answer, WRAPS};
 use console_lines::{
     convert_into, draw_row_into, draw_window_into, height_into, narrowest_into, read_into,
-    restore_into, rows_into, screen_row_into, store_into, write_cells_into, Match, Reader, Refusal,
-    View, Wrapping, WrappingMode,
+    restore_into, rows_into, screen_row_into, store_into, write_cells_into, Refusal, View,
+    WrappingMode,
 };
-use recorded::{number_text, Call, Case, Lent, Part, Recorded, Sequence};
+use recorded::{number_text, pairs, wrapping, Call, Case, Lent, Part, Recorded, Sequence};
 use std::process::ExitCode;
 use std::{env, io, slice};
 
@@ -233,8 +233,11 @@ fn typed_answer(case: &Case) -> Option<String> {
             current,
             part,
         } => {
-            let matches = pairs(&case.matches)?;
-            let view = view(reader, &matches, current)?;
+            let view = View {
+                reader: recorded::reader(reader)?,
+                matches: &pairs(&case.matches)?,
+                current: Some(current),
+            };
             drawn(&line, &view, part, &mut lent)?
         }
         Call::ScreenRow { width } => printed(&line, width, list),
@@ -281,23 +284,4 @@ fn answer(result: Result<usize, Refusal>) -> Answer {
             count: 0,
         },
     }
-}
-
-fn pairs<T: Copy>(items: &[T]) -> Option<Box<[[T; 2]]>> {
-    let pairs = items.chunks(2).map(|pair| pair.try_into().ok());
-    pairs.collect()
-}
-
-fn wrapping(width: usize, mode: usize) -> Option<Wrapping> {
-    let mode = WrappingMode::from_number(mode)?;
-    Some(Wrapping { width, mode })
-}
-
-fn view(reader: usize, matches: &[Match], current: usize) -> Option<View<'_>> {
-    let readers = [Reader::Bench, Reader::Crew];
-    Some(View {
-        reader: *readers.get(reader)?,
-        matches,
-        current: Some(current),
-    })
 }

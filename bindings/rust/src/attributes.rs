@@ -1,7 +1,7 @@
 //! Attributes of text, as change lists and screen rows have them.
 
 /// The size of an attribute body, and of one without an alignment, as they were before.
-const BODY: usize = 25;
+pub(crate) const BODY: usize = 25;
 const OLD_BODY: usize = 24;
 
 /// How strong text is.

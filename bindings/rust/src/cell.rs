@@ -1,6 +1,6 @@
 //! Cells: of a screen row, and of a report for printers.
 
-use crate::attributes::CellAttributes;
+use crate::attributes::{CellAttributes, BODY};
 use std::iter::FusedIterator;
 
 /// A cell of a screen row.
@@ -12,9 +12,6 @@ pub struct Cell<'m> {
     /// How it is drawn.
     pub attributes: CellAttributes,
 }
-
-/// The bytes behind a cluster.
-const BODY: usize = 25;
 
 /// The cells of a screen row.
 #[derive(Clone, Debug)]

@@ -89,7 +89,7 @@ pub const fn list(line: usize) -> usize {
 pub const fn window(line: usize, columns: usize) -> usize {
     let line = smaller(line, LINE);
     if columns < line {
-        return smaller(38 * columns + 3 * line + 151, list(line));
+        return 38 * columns + 3 * line + 151;
     }
     list(line)
 }

@@ -8,7 +8,7 @@ mod recorded;
 
 use console_lines::*;
 use random::Random;
-use recorded::{number_text, Call, Case, Part, Recorded};
+use recorded::{byte_text, number_text, pairs, wrapping, Call, Case, Part, Recorded};
 
 const RECORDED: &str = include_str!("../../../crates/vectors/stdout");
 
@@ -48,7 +48,11 @@ fn given(case: &Case) -> Given {
         }
         Call::Draw { .. } => drawn(case)?.map(|drawn| {
             let count = drawn.list.len();
-            format!("{count} {} {}", line_text(&drawn.line), hex(&drawn.list))
+            format!(
+                "{count} {} {}",
+                line_text(&drawn.line),
+                byte_text(&drawn.list)
+            )
         }),
         Call::ScreenRow { width } => screen_row(line, width).map(|row| counted(row.as_bytes())),
         Call::Store => store(line).map(|out| counted(&out)),
@@ -67,7 +71,7 @@ fn drawn(case: &Case) -> Option<Result<DrawnLine, Refusal>> {
         return None;
     };
     let view = View {
-        reader: *[Reader::Bench, Reader::Crew].get(reader)?,
+        reader: recorded::reader(reader)?,
         matches: &pairs(&case.matches)?,
         current: Some(current),
     };
@@ -85,31 +89,10 @@ fn drawn(case: &Case) -> Option<Result<DrawnLine, Refusal>> {
     })
 }
 
-fn wrapping(width: usize, mode: usize) -> Option<Wrapping> {
-    let mode = WrappingMode::from_number(mode)?;
-    Some(Wrapping { width, mode })
-}
-
-fn pairs<T: Copy>(items: &[T]) -> Option<Vec<[T; 2]>> {
-    let pairs = items.chunks(2);
-    pairs.map(|pair| pair.try_into().ok()).collect()
-}
-
 // ---- the recorded form
 
-fn hex(bytes: &[u8]) -> String {
-    let last = bytes.iter().rposition(|byte| *byte != 0);
-    match last {
-        Some(last) => bytes[..=last]
-            .iter()
-            .map(|byte| format!("{byte:02x}"))
-            .collect(),
-        None => "-".to_string(),
-    }
-}
-
 fn counted(bytes: &[u8]) -> String {
-    format!("{} {}", bytes.len(), hex(bytes))
+    format!("{} {}", bytes.len(), byte_text(bytes))
 }
 
 fn line_text(line: &Line) -> String {
@@ -121,7 +104,7 @@ fn line_text(line: &Line) -> String {
         [span.kind.number(), span.place, span.len, matched]
     });
     let records: Vec<usize> = records.collect();
-    format!("{} {}", hex(&line.converted), number_text(&records))
+    format!("{} {}", byte_text(&line.converted), number_text(&records))
 }
 
 fn row_text(rows: &[Row]) -> String {
@@ -209,7 +192,7 @@ fn assert_enough<T>(line: &[u8], result: Result<T, Refusal>) -> bool {
         .as_ref()
         .err()
         .filter(|refusal| refusal.is_for_memory());
-    assert_eq!(memory, None, "{}", hex(line));
+    assert_eq!(memory, None, "{}", byte_text(line));
     result.is_ok()
 }
 

@@ -1,6 +1,6 @@
 //! The recorded cases of crates/vectors/stdout, one a line: oracle/README.md has their form.
 
-use console_lines::SpanRecord;
+use console_lines::{Reader, SpanRecord, Wrapping, WrappingMode};
 
 /// What lent memory holds before a call, so that each zero found was written.
 const PATTERN: u8 = 0xA7;
@@ -248,6 +248,25 @@ fn bytes(field: &str) -> Vec<u8> {
     pairs.map(|pair| byte(pair).expect("a byte")).collect()
 }
 
+// ---- the types of a call; none where they cannot say its numbers
+
+pub fn pairs<T: Copy>(items: &[T]) -> Option<Box<[[T; 2]]>> {
+    let pairs = items.chunks(2).map(|pair| pair.try_into().ok());
+    pairs.collect()
+}
+
+pub fn wrapping(width: usize, mode: usize) -> Option<Wrapping> {
+    let mode = WrappingMode::from_number(mode)?;
+    Some(Wrapping { width, mode })
+}
+
+pub fn reader(number: usize) -> Option<Reader> {
+    let readers = [Reader::Bench, Reader::Crew];
+    readers.get(number).copied()
+}
+
+// ---- lent memory
+
 /// Memory that is lent, each buffer an allocation of just its size.
 pub struct Lent {
     pub conv: Box<[u8]>,
@@ -288,7 +307,7 @@ fn without_zeros<T: PartialEq + Default>(items: &[T]) -> &[T] {
     &items[..last.map_or(0, |last| last + 1)]
 }
 
-fn byte_text(bytes: &[u8]) -> String {
+pub fn byte_text(bytes: &[u8]) -> String {
     let bytes = without_zeros(bytes).iter();
     or_none(bytes.map(|byte| format!("{byte:02x}")).collect())
 }
