@@ -19,11 +19,6 @@ PLAIN = (False,) * 10 + (None, None)
 JOINER, ABOVE_7F = '\u200d', 'é'
 
 
-def show_words(width, mode):
-    """the words of `show` before the files"""
-    return [str(width), str(mode), '0']
-
-
 # ---- the library
 
 class Answer(ctypes.Structure):
@@ -41,7 +36,7 @@ class Library:
         self.calls = ctypes.CDLL(path)
         self.conv = (ctypes.c_uint8 * 32768)()
         self.spans = (Span * 4096)()
-        self.rows = (ctypes.c_size_t * 16384)()
+        self.rows = (ctypes.c_size_t * 16386)()
         self.list = (ctypes.c_uint8 * 524288)()
         self.cells = (ctypes.c_uint8 * 524288)()
 
@@ -399,7 +394,8 @@ class Trial:
         texts = [cells for rows in self.rows if rows for cells in rows]
         measured.learn([text_of(cells) for cells in texts] + [cluster for cells in texts for cluster, body in cells])
         self.reasons = [[left_out(rows, i, width, measured) for i in range(len(rows or []))] for rows in self.rows]
-        with Pane(folder, width, [sys.executable, __file__, 'in-pane', program, *show_words(width, mode), write_lines(folder, lines)]) as pane:
+        show = [program, str(width), str(mode), '0', write_lines(folder, lines)]
+        with Pane(folder, width, [sys.executable, __file__, 'in-pane', *show]) as pane:
             self.shown = shown_lines(pane.screen(), len(lines))
 
     def report(self, rows=None):
