@@ -1,6 +1,6 @@
 // The rows that each line of standard input takes on a screen of WIDTH columns, by words.
 //
-//   height WIDTH
+//   height [WIDTH]     80 if none is given; status 2 where it is no number
 #include <console_lines.h>
 
 #include <cstdlib>
@@ -16,7 +16,12 @@ static console_answer height(const std::string &line, std::size_t width) {
 }
 
 int main(int argc, char **argv) {
-    const std::size_t width = argc > 1 ? std::strtoull(argv[1], nullptr, 10) : 80;
+    const std::string digits = argc > 1 ? argv[1] : "80";
+    if (argc > 2 || digits.empty() || digits.find_first_not_of("0123456789") != std::string::npos) {
+        std::cerr << "height [WIDTH]\n";
+        return 2;
+    }
+    const std::size_t width = std::strtoull(digits.c_str(), nullptr, 10);
     std::string line;
     for (std::size_t number = 1; std::getline(std::cin, line); number++) {
         const console_answer a = height(line, width);
