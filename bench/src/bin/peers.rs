@@ -10,6 +10,7 @@ mod timing;
 use oracle::source::SourceLine;
 use std::hint::black_box;
 use std::path::Path;
+use std::process::ExitCode;
 use std::time::Duration;
 use std::{env, fs};
 use timing::{medians, Effort};
@@ -17,15 +18,19 @@ use timing::{medians, Effort};
 const USAGE: &str = "usage: peers lines FOLDER    writes the lines: N and N.long of kind N
        peers read|rows FILE    nanoseconds of the source, the least of seven";
 
-fn main() {
+fn main() -> ExitCode {
     let arguments: Vec<String> = env::args().skip(1).collect();
     match arguments.iter().map(String::as_str).collect::<Vec<_>>()[..] {
         ["lines", folder] => write_lines(Path::new(folder)),
         [task @ ("read" | "rows"), file] => {
             println!("{:.0}", least(task, &fs::read(file).unwrap()))
         }
-        _ => panic!("{USAGE}"),
+        _ => {
+            eprintln!("{USAGE}");
+            return ExitCode::from(2);
+        }
     }
+    ExitCode::SUCCESS
 }
 
 fn write_lines(folder: &Path) {
