@@ -139,7 +139,7 @@ static inline const char *console_refusal_words(size_t number) {
     case CONSOLE_LIST_MALFORMED: return "the change list is malformed";
     case CONSOLE_TEXT_PASSES_LAST_COLUMN: return "a text passes the last column";
     case CONSOLE_BODY_TOO_LONG: return "a body has more than 65,535 bytes";
-    case CONSOLE_CELLS_MALFORMED: return "a cell is half, or its byte or style is another";
+    case CONSOLE_CELLS_MALFORMED: return "these are not whole cells of a byte 20 to 7E except 5F and a style 0 to 3";
     case CONSOLE_REPORT_TOO_SHORT: return "the output buffer is too short";
     case CONSOLE_NO_SUCH_READER: return "the reader is neither bench nor crew";
     default: return "no question has this number";

@@ -137,7 +137,9 @@ impl fmt::Display for Refusal {
             Refusal::MalformedList => "the change list is malformed",
             Refusal::TextPassesRow => "a text passes the last column",
             Refusal::BodyTooLong => "a body has more than 65,535 bytes",
-            Refusal::MalformedCells => "a cell is half, or its byte or style is another",
+            Refusal::MalformedCells => {
+                "these are not whole cells of a byte 20 to 7E except 5F and a style 0 to 3"
+            }
             Refusal::WrittenLineTooShort => "the output buffer is too short",
             Refusal::UnknownReader => "the reader is neither bench nor crew",
         })
