@@ -45,14 +45,17 @@ static void keep(struct met *m, size_t need, size_t size, const struct line *lin
     snprintf(m->call, sizeof m->call, "%s", call);
 }
 
+static int is_for_room(size_t number) {
+    return number == CONSOLE_CONV_TOO_SHORT || number == CONSOLE_SPANS_TOO_FEW || number == CONSOLE_ROWS_TOO_FEW ||
+           number == CONSOLE_OUTPUT_TOO_SHORT || number == CONSOLE_REPORT_TOO_SHORT;
+}
+
 /* A call that was lent so much and needs so much; one that needs nothing comes close to nothing. */
 static void note(enum bound b, console_answer a, size_t need, size_t size, const struct line *line, const char *call) {
     struct met *left = &least_left[b], *share = &largest_share[b];
     tried[b]++;
-    if (a.number == 2 || a.number == 4 || a.number == 6 || a.number == 9 || a.number == 17) {
-        if (too_short[b]++ == 0)
-            printf("TOO SHORT: CONSOLE_%s_SIZE, %s: %zu, refused %zu\n", names[b], call, lend(size), a.number);
-    }
+    if (is_for_room(a.number) && too_short[b]++ == 0)
+        printf("TOO SHORT: CONSOLE_%s_SIZE, %s: %zu, refused %zu\n", names[b], call, lend(size), a.number);
     if (need == 0)
         return;
     if (left->size == 0 || size - need <= left->size - left->need)
