@@ -228,18 +228,7 @@ fn typed_answer(case: &Case) -> Option<String> {
             tried = Some(found.as_ref().map_or(0, |(found, _)| found.tried));
             found.map(|(found, _)| found.width.unwrap_or(0))
         }
-        Call::Draw {
-            reader,
-            current,
-            part,
-        } => {
-            let view = View {
-                reader: recorded::reader(reader)?,
-                matches: &pairs(&case.matches)?,
-                current: Some(current),
-            };
-            drawn(&line, &view, part, &mut lent)?
-        }
+        Call::Draw { .. } => drawn(&line, case, &mut lent)?,
         Call::ScreenRow { width } => printed(&line, width, list),
         Call::Store => store_into(&line, list).map(<[u8]>::len),
         Call::Restore => restore_into(&line, list).map(<[u8]>::len),
@@ -248,7 +237,20 @@ fn typed_answer(case: &Case) -> Option<String> {
     Some(answer_text(case, answer(result), &lent, tried))
 }
 
-fn drawn(line: &[u8], view: &View, part: Part, lent: &mut Lent) -> Option<Result<usize, Refusal>> {
+fn drawn(line: &[u8], case: &Case, lent: &mut Lent) -> Option<Result<usize, Refusal>> {
+    let Call::Draw {
+        reader,
+        current,
+        part,
+    } = case.call
+    else {
+        return None;
+    };
+    let view = &View {
+        reader: recorded::reader(reader)?,
+        matches: &pairs(&case.matches)?,
+        current: Some(current),
+    };
     let (conv, spans, list) = (&mut lent.conv, &mut lent.spans, &mut lent.list);
     let drawing = match part {
         Part::Window { start, end } => draw_window_into(line, view, start..end, conv, spans, list),
