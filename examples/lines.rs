@@ -34,7 +34,7 @@ struct Shown {
 fn show(line: &[u8], width: usize, mode: usize) -> Result<Shown, Refusal> {
     let converted = convert(line)?;
     let spans = read(line, &[])?.spans;
-    let mode = WrappingMode::from_number(mode).ok_or(Refusal::NumberOutOfRange)?;
+    let mode = WrappingMode::from_number(mode).ok_or(Refusal::OutOfRange)?;
     let wrapping = Wrapping { width, mode };
     let rows = rows(line, wrapping)?.rows;
     let drawn = draw_row(line, &View::default(), 0..rows.len(), wrapping)?;

@@ -417,7 +417,7 @@ pub fn screen_row(list: &[u8], width: usize) -> Result<ScreenRow, Refusal> {
 /// use console_lines::{store, Refusal};
 ///
 /// assert_eq!(store(b"\x01\0\0\0\x01\0a")?, b"\x01\0\x01\0a");
-/// assert_eq!(store(b"anything"), Err(Refusal::MalformedList));
+/// assert_eq!(store(b"anything"), Err(Refusal::ListMalformed));
 /// # Ok::<(), console_lines::Refusal>(())
 /// ```
 ///

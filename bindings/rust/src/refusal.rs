@@ -4,7 +4,8 @@ use crate::raw::Answer;
 use std::error::Error;
 use std::fmt;
 
-/// The question that a call answers no: docs/SCOPE.md has them in full.
+/// The question that a call answers no, named as in include/console_lines.h: docs/SCOPE.md has
+/// them in full.
 ///
 /// A refused call has written zeros to all memory that it was lent for writing.
 ///
@@ -22,60 +23,60 @@ pub enum Refusal {
     /// 1: a line, or one that would be written, has more than 4,096 bytes.
     LineTooLong = 1,
     /// 2: the conversion buffer has fewer bytes than 8 times the line's.
-    ConversionBufferTooShort = 2,
+    ConvTooShort = 2,
     /// 3: the matches are not pairs, in order, each start at most its end, all inside the
     /// text searched.
-    MatchesOutOfOrder = 3,
+    MatchesNotInOrder = 3,
     /// 4: the span list has fewer places than the line has spans.
-    SpanListTooShort = 4,
+    SpansTooFew = 4,
     /// 5: a mode, width, row or window number is out of range.
-    NumberOutOfRange = 5,
+    OutOfRange = 5,
     /// 6: the row list has fewer pairs than the line has rows.
-    RowListTooShort = 6,
+    RowsTooFew = 6,
     /// 7: a window that starts above 0 does not end behind its start.
-    WindowTooNarrow = 7,
+    WindowEmpty = 7,
     /// 8: a cluster begins left of the window and ends right of it.
-    ClusterAcrossWindow = 8,
+    ClusterWiderThanWindow = 8,
     /// 9: the change list, the cells or the stored form do not fit.
     OutputTooShort = 9,
     /// 10: a change list or a stored form is malformed.
-    MalformedList = 10,
+    ListMalformed = 10,
     /// 11: a text passes the last column of the screen row.
-    TextPassesRow = 11,
+    TextPassesLastColumn = 11,
     /// 12: the body of a change has more than 65,535 bytes.
     BodyTooLong = 12,
     /// 16: what is to be written is not whole cells of a byte and a style.
-    MalformedCells = 16,
+    CellsMalformed = 16,
     /// 17: the written line does not fit.
-    WrittenLineTooShort = 17,
+    ReportTooShort = 17,
     /// 18: the reader is neither the bench nor the crew.
-    UnknownReader = 18,
+    NoSuchReader = 18,
 }
 
 impl Refusal {
     /// Every refusal, by number.
     pub const ALL: [Refusal; 15] = [
         Refusal::LineTooLong,
-        Refusal::ConversionBufferTooShort,
-        Refusal::MatchesOutOfOrder,
-        Refusal::SpanListTooShort,
-        Refusal::NumberOutOfRange,
-        Refusal::RowListTooShort,
-        Refusal::WindowTooNarrow,
-        Refusal::ClusterAcrossWindow,
+        Refusal::ConvTooShort,
+        Refusal::MatchesNotInOrder,
+        Refusal::SpansTooFew,
+        Refusal::OutOfRange,
+        Refusal::RowsTooFew,
+        Refusal::WindowEmpty,
+        Refusal::ClusterWiderThanWindow,
         Refusal::OutputTooShort,
-        Refusal::MalformedList,
-        Refusal::TextPassesRow,
+        Refusal::ListMalformed,
+        Refusal::TextPassesLastColumn,
         Refusal::BodyTooLong,
-        Refusal::MalformedCells,
-        Refusal::WrittenLineTooShort,
-        Refusal::UnknownReader,
+        Refusal::CellsMalformed,
+        Refusal::ReportTooShort,
+        Refusal::NoSuchReader,
     ];
 
     /// The question's number.
     ///
     /// ```
-    /// assert_eq!(console_lines::Refusal::MalformedList.number(), 10);
+    /// assert_eq!(console_lines::Refusal::ListMalformed.number(), 10);
     /// ```
     pub const fn number(self) -> usize {
         self as usize
@@ -86,7 +87,7 @@ impl Refusal {
     /// ```
     /// use console_lines::Refusal;
     ///
-    /// assert_eq!(Refusal::from_number(7), Some(Refusal::WindowTooNarrow));
+    /// assert_eq!(Refusal::from_number(7), Some(Refusal::WindowEmpty));
     /// assert_eq!(Refusal::from_number(13), None);
     /// ```
     pub fn from_number(number: usize) -> Option<Refusal> {
@@ -106,11 +107,11 @@ impl Refusal {
     pub const fn is_for_memory(self) -> bool {
         matches!(
             self,
-            Refusal::ConversionBufferTooShort
-                | Refusal::SpanListTooShort
-                | Refusal::RowListTooShort
+            Refusal::ConvTooShort
+                | Refusal::SpansTooFew
+                | Refusal::RowsTooFew
                 | Refusal::OutputTooShort
-                | Refusal::WrittenLineTooShort
+                | Refusal::ReportTooShort
         )
     }
 }
@@ -120,28 +121,28 @@ impl fmt::Display for Refusal {
     fn fmt(&self, f: &mut fmt::Formatter<'_>) -> fmt::Result {
         f.write_str(match self {
             Refusal::LineTooLong => "the line has more than 4,096 bytes",
-            Refusal::ConversionBufferTooShort => {
+            Refusal::ConvTooShort => {
                 "the conversion buffer has fewer than 8 times the line's bytes"
             }
-            Refusal::MatchesOutOfOrder => {
+            Refusal::MatchesNotInOrder => {
                 "the matches are not pairs in order inside the text searched"
             }
-            Refusal::SpanListTooShort => "the span list has too few places",
-            Refusal::NumberOutOfRange => "a mode, width, row or window number is out of range",
-            Refusal::RowListTooShort => "the row list has too few places",
-            Refusal::WindowTooNarrow => "the window's start + 1 is above its end",
-            Refusal::ClusterAcrossWindow => {
+            Refusal::SpansTooFew => "the span list has too few places",
+            Refusal::OutOfRange => "a mode, width, row or window number is out of range",
+            Refusal::RowsTooFew => "the row list has too few places",
+            Refusal::WindowEmpty => "the window's start + 1 is above its end",
+            Refusal::ClusterWiderThanWindow => {
                 "a cluster begins left of the window and ends right of it"
             }
             Refusal::OutputTooShort => "the output does not fit",
-            Refusal::MalformedList => "the change list is malformed",
-            Refusal::TextPassesRow => "a text passes the last column",
+            Refusal::ListMalformed => "the change list is malformed",
+            Refusal::TextPassesLastColumn => "a text passes the last column",
             Refusal::BodyTooLong => "a body has more than 65,535 bytes",
-            Refusal::MalformedCells => {
+            Refusal::CellsMalformed => {
                 "these are not whole cells of a byte 20 to 7E except 5F and a style 0 to 3"
             }
-            Refusal::WrittenLineTooShort => "the output buffer is too short",
-            Refusal::UnknownReader => "the reader is neither bench nor crew",
+            Refusal::ReportTooShort => "the output buffer is too short",
+            Refusal::NoSuchReader => "the reader is neither bench nor crew",
         })
     }
 }

@@ -22,7 +22,7 @@ fn is_well_formed(list: &[u8]) -> bool {
     let stored = store(list);
     assert_eq!(
         well_formed,
-        stored != Err(Refusal::MalformedList),
+        stored != Err(Refusal::ListMalformed),
         "{list:?}"
     );
     well_formed

@@ -214,7 +214,7 @@ fn no_line_lacks_memory() {
         let wrapping = Wrapping::new(width, mode);
         accepted[0] += usize::from(assert_enough(line, convert(line)));
         let mut matches = every_second(line);
-        while read(line, &matches) == Err(Refusal::MatchesOutOfOrder) {
+        while read(line, &matches) == Err(Refusal::MatchesNotInOrder) {
             matches.truncate(matches.len() / 2);
         }
         accepted[1] += usize::from(assert_enough(line, read(line, &matches)));
