@@ -113,7 +113,7 @@ fn run_cases<H: Half, I: Iterator<Item = H>>(
     whole
 }
 
-/// Checks the cases whose calls the library has.
+/// Checks the cases of a job.
 fn check_cases<H: Half>(cases: impl Iterator<Item = H>) -> Found {
     let mut library = Library::new();
     let mut found = Found::default();
