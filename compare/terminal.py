@@ -7,6 +7,7 @@ import subprocess
 import sys
 import tempfile
 import termios
+import time
 import tty
 from collections import Counter
 
@@ -116,19 +117,27 @@ class Pane:
         self.tmux = ['tmux', '-S', os.path.join(folder, f'server{Pane.servers}'), '-u', '-f', os.path.join(folder, 'tmux.conf')]
         with open(self.tmux[-1], 'w') as conf:
             conf.write('set -g history-limit 1000000\nset -g status off\nset -g remain-on-exit on\nset -g default-terminal screen-256color\n')
-        done = os.path.join(folder, 'done')
-        if os.path.exists(done):
-            os.remove(done)
-        self.run('new-session', '-d', '-x', str(width), '-y', '50', *words, done)
-        while not os.path.exists(done):
-            if self.run('list-panes', '-F', '#{pane_dead}').strip() == b'1' and not os.path.exists(done):
+        self.done = os.path.join(folder, 'done')
+        if os.path.exists(self.done):
+            os.remove(self.done)
+        self.run('new-session', '-d', '-x', str(width), '-y', '50', *words, self.done)
+
+    def wait(self):
+        """until the pane's program has drawn everything"""
+        while not os.path.exists(self.done):
+            if self.run('list-panes', '-F', '#{pane_dead}').strip() == b'1' and not os.path.exists(self.done):
                 sys.exit('the program in the pane ended: ' + self.run('capture-pane', '-p').decode())
-            subprocess.run(['sleep', '0.05'])
+            time.sleep(0.05)
 
     def run(self, *words):
         return subprocess.run(self.tmux + list(words), check=True, stdout=subprocess.PIPE).stdout
 
     def __enter__(self):
+        try:
+            self.wait()
+        except BaseException:
+            self.run('kill-server')
+            raise
         return self
 
     def __exit__(self, *error):
@@ -227,7 +236,7 @@ def in_pane(words, done):
     with open(done + '.part', 'w') as file:
         file.write(' '.join(map(str, columns)))
     os.rename(done + '.part', done)
-    subprocess.run(['sleep', '1000'])
+    time.sleep(1000)
 
 
 def read_texts(name):
