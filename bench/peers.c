@@ -18,32 +18,33 @@
 
 #include "../include/console_lines.h"
 
-static uint8_t line[4096];
+static uint8_t line[CONSOLE_LINE_MAX];
 static size_t line_len;
 
 /* Lent to the library: just enough for each line. */
-static uint8_t conv[8 * 4096];
-static console_span spans[4096];
-static size_t rows[8192];
-static size_t spans_len, rows_len;
+static uint8_t conv[CONSOLE_CONV_SIZE(CONSOLE_LINE_MAX)];
+static console_span spans[CONSOLE_SPANS_SIZE(CONSOLE_LINE_MAX)];
+static size_t rows[CONSOLE_ROWS_SIZE(CONSOLE_LINE_MAX)];
+static size_t conv_len, spans_len, rows_len;
 
 static size_t library_read(void) {
-    return console_read(line, line_len, NULL, 0, conv, 8 * line_len, spans, spans_len).count;
+    return console_read(line, line_len, NULL, 0, conv, conv_len, spans, spans_len).count;
 }
 
 static size_t library_rows(void) {
-    return console_rows(line, line_len, 80, 2, conv, 8 * line_len, spans, spans_len, rows, rows_len).count;
+    return console_rows(line, line_len, 80, CONSOLE_BY_WORDS, conv, conv_len, spans, spans_len, rows, rows_len).count;
 }
 
 /* The line's columns, as wrapping counts them. */
 static size_t library_columns(void) {
-    console_rows(line, line_len, 65535, 1, conv, 8 * line_len, spans, spans_len, rows, rows_len);
+    console_rows(line, line_len, CONSOLE_WIDTH_MAX, CONSOLE_BY_CLUSTERS, conv, conv_len, spans, spans_len, rows, rows_len);
     return rows[1];
 }
 
 static void lend(void) {
-    spans_len = 4096;
-    rows_len = 8192;
+    conv_len = CONSOLE_CONV_SIZE(line_len);
+    spans_len = CONSOLE_SPANS_SIZE(line_len);
+    rows_len = CONSOLE_ROWS_SIZE(line_len);
     size_t n = library_read(), m = library_rows();
     spans_len = n;
     rows_len = 2 * m;
@@ -90,7 +91,7 @@ static size_t icu_clusters(void) {
 }
 
 /* libunistring wants well-formed text; a damaged byte gives whatever it gives. */
-static char marks[4096];
+static char marks[CONSOLE_LINE_MAX];
 
 static size_t unistring_clusters(void) {
     u8_grapheme_breaks(line, line_len, marks);
@@ -157,7 +158,8 @@ static int versions(void) {
     char text[U_MAX_VERSION_STRING_LENGTH];
     u_getUnicodeVersion(unicode);
     u_versionToString(unicode, text);
-    printf("utf8proc %s (Unicode %s), ICU %s (Unicode %s), libunistring %d.%d\n", utf8proc_version(), utf8proc_unicode_version(), U_ICU_VERSION, text, _libunistring_version >> 16, _libunistring_version >> 8 & 255);
+    printf("utf8proc %s (Unicode %s), ICU %s (Unicode %s), libunistring %d.%d\n", utf8proc_version(), utf8proc_unicode_version(),
+           U_ICU_VERSION, text, _libunistring_version >> 16, _libunistring_version >> 8 & 255);
     return 0;
 }
 
@@ -177,7 +179,7 @@ int main(int argc, char **argv) {
     for (size_t i = 0; i < sizeof tasks / sizeof *tasks; i++)
         if (strcmp(tasks[i].name, argv[1]) == 0) {
             if (tasks[i].run == library_columns)
-                rows_len = 8192;
+                rows_len = CONSOLE_ROWS_SIZE(line_len);
             size_t count = tasks[i].run();
             printf("%.0f %zu\n", least(tasks[i].run), count);
             return 0;
