@@ -130,11 +130,11 @@ static inline const char *console_refusal_words(size_t number) {
     case CONSOLE_LINE_TOO_LONG: return "the line has more than 4,096 bytes";
     case CONSOLE_CONV_TOO_SHORT: return "the conversion buffer has fewer than 8 times the line's bytes";
     case CONSOLE_MATCHES_NOT_IN_ORDER: return "the matches are not pairs in order inside the text searched";
-    case CONSOLE_SPANS_TOO_FEW: return "the span list has too few places";
-    case CONSOLE_OUT_OF_RANGE: return "a mode, width, row or window number is out of range";
-    case CONSOLE_ROWS_TOO_FEW: return "the row list has too few places";
+    case CONSOLE_SPANS_TOO_FEW: return "more spans than the list has places";
+    case CONSOLE_OUT_OF_RANGE: return "a mode, width, row or window number beyond its limit";
+    case CONSOLE_ROWS_TOO_FEW: return "more rows than the list has places";
     case CONSOLE_WINDOW_EMPTY: return "the window's start + 1 is above its end";
-    case CONSOLE_CLUSTER_WIDER_THAN_WINDOW: return "a cluster begins left of the window and ends right of it";
+    case CONSOLE_CLUSTER_WIDER_THAN_WINDOW: return "a cluster wider than the window";
     case CONSOLE_OUTPUT_TOO_SHORT: return "the output does not fit";
     case CONSOLE_LIST_MALFORMED: return "the change list is malformed";
     case CONSOLE_TEXT_PASSES_LAST_COLUMN: return "a text passes the last column";

@@ -127,13 +127,11 @@ impl fmt::Display for Refusal {
             Refusal::MatchesNotInOrder => {
                 "the matches are not pairs in order inside the text searched"
             }
-            Refusal::SpansTooFew => "the span list has too few places",
-            Refusal::OutOfRange => "a mode, width, row or window number is out of range",
-            Refusal::RowsTooFew => "the row list has too few places",
+            Refusal::SpansTooFew => "more spans than the list has places",
+            Refusal::OutOfRange => "a mode, width, row or window number beyond its limit",
+            Refusal::RowsTooFew => "more rows than the list has places",
             Refusal::WindowEmpty => "the window's start + 1 is above its end",
-            Refusal::ClusterWiderThanWindow => {
-                "a cluster begins left of the window and ends right of it"
-            }
+            Refusal::ClusterWiderThanWindow => "a cluster wider than the window",
             Refusal::OutputTooShort => "the output does not fit",
             Refusal::ListMalformed => "the change list is malformed",
             Refusal::TextPassesLastColumn => "a text passes the last column",
