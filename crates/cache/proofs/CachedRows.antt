@@ -194,9 +194,6 @@ module _ (wraps : List ℕ) (size places numbers width mode : ℕ) (line : List 
 
     -- either
     module _ (long : length wraps ≡ 8212) (answer : wrappedAs a cs sps l₁ ≡ answered (rowsRequest wraps width mode) size places numbers line) where
-      abbrev found-count : Option Head → ℕ
-      found-count found = wrapFor wraps found rs .count
-
       within : (h : Head) → find k (kept wraps) ≡ some h → Within h
       within h e = found-has k h (kept-well wraps .within) e .0
 

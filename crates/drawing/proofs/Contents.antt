@@ -33,10 +33,6 @@ use Rattle.drawing.proofs.Sequences.{record-here}
 
 -- ---- styles
 
-style-text : (current m : ℕ) → styleOf (recordStyle 1 current m) ≡ file
-unfolding styleOf
-style-text current m = refl
-
 style-match : (P : Profile) (start end current k : ℕ) → styleOf (recordStyle 2 current k) ≡ textStyle P start end (currentOf current) (some k)
 unfolding styleOf textStyle
 style-match P start end current k =

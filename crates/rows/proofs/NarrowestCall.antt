@@ -16,7 +16,7 @@ use Rattle.text.specs.Overstrike.{convert}
 use Rattle.text.specs.Calls.{counted}
 use Rattle.text.specs.Calls.Laws.{counted-accepted, counted-refused}
 use Rattle.text.specs.declared.Answer.{Answer}
-use Rattle.spans.specs.Spans.{Span, spans, Record, records}
+use Rattle.spans.specs.Spans.{Span, spans, Record}
 use Rattle.spans.specs.Calls.{Read, readCall, noRecord}
 use Rattle.spans.specs.Calls.Contracts.{readAs}
 use Rattle.rows.specs.Rows.{Row, rows}

@@ -54,9 +54,6 @@ module _ (list row : List ℕ) (end at : ℕ) where
         let n : length (take end (cellsIn list row)) ≡ end = length-take-le end (cellsIn list row) (cells-enough list end row (ready .room)) in
         omega (arith, laters-le (drop at (take end (cellsIn list row))), length-drop at (take end (cellsIn list row)))
 
-    pub right-begins : CellsReady row at end
-    right-begins = record { order = omega (arith, less); room = ready .room }
-
     module _ (to : ℕ) (is : to ≡ at + laters (drop at (take end (cellsIn list row)))) where
       pub right-fills : CellsReady row at to
       right-fills = record { order = omega (arith, is); room = omega (arith, is, less, later-room, ready .room) }

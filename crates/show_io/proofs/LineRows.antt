@@ -3,7 +3,7 @@ use mathlib.Core.Path.{_≡_, refl, sym, ap, ap₂, subst, _∙_}
 use mathlib.Core.Logic.{_≢_}
 use Prim.Native.Nat.{ℕ, suc, _+_, _-_, _*_, _/_, _≤_, _<_}
 use native.Mathlib.Omega.{arith}
-use mathlib.Core.Bool.{Bool, true, false, cond}
+use mathlib.Core.Bool.{Bool, cond}
 use mathlib.Core.List.{List, [], _++_}
 use mathlib.Core.Option.{none}
 use lib.ListN.{length, take, getD, List·getD-eq-default}
@@ -27,7 +27,7 @@ use Rattle.text.specs.Calls.{Written}
 use Rattle.text.specs.Calls.Code.{written}
 use Rattle.show_io.specs.Ansi.{cells, rowText}
 use Rattle.show_io.specs.declared.lines.View.{View}
-use Rattle.show_io.specs.Lines.{Printed, printed, unless, bench, windowEnd, drawnRow, screenText, listText, rowOf, isLong, cellsRoom, columnsIn, columnsOf, smallRow, largeRow, lineRow, heightOf, rowsFrom, allRows, lineText, refusalText, spansText}
+use Rattle.show_io.specs.Lines.{Printed, unless, bench, windowEnd, drawnRow, screenText, listText, rowOf, isLong, cellsRoom, columnsIn, columnsOf, smallRow, largeRow, lineRow, heightOf, rowsFrom, allRows, lineText, refusalText, spansText}
 use Rattle.show_io.specs.Lines.Contracts.{PrintedTo, AnswerOf, DrawnTo}
 use Rattle.show_io.specs.declared.lines.RowPrinted.{RowPrinted}
 

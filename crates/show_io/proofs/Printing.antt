@@ -2,7 +2,7 @@
 use mathlib.Core.Path.{_≡_, refl, sym, ap, ap₂, _∙_}
 use Prim.Native.Nat.{ℕ, suc, _+_, _-_, _≤_, _<_}
 use native.Mathlib.Omega.{arith}
-use mathlib.Core.Bool.{Bool, true, false}
+use mathlib.Core.Bool.{Bool, true}
 use mathlib.Core.List.{List, [], _∷_, _++_, append-assoc}
 use lib.ListN.{length, take, drop, getD, drop-of-length-le}
 use lib.Seq.{drop-cons, drop-drop}
@@ -78,9 +78,6 @@ pub cell-same : (line row : List ℕ) (was next : Places) (x : Bool) (s z : Sink
 cell-same line row was next x s z p e f = then-emit s s z _ _ (change-none line (bodyIn row was) (bodyIn row next) x s p e) f
 
 -- ---- push_row
-
-abbrev sinkCount : ℕ → List ℕ → Sink
-sinkCount a out = sink out a
 
 pub record Printing (out₀ : List ℕ) (at₀ : ℕ) (line row out : List ℕ) (a p : ℕ) (was : Places) : Type 0 where
   pub inside : p ≤ length row

@@ -26,9 +26,6 @@ module _ (s : List ℕ) (at : ℕ) (z : EscapeMatchReady s at) where
   a-byte : (i : ℕ) → getD (drop at s) i 0 ≡ getD s (at + i) 0
   a-byte i = getD-drop at s i 0
 
-  match-zero : (x : Bool) (n : ℕ) → x ≡ false → 0 ≡ cond x (3 + n) 0
-  match-zero x n e = rw e
-
   pub match-other : (a : ℕ) → a ≡ getD s at 0 → (a ≡ 0x1B → ⊥) → EscapeMatched s at 0
   unfolding escapeMatch
   match-other a e h =

@@ -13,7 +13,6 @@ use Rattle.text.specs.Tests.{and-T, cases, iff, is-true, or-T, true-T}
 use Rattle.text.specs.Utf8.{decode, more, to, value, within}
 use Rattle.text.specs.declared.utf8.Sequence.{Sequence}
 use Rattle.text.proofs.SequenceBytes.{by-chain, chain, decode-at}
-use Rattle.text.specs.declared.class.Profile as code
 use Rattle.text.specs.Utf8.Code.FirstSequence.{ascii-first}
 
 -- ---- the table by the first byte

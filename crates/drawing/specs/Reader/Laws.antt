@@ -16,11 +16,6 @@ use Rattle.drawing.specs.declared.attributes.Attributes.{Attributes}
 use Rattle.drawing.specs.Change.{Change, text, torn, allAttributes, clearToEnd, cursorRight, whole, encode, encodeOne, body, clipped, attributeBytes, colorBytes, flagByte}
 use Rattle.drawing.specs.Reader.{unlinked, withoutUri, seenBy}
 
--- the bench is sent all
-pub bench-sees : (cs : List Change) → seenBy 0 cs ≡ cs
-unfolding seenBy
-bench-sees cs = refl
-
 -- ---- an attribute body
 
 color-length : (c : Color) → length (colorBytes c) ≡ 4

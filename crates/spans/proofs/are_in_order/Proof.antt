@@ -2,10 +2,6 @@ use Rattle.spans.proofs.ReadCall.{in-order-none, in-order-is}
 use borrow.Author.Needs.{needs}
 use Rattle.spans.proofs.are_in_order.Statement.{statement}
 use Rattle.spans.proofs.are_in_order.Tie as tie
-use Rattle.spans.proofs.are_in_order.Reads as reads
-use Rattle.spans.proofs.are_in_order.Lts as lts
-use Rattle.spans.proofs.search.in_order.Reads as in-order-reads
-use Rattle.spans.proofs.search.searched_len.Reads as searched-len-reads
 
 returns : tie.Need-returns
 returns c = search in-order-none

@@ -2,10 +2,6 @@ use Rattle.spans.proofs.ReadCall.{finish-accepted, finish-refused}
 use borrow.Author.Needs.{needs}
 use Rattle.spans.proofs.finish.Statement.{statement}
 use Rattle.spans.proofs.finish.Tie as tie
-use Rattle.spans.proofs.finish.Reads as reads
-use Rattle.spans.proofs.finish.Lts as lts
-use Rattle.buffer.proofs.clear_bytes.Reads as clear-bytes-reads
-use Rattle.spans.proofs.number_of.Reads as number-of-reads
 
 number-of-requires : tie.Need-number-of-requires
 number-of-requires c κs = search needs

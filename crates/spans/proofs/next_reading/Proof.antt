@@ -4,10 +4,6 @@ use Rattle.spans.proofs.ReadCall.{ongoing-fits, ongoing-ready, ongoing-
 use borrow.Author.Needs.{needs}
 use Rattle.spans.proofs.next_reading.Statement.{statement}
 use Rattle.spans.proofs.next_reading.Tie as tie
-use Rattle.spans.proofs.next_reading.Reads as reads
-use Rattle.spans.proofs.next_reading.Lts as lts
-use Rattle.spans.proofs.places_for.Reads as places-for-reads
-use Rattle.spans.proofs.segments.next_record.Reads as next-record-reads
 
 slice-aggregate-next-record : tie.Need-slice-aggregate-next-record
 slice-aggregate-next-record c = sym (length-take-le _ _ (search ongoing-fits))

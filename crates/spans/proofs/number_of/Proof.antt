@@ -3,9 +3,6 @@ use mathlib.Core.Path.{sym}
 use Rattle.spans.proofs.ReadCall.{number-fits, number-sound, number-more, number-all, number-same}
 use Rattle.spans.proofs.number_of.Statement.{statement}
 use Rattle.spans.proofs.number_of.Tie as tie
-use Rattle.spans.proofs.number_of.Reads as reads
-use Rattle.spans.proofs.number_of.Lts as lts
-use Rattle.spans.proofs.segments.has_next.Reads as has-next-reads
 
 slice-aggregate-has-next : tie.Need-slice-aggregate-has-next
 slice-aggregate-has-next c = sym (length-take-le _ _ (search number-fits))

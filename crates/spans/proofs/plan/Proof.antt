@@ -2,11 +2,6 @@ use Rattle.spans.proofs.ReadCall.{begin-ready, plan-begins, plan-refuse
 use borrow.Author.Needs.{needs}
 use Rattle.spans.proofs.plan.Statement.{statement}
 use Rattle.spans.proofs.plan.Tie as tie
-use Rattle.spans.proofs.plan.Reads as reads
-use Rattle.spans.proofs.plan.Lts as lts
-use Rattle.spans.proofs.are_in_order.Reads as are-in-order-reads
-use Rattle.spans.proofs.refused.Reads as refused-reads
-use Rattle.spans.proofs.segments.begin.Reads as begin-reads
 
 are-in-order-requires : tie.Need-are-in-order-requires
 are-in-order-requires c κs = search needs

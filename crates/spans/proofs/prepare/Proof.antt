@@ -4,11 +4,6 @@ use Rattle.spans.proofs.ReadCall.{count-fits, line-small, prepare-done,
 use borrow.Author.Needs.{needs}
 use Rattle.spans.proofs.prepare.Statement.{statement}
 use Rattle.spans.proofs.prepare.Tie as tie
-use Rattle.spans.proofs.prepare.Reads as reads
-use Rattle.spans.proofs.prepare.Lts as lts
-use Rattle.spans.proofs.plan.Reads as plan-reads
-use Rattle.spans.proofs.refused.Reads as refused-reads
-use Rattle.text.proofs.convert.Reads as convert-reads
 
 convert-requires : tie.Need-convert-requires
 convert-requires c κs = search needs

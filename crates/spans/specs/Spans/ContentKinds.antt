@@ -11,7 +11,7 @@ use Rattle.text.specs.Utf8.{Scalar, decode, runOf}
 use Rattle.spans.specs.Sgr.{parameters, orders}
 use Rattle.spans.specs.Sequence.{sgr, eraseToEnd, ignored, hyperlink, lineDrawing, Found, found, missing, parse}
 use Rattle.spans.specs.Sequence.Laws.{parse-orders}
-use Rattle.spans.specs.Spans.{text, control, invalid, unprintable, escape, tab, crlf, lf, Record}
+use Rattle.spans.specs.Spans.{text, control, invalid, unprintable, escape, Record}
 use Rattle.spans.specs.Spans.ContentLaw.{sequenceIn, textIn, contentIn, contentOf}
 use Rattle.spans.specs.declared.sgr.Sgr.{Sgr}
 
@@ -53,41 +53,12 @@ module _ (line : List ℕ) (r : Record) where
   unfolding contentOf contentIn
   unprintable-content e = rw e (ap unprintable (text-at line r))
 
-  pub tab-content : r .kind ≡ 10 → contentOf line r ≡ tab
-  unfolding contentOf contentIn
-  tab-content e = rw e
-
-  pub crlf-content : r .kind ≡ 11 → contentOf line r ≡ crlf
-  unfolding contentOf contentIn
-  crlf-content e = rw e
-
-  pub lf-content : r .kind ≡ 12 → contentOf line r ≡ lf
-  unfolding contentOf contentIn
-  lf-content e = rw e
-
-  -- a sequence: kinds 6 to 9, and 13
   behind-esc : drop 1 (drop (r .place .0) line) ≡ drop (r .place .0 + 1) line
   behind-esc = drop-drop 1 (r .place .0) line
 
   pub style-content : r .kind ≡ 6 → contentOf line r ≡ sequenceIn (parse (drop (r .place .0 + 1) line))
   unfolding contentOf contentIn
   style-content e = rw e (ap (λ (l : List ℕ). sequenceIn (parse l)) behind-esc)
-
-  pub link-content : r .kind ≡ 7 → contentOf line r ≡ sequenceIn (parse (drop (r .place .0 + 1) line))
-  unfolding contentOf contentIn
-  link-content e = rw e (ap (λ (l : List ℕ). sequenceIn (parse l)) behind-esc)
-
-  pub drawing-content : r .kind ≡ 8 → contentOf line r ≡ sequenceIn (parse (drop (r .place .0 + 1) line))
-  unfolding contentOf contentIn
-  drawing-content e = rw e (ap (λ (l : List ℕ). sequenceIn (parse l)) behind-esc)
-
-  pub ignored-content : r .kind ≡ 9 → contentOf line r ≡ sequenceIn (parse (drop (r .place .0 + 1) line))
-  unfolding contentOf contentIn
-  ignored-content e = rw e (ap (λ (l : List ℕ). sequenceIn (parse l)) behind-esc)
-
-  pub erase-content : r .kind ≡ 13 → contentOf line r ≡ sequenceIn (parse (drop (r .place .0 + 1) line))
-  unfolding contentOf contentIn
-  erase-content e = rw e (ap (λ (l : List ℕ). sequenceIn (parse l)) behind-esc)
 
 -- ---- a style order's orders are those of the parameters behind `ESC [`
 

@@ -2,9 +2,6 @@ use Rattle.spans.specs.Numbers.Laws.{push-four}
 use borrow.Author.Needs.{needs}
 use Rattle.spans.proofs.numbers.push_span.Statement.{statement}
 use Rattle.spans.proofs.numbers.push_span.Tie as tie
-use Rattle.spans.proofs.numbers.push_span.Reads as reads
-use Rattle.spans.proofs.numbers.push_span.Lts as lts
-use Rattle.buffer.proofs.push_number.Reads as push-number-reads
 
 push-number-requires : tie.Need-push-number-requires
 push-number-requires c κs = search needs

@@ -12,7 +12,6 @@ use Rattle.text.specs.Utf8.{Scalar, scalar, Decoded, wellFormed, illForm
 use Rattle.text.specs.Utf8.Laws.{bytesOf-append, decodedBytes, decodedBytes-decode}
 use Rattle.text.specs.Utf8.Valid.{Valid, ValidDecoded, decode-valid, decode-text, run-text}
 use Rattle.text.specs.Cluster.Walk.{size-is}
-use Rattle.text.specs.declared.class.Profile as code
 use Rattle.text.specs.declared.utf8.Sequence.{Sequence}
 use Rattle.text.specs.Utf8.Code.{firstSequence, runOf, sequenceOf, size, whole}
 
