@@ -1,5 +1,5 @@
 -- Widths tried one after the other.
-use mathlib.Core.Path.{_≡_, refl, ap, _∙_}
+use mathlib.Core.Path.{_≡_, refl, sym, ap, _∙_}
 use mathlib.Core.Logic.{_≢_}
 use Prim.Native.Nat.{ℕ, zero, suc, _+_, _-_, _≤_, _<_, _^_}
 use native.Mathlib.Omega.{arith}
@@ -11,6 +11,7 @@ use borrow.Author.Tests.{lt-ltb, le-ltb}
 use Rattle.text.specs.Tests.{cases}
 use Rattle.text.specs.Class.{Profile}
 use Rattle.text.specs.Calls.{counted}
+use Rattle.text.specs.Calls.Laws.{counted-accepted, counted-refused}
 use Rattle.spans.specs.Spans.{Record}
 use Rattle.rows.specs.Wrap.{RowList, rowList, withRows, beginning, rowsOf, MadeWrap}
 use Rattle.rows.specs.Wrap.Laws.{rows-pushed, written-count}
@@ -24,13 +25,11 @@ use Rattle.rows.specs.declared.widths.Widths.{Widths}
 -- ---- the covered functions
 
 pub counted-all : (n number : ℕ) → number ≡ 0 → n ≡ counted n number
-unfolding counted
-counted-all n number z = rw z refl
+counted-all n number z = sym (ap (counted n) z ∙ counted-accepted n)
 
 pub counted-none : (n number : ℕ) → (number ≢ 0) → 0 ≡ counted n number
-unfolding counted
 counted-none n zero z = absurd (z refl)
-counted-none n (suc r) z = refl
+counted-none n (suc r) z = sym (counted-refused n r)
 
 pub plan-is : (mode wanted greatest conv n number kept most : ℕ) (w : Wrapping) → number ≡ n → kept ≡ counted largest number → most ≡ counted greatest number → w ≡ wrappingAt 0 mode conv
     → record { number = number; kept = kept; request = record { wrapping = w; wanted = wanted; greatest = most } } ≡ planOf n mode wanted greatest conv

@@ -8,7 +8,7 @@ use lib.Dec.{leb}
 use Rattle.text.specs.Class.{Profile}
 use Rattle.text.specs.Overstrike.{convert}
 use Rattle.text.specs.Calls.{Question, ask, decide, lent, counted}
-use Rattle.text.specs.Calls.Laws.{counted-accepted, counted-refused, decided-before, decided-behind, lent-accepted, lent-refused}
+use Rattle.text.specs.Calls.Laws.{counted-accepted, counted-refused, decide-no, decide-yes, decided-before, decided-behind, lent-accepted, lent-refused}
 use Rattle.spans.specs.Spans.{Span, records}
 use Rattle.spans.specs.Search.{read}
 use Rattle.spans.specs.Calls.{noRecord, readCall}
@@ -46,13 +46,11 @@ module _ (P : Profile) (reader conv places room : ℕ) (matches : List ℕ) (qs 
   no-drawing r = simp (lent-refused, counted-refused)
 
   pub drawing-unknown : leb reader 1 ≡ false → drawing P reader conv places room matches qs draw line ≡ undrawn 18
-  unfolding decide
-  drawing-unknown e = drawing-by ∙ rw e (no-drawing 17)
+  drawing-unknown e = drawing-by ∙ ap drawnBy (decide-no (question18 reader) _ e) ∙ no-drawing 17
 
   module _ (known : leb reader 1 ≡ true) where
     drawing-known : drawing P reader conv places room matches qs draw line ≡ drawnBy (decide (readQuestions P conv places matches line ++ others))
-    unfolding decide
-    drawing-known = drawing-by ∙ rw known
+    drawing-known = drawing-by ∙ ap drawnBy (decide-yes (question18 reader) _ known)
 
     pub drawing-unread : (r : ℕ) → readCall P conv places matches line .number ≡ suc r → drawing P reader conv places room matches qs draw line ≡ undrawn (suc r)
     drawing-unread r e = drawing-known ∙ ap drawnBy (decided-before (readQuestions P conv places matches line) others r (sym (read-number P conv places matches line) ∙ e)) ∙ no-drawing r
