@@ -31,7 +31,7 @@ use Rattle.spans.proofs.Span as S
 use Rattle.drawing.specs.Calls.{Drawn}
 use Rattle.drawing.specs.Requests.{drawnAs}
 use Rattle.drawing.specs.Numbers.{readOf}
-use Rattle.show_io.specs.Lines.Contracts.{ReadTo, DrawnTo}
+use Rattle.show_io.specs.FewSpans.{ReadTo, DrawnTo}
 
 module _ {xs : List Span} (made : xs ≡ replicate 64 noRecord) where
   long : length xs ≡ 64

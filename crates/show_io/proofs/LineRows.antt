@@ -28,7 +28,8 @@ use Rattle.text.specs.Calls.Code.{written}
 use Rattle.show_io.specs.Ansi.{cells, rowText}
 use Rattle.show_io.specs.declared.lines.View.{View}
 use Rattle.show_io.specs.Lines.{Printed, unless, bench, windowEnd, drawnRow, screenText, listText, rowOf, isLong, cellsRoom, columnsIn, columnsOf, smallRow, largeRow, lineRow, heightOf, rowsFrom, allRows, lineText, refusalText, spansText}
-use Rattle.show_io.specs.Lines.Contracts.{PrintedTo, AnswerOf, DrawnTo}
+use Rattle.show_io.specs.FewSpans.{DrawnTo}
+use Rattle.show_io.specs.Lines.Contracts.{PrintedTo, AnswerOf}
 use Rattle.show_io.specs.declared.lines.RowPrinted.{RowPrinted}
 
 -- ---- draw_small, draw_large

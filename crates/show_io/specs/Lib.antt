@@ -1,4 +1,5 @@
 pub mod Ansi
+pub mod FewSpans
 pub mod SpanText
 pub mod Lines
 pub mod Input

@@ -9,7 +9,7 @@ ghost use Rattle.spans.specs.Calls.{noRecord};
 ghost use Rattle.rows.specs.Calls.{heightCall};
 ghost use Rattle.drawing.specs.Calls.{windowCall, rowCall};
 ghost use Rattle.drawing.specs.Rendering.{currentOf};
-ghost use Rattle.show_io.specs.Lines.Contracts.{ReadTo, DrawnTo};
+ghost use Rattle.show_io.specs.FewSpans.{ReadTo, DrawnTo};
 
 // The list, with no record in it.
 fn no_spans() -> [Span; 64]

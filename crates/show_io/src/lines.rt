@@ -23,7 +23,8 @@ ghost use Rattle.spans.specs.Numbers.{placesIn};
 ghost use Rattle.rows.specs.Calls.{heightCall};
 ghost use Rattle.drawing.specs.Numbers.{DrawnNumbers};
 ghost use Rattle.show_io.specs.Lines.{windowEnd, drawnRow, unless, listText, rowOf, columnsIn, columnsOf, smallRow, largeRow, lineRow, words, refusedText, refusalText, heightOf, rowsFrom, spansText, lineText};
-ghost use Rattle.show_io.specs.Lines.Contracts.{PrintedTo, AnswerOf, DrawnTo, answerText};
+ghost use Rattle.show_io.specs.FewSpans.{DrawnTo};
+ghost use Rattle.show_io.specs.Lines.Contracts.{PrintedTo, AnswerOf, answerText};
 
 // What is drawn of a line: in mode 0 the window of `width` columns from column `start` on, in modes 1 to 4 its rows at that width; in mode 5
 // its spans, without regard to start and width.

@@ -8,8 +8,6 @@ use lib.Dec.{eqb}
 use Rattle.text.specs.declared.Answer.{Answer}
 use Rattle.buffer.specs.Sink.{Sink, sink, emit}
 use Rattle.spans.specs.Calls.{Read}
-use Rattle.drawing.specs.Calls.{Drawn}
-use Rattle.drawing.specs.Numbers.{readOf}
 use Rattle.show_io.specs.SpanText.Contracts.{numbersText}
 use Rattle.show_io.specs.Lines.{Printed, refusalText}
 use Rattle.show_io.specs.declared.lines.RowPrinted.{RowPrinted}
@@ -18,17 +16,6 @@ use Rattle.show_io.specs.declared.lines.RowPrinted.{RowPrinted}
 pub record PrintedTo (p : Printed) (before : Sink) (out : List ℕ) (r : RowPrinted) : Type 0 where
   pub number : r .number ≡ p .number
   pub text : sink out (r .at) ≡ emit before (p .text)
-
--- the answer of a call, and the converted line that it leaves
-pub record ReadTo (c : Read) (a : Answer) (conv : List ℕ) : Type 0 where
-  pub number : a .number ≡ c .number
-  pub count : a .count ≡ c .count
-  pub line : conv ≡ c .conv
-
--- and the change list
-pub record DrawnTo (d : Drawn) (a : Answer) (conv list : List ℕ) : Type 0 where
-  pub read : ReadTo (readOf d) a conv
-  pub changes : list ≡ d .list
 
 -- the answer alone
 pub record AnswerOf (c : Read) (a : Answer) : Type 0 where
