@@ -10,5 +10,7 @@ fn main() {
     let mut out = [0u8; 258048];
     let state = input::all(&mut line);
     let n = print(&mut out, &line, state);
-    io::write_all(STDOUT_FILENO, &out[..n]);
+    if !io::write_all(STDOUT_FILENO, &out[..n]) {
+        os::fail(b"standard output");
+    }
 }

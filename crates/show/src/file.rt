@@ -24,11 +24,15 @@ fn printed(out: &[u8], at: usize) -> &[u8]
     out
 }
 
-// Writes what was printed.
+// Writes what was printed, and says so where the system does not take it.
 fn flush(out: &[u8], at: usize) -> bool
     ensures { λ r. ⌜ Taken r ⌝ }
 {
-    io::write_all(STDOUT_FILENO, printed(out, at))
+    let taken = io::write_all(STDOUT_FILENO, printed(out, at));
+    if !taken {
+        os::fail(b"standard output");
+    }
+    taken
 }
 
 // What was printed is written.
