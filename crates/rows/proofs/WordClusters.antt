@@ -8,7 +8,8 @@ use Rattle.text.specs.Tests.{and-T, cases, is-true, true-T}
 use Rattle.text.specs.Utf8.{Scalar}
 use Rattle.text.specs.Class.{Profile, whitespace}
 use Rattle.text.specs.Cluster.{clusters, joins}
-use Rattle.text.specs.Cluster.Laws.{clusters-nil, clusters-cut}
+use Rattle.text.specs.Cluster.Appended.{clusters-cut}
+use Rattle.text.specs.Cluster.Laws.{clusters-nil}
 use Rattle.text.specs.Cluster.Spaces.{NoSpaceBefore, SpacesBegin}
 use Rattle.rows.specs.Words.Laws.{belongs, beyond, firstWord, leading, wordFrom}
 

@@ -18,11 +18,12 @@ use Rattle.text.specs.Class.Code.{printable, profileOf}
 use Rattle.text.specs.Rules.{contextOf, stateAfter, stateContext}
 use Rattle.text.specs.Utf8.Code.Laws.{none-past, run-fits, run-valid}
 use Rattle.text.specs.Cluster.Printable.{printable-first, printable-one as one-column}
+use Rattle.text.specs.Class.Laws.{number-le}
 use Rattle.text.specs.Class.Profile01.{ascii-classes}
 use Rattle.text.specs.Width.Laws.{width-size, width-two}
 use Rattle.text.specs.Each.{All, all-split}
 use Rattle.text.specs.Scalar.{packedAt}
-use Rattle.text.specs.Scalar.Laws.{NoScalar, PackedScalar, number-le, packed-past, packed-view}
+use Rattle.text.specs.Scalar.Laws.{NoScalar, PackedScalar, packed-past, packed-view}
 use Rattle.text.specs.Tests.{and-T, cases, is-true, true-T, in-range, every, every-one}
 use Rattle.text.specs.TextParts.{Measured, column, place, textAt}
 use Rattle.text.specs.TextParts.Laws.{first-all}

@@ -4,6 +4,7 @@ use mathlib.Core.Bool.{Bool, false, cond, _||_}
 use mathlib.Core.List.{List, [], _∷_}
 use lib.Dec.{eqb}
 use Rattle.text.specs.Utf8.{Range, to, within}
+pub mod Laws
 pub mod Ranges
 pub mod Document01
 pub mod Ascii

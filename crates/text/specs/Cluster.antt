@@ -5,12 +5,16 @@ use mathlib.Core.List.{List, [], _∷_, _++_}
 use Rattle.text.specs.Utf8.{Scalar}
 use Rattle.text.specs.Class.{cr, lf, control, extend, zwj, classL, classV, classT, classLV, classLVT, regionalIndicator, number, among, Profile}
 pub mod Laws
+pub mod Appended
 pub mod Walk
 pub mod Spaces
 pub mod Ascii
 pub mod Same
 pub mod Printable
 pub mod Parts
+pub mod Joined
+pub mod Controls
+pub mod Unshared
 
 -- what the rules ask of the scalars before, besides the last one's class: an odd number of regional indicators ends there
 pub record Context : Type 0 where

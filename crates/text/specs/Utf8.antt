@@ -12,6 +12,7 @@ pub mod Ascii
 pub mod Separation
 pub mod AsciiTexts
 pub mod FirstByte
+pub mod Controls
 pub mod Code
 
 -- ---- the table of well-formed sequences

@@ -19,7 +19,8 @@ use Rattle.text.specs.Class.{Profile}
 use Rattle.text.specs.Class.Ascii.{AsciiClasses, printable-range}
 use Rattle.text.specs.Cluster.{clusters, joinAll}
 use Rattle.text.specs.Cluster.Ascii.{c0-cluster}
-use Rattle.text.specs.Cluster.Laws.{clusters-all, clusters-split}
+use Rattle.text.specs.Cluster.Appended.{clusters-split}
+use Rattle.text.specs.Cluster.Laws.{clusters-all}
 use Rattle.text.specs.Cluster.Printable.{Printable}
 use Rattle.text.specs.Segmentation.Boundaries.{lone-joins}
 use Rattle.spans.specs.Sequence.{hyperlink, uriByte, parse}

@@ -8,7 +8,10 @@ use mathlib.Core.List.{List, [], _∷_}
 use lib.Dec.{eqb, ltb}
 use borrow.Author.Tests.{eqb-true, ltb-true}
 use Rattle.text.specs.Tests.{cases}
-use Rattle.text.specs.Utf8.{Scalar, ascii}
+use Rattle.text.specs.Each.{All}
+use Rattle.text.specs.Utf8.{Scalar, ascii, reads}
+use Rattle.text.specs.Utf8.AsciiTexts.{reads-ascii}
+use Rattle.text.specs.Utf8.Valid.{Valid}
 use Rattle.text.specs.Class.{Profile, among, control, cr, lf, number}
 use Rattle.text.specs.Class.Ascii.{AsciiClasses, SyllableColumns, by-syllable, c0-class, control-class, control-columns, printable-class, printable-columns, syllableOrOther}
 use Rattle.text.specs.Width.{widthOf}
@@ -80,6 +83,10 @@ module _ (P : Profile) where
   module _ (a : AsciiClasses P) where
     pub control-width : (v : ℕ) → v < 0x80 → printable v ≡ false → widthOf P (ascii v ∷ []) ≡ 0
     control-width v h e = width-one (ascii v) ∙ control-columns P a v h e
+
+    -- a text that has a width does not read as a control
+    pub wide-reads : (v : ℕ) → v < 0x80 → printable v ≡ false → (g : List Scalar) → All Valid g → 1 ≤ widthOf P g → reads g (v ∷ []) ≡ false
+    wide-reads v h e g a w = cases (reads g (v ∷ [])) (λ r. absurd (omega (arith, ap (widthOf P) (reads-ascii v h a r), control-width v h e))) (λ r. r)
 
     pub newline-width : widthOf P (ascii 0x0D ∷ ascii 0x0A ∷ []) ≡ 0
     unfolding widthOf

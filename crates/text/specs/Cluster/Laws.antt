@@ -2,7 +2,7 @@
 use mathlib.Core.Path.{_≡_, refl, sym, ap, ap₂, _∙_}
 use Prim.Native.Nat.{ℕ, suc, _+_}
 use mathlib.Core.Bool.{Bool, true, false, not, cond, _&&_, true≢false}
-use mathlib.Core.List.{List, [], _∷_, _++_, append-assoc, reverse, reverseAux}
+use mathlib.Core.List.{List, [], _∷_, _++_, append-assoc}
 use lib.ListN.{length, take, drop, length-append}
 use lib.Dec.{T, eqb, eqb→eq}
 use Rattle.text.specs.Tests.{and-T, is-true, true-T, cases}
@@ -83,28 +83,18 @@ module _ (P : Profile) where
   after-boundary [] c e = refl
   after-boundary (p ∷ ps) c e = fresh (classOf P p) (context P ps) (classOf P c) e
 
-  odd-more : (d : Scalar) (x before : List Scalar) → context P (x ++ before) ≡ context P x → context P (d ∷ (x ++ before)) ≡ context P (d ∷ x)
-  unfolding context
-  odd-more d x before e = ap (λ (k : Context). after k (classOf P d)) e
-
-  joinsNext-same : (d : Scalar) (x before s : List Scalar) → context P (d ∷ (x ++ before)) ≡ context P (d ∷ x) → joinsNext P (d ∷ (x ++ before)) s ≡ joinsNext P (d ∷ x) s
-  unfolding joinsNext joins
-  joinsNext-same d x before [] e = refl
-  joinsNext-same d x before (c ∷ s) e = ap (λ (w : Context). joined (classOf P d) w (classOf P c)) e
-
-  restart-from : (d : Scalar) (x before s : List Scalar) → context P (d ∷ (x ++ before)) ≡ context P (d ∷ x) → clustersAfter P (d ∷ (x ++ before)) s ≡ clustersAfter P (d ∷ x) s
+  -- clusters depend on the context alone
+  pub same-after : (s : List Scalar) (c : Scalar) (a b : List Scalar) → context P (c ∷ a) ≡ context P (c ∷ b) → clustersAfter P a (c ∷ s) ≡ clustersAfter P b (c ∷ s)
   unfolding clustersAfter
-  restart-from d x before [] e = refl
-  restart-from d x before (c ∷ s) e =
-      let f = odd-more c (d ∷ x) before e in
-      ap₂ (λ (w : Bool) (gs : List (List Scalar)). addToCluster P w c gs) (joinsNext-same c (d ∷ x) before s f) (restart-from c (d ∷ x) before s f)
+  same-after [] c a b e = refl
+  same-after (d ∷ s) c a b e =
+      ap₂ (λ (w : Bool) (gs : List (List Scalar)). addToCluster P w c gs) (ap (λ (k : Context). joined (classOf P c) k (classOf P d)) e)
+      (same-after s d (c ∷ a) (c ∷ b) (ap (λ (k : Context). after k (classOf P d)) e))
 
   -- behind a boundary the clusters are those of the text that begins there
   pub restart : (before : List Scalar) (c : Scalar) (s : List Scalar) → joins P before c ≡ false → clustersAfter P before (c ∷ s) ≡ clusters P (c ∷ s)
-  unfolding clusters clustersAfter
-  restart before c s e =
-      let f = after-boundary before c e in
-      ap₂ (λ (w : Bool) (gs : List (List Scalar)). addToCluster P w c gs) (joinsNext-same c [] before s f) (restart-from c [] before s f)
+  unfolding clusters
+  restart before c s e = same-after s c before [] (after-boundary before c e)
 
   -- how many scalars of s belong to the cluster that `before` ends with
   unfoldable pub further : List Scalar → List Scalar → ℕ
@@ -133,30 +123,3 @@ module _ (P : Profile) where
   pub clusters-apart : (c d : Scalar) (s : List Scalar) → joins P (c ∷ []) d ≡ false → clusters P (c ∷ d ∷ s) ≡ (c ∷ []) ∷ clusters P (d ∷ s)
   unfolding further
   clusters-apart c d s e = clusters-first c (d ∷ s) ∙ rw e refl
-
-  -- ---- a boundary cuts the clusters in two
-
-  add-behind : (w v : Bool) (d e : Scalar) (gs hs : List (List Scalar)) → addToCluster P w d (addToCluster P v e gs ++ hs) ≡ addToCluster P w d (addToCluster P v e gs) ++ hs
-  unfolding addToCluster
-  add-behind false v d e gs hs = refl
-  add-behind true false d e gs hs = refl
-  add-behind true true d e [] hs = refl
-  add-behind true true d e (g ∷ gs) hs = refl
-
-  module _ (c : Scalar) (y : List Scalar) where
-    cut-after : (before x : List Scalar) → joins P (reverseAux x before) c ≡ false → clustersAfter P before (x ++ (c ∷ y)) ≡ clustersAfter P before x ++ clusters P (c ∷ y)
-    unfolding clustersAfter joinsNext addToCluster
-    cut-after before [] e = restart before c y e
-    cut-after before (d ∷ []) e = rw (e, restart (d ∷ before) c y e) refl
-    cut-after before (d ∷ f ∷ x) e =
-        ap (addToCluster P (joins P (d ∷ before) f) d) (cut-after (d ∷ before) (f ∷ x) e)
-        ∙ add-behind (joins P (d ∷ before) f) (joinsNext P (f ∷ d ∷ before) x) d f (clustersAfter P (f ∷ d ∷ before) x) (clusters P (c ∷ y))
-
-    -- the clusters before a boundary, and those behind it
-    pub clusters-cut : (x : List Scalar) → joins P (reverse x) c ≡ false → clusters P (x ++ (c ∷ y)) ≡ clusters P x ++ clusters P (c ∷ y)
-    unfolding clusters
-    clusters-cut x e = cut-after [] x e
-
-    -- of a scalar that joins nothing before it
-    pub clusters-split : ((before : List Scalar) → joins P before c ≡ false) → (x : List Scalar) → clusters P (x ++ (c ∷ y)) ≡ clusters P x ++ clusters P (c ∷ y)
-    clusters-split alone x = clusters-cut x (alone (reverse x))

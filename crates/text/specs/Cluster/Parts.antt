@@ -1,18 +1,19 @@
 -- Clusters of parts of a text.
-use mathlib.Core.Path.{_≡_, refl, sym, ap, ap₂, subst, _∙_}
+use mathlib.Core.Path.{_≡_, refl, sym, ap, subst, _∙_}
 use Prim.Native.Nat.{ℕ, suc, _≤_, suc-le-suc}
 use native.Mathlib.Omega.{arith}
-use mathlib.Core.Bool.{Bool, true, false}
+use mathlib.Core.Bool.{false}
 use mathlib.Core.List.{List, [], _∷_, _++_}
 use lib.ListN.{length, take, drop, take-append-drop}
 use lib.Seq.{length-take-le, take-append-seam, drop-append-seam}
 use Rattle.text.specs.Tests.{cases}
-use Rattle.text.specs.Each.{All, all-nil, all-cons}
+use Rattle.text.specs.Each.{All, all-cons}
 use Rattle.text.specs.Utf8.{Scalar}
 use Rattle.text.specs.Class.{Profile, among, number}
 use Rattle.text.specs.Width.{widthOf}
 use Rattle.text.specs.Width.Laws.{width-cons}
-use Rattle.text.specs.Cluster.{Context, start, after, joined, classOf, context, joins, joinsNext, addToCluster, clustersAfter, clusters}
+use Rattle.text.specs.Cluster.{classOf, context, joins, joinsNext, clustersAfter, clusters}
+use Rattle.text.specs.Cluster.Appended.{Appended, apart, shared, alone-front}
 use Rattle.text.specs.Cluster.Laws.{further, clusters-first, clusters-none}
 use Rattle.text.specs.Segmentation.Boundaries.{alone-numbers, other-alone}
 
@@ -80,40 +81,16 @@ module _ (P : Profile) where
   pub first-before : (c : Scalar) (x y z : List Scalar) → further P (c ∷ []) (x ++ y) ≡ length x → Ends y z → clusters P (c ∷ (x ++ z)) ≡ (c ∷ x) ∷ clusters P z
   first-before c x y z e h = clusters-first P c (x ++ z) ∙ rw (further-ends x (c ∷ []) y z h e, take-append-seam x z, drop-append-seam x z)
 
-  -- ---- a scalar of class other leaves no context
-
-  after-other : (k : Context) → after k 11 ≡ start
-  unfolding after among number
-  after-other k = refl
-
-  module _ (c : Scalar) (h : classOf P c ≡ 11) where
-    context-front : (x : List Scalar) → context P (x ++ (c ∷ [])) ≡ context P x
-    unfolding context
-    context-front [] = ap (after start) h ∙ after-other start
-    context-front (d ∷ x) = ap (λ (k : Context). after k (classOf P d)) (context-front x)
-
-    joinsNext-front : (d : Scalar) (x s : List Scalar) → joinsNext P (d ∷ (x ++ (c ∷ []))) s ≡ joinsNext P (d ∷ x) s
-    unfolding joinsNext joins
-    joinsNext-front d x [] = refl
-    joinsNext-front d x (e ∷ s) = ap (λ (k : Context). joined (classOf P d) k (classOf P e)) (context-front (d ∷ x))
-
-    clusters-front : (x s : List Scalar) → clustersAfter P (x ++ (c ∷ [])) s ≡ clustersAfter P x s
-    unfolding clustersAfter
-    clusters-front x [] = refl
-    clusters-front x (d ∷ s) = ap₂ (λ (w : Bool) (gs : List (List Scalar)). addToCluster P w d gs) (joinsNext-front d x s) (clusters-front (d ∷ x) s)
-
   -- ---- clusters that all have a width
 
   abbrev pub Wide : List (List Scalar) → Type 0
   Wide gs = All (λ (g : List Scalar). 1 ≤ widthOf P g) gs
 
-  add-wide : (w : Bool) (c : Scalar) → 1 ≤ P .width (c .code) → {gs : List (List Scalar)} → Wide gs → Wide (addToCluster P w c gs)
-  unfolding addToCluster
-  add-wide false c h a = all-cons {a = c ∷ []} (omega (arith, width-cons P c [])) a
-  add-wide true c h all-nil = all-cons {a = c ∷ []} (omega (arith, width-cons P c [])) all-nil
-  add-wide true c h (all-cons {a = g} w a) = all-cons {a = c ∷ g} (omega (arith, width-cons P c g)) a
-
-  -- with such a scalar of some width in front they still do
+  -- with a scalar of class other and of some width in front they still do
   pub other-wide : (c : Scalar) (s : List Scalar) → classOf P c ≡ 11 → 1 ≤ P .width (c .code) → Wide (clusters P s) → Wide (clusters P (c ∷ s))
-  unfolding clusters clustersAfter
-  other-wide c s h w a = add-wide (joinsNext P (c ∷ []) s) c w (rw (clusters-front c h [] s) a)
+  unfolding among number
+  other-wide c s h w a = by (alone-front P c (rw h refl) s) a
+    where
+      by : {gs hs : List (List Scalar)} → Appended ((c ∷ []) ∷ []) gs hs → Wide gs → Wide hs
+      by apart a = all-cons {a = c ∷ []} (omega (arith, width-cons P c [])) a
+      by (shared {h = g}) (all-cons v a) = all-cons {a = c ∷ g} (omega (arith, width-cons P c g)) a

@@ -9,7 +9,8 @@ use lib.Dec.{T, eqb}
 use borrow.Author.Tests.{eqb-true}
 use Rattle.text.specs.Tests.{cases, true-T, every}
 use Rattle.text.specs.Utf8.{Scalar, to, within}
-use Rattle.text.specs.Class.{Class, Profile, among, class01, classL, classLV, classLVT, classT, classV, control, controls, cr, extend, extends, inAny, lf, number, other, regionalIndicator, spaces, whitespace, zwj}
+use Rattle.text.specs.Class.{Class, Profile, among, class01, classL, classLV, classLVT, classT, classV, control, controls, extend, extends, inAny, lf, number, other, regionalIndicator, spaces, whitespace, zwj}
+use Rattle.text.specs.Class.Laws.{aloneOrLf}
 use Rattle.text.specs.Class.Ranges.{eachIn, each-in}
 use Rattle.text.specs.Width.{profile01}
 use Rattle.text.specs.Cluster.{Context, context, joined, joins}
@@ -29,7 +30,7 @@ pub record SpacesBegin (P : Profile) : Type 0 where
 -- ---- document 01's profile
 
 space-class : ℕ → Bool
-space-class x = among (number (class01 x)) (cr ∷ lf ∷ control ∷ other ∷ [])
+space-class x = aloneOrLf (number (class01 x))
 
 spaces-classed : T (eachIn spaces space-class)
 unfolding eachIn every spaces space-class among number class01
@@ -57,20 +58,23 @@ only-cr x e =
     (some-class (within (to 0xAC00 0xD7A3) x) (cond (eqb ((x - 0xAC00) % 28) 0) classLV classLVT) _ (some-class (eqb ((x - 0xAC00) % 28) 0) classLV classLVT (some 7) (some 8))
     (some-class (within (to 0x1F1E6 0x1F1FF) x) regionalIndicator other (some 9) (some 10))))))))))
 
-space-apart : (x y : ℕ) (k : Context) → whitespace x ≡ false → whitespace y ≡ true → joined (number (class01 x)) k (number (class01 y)) ≡ false
-unfolding whitespace space-class
-space-apart x y k n e =
-    let c = each-in spaces y space-class spaces-classed e in
+pub space-numbers : (f : code.Profile) (v : ℕ) → whitespace v ≡ true → aloneOrLf (number (profileOf f .class v)) ≡ true
+unfolding whitespace space-class profileOf profile01
+space-numbers f v e = each-in spaces v space-class spaces-classed e
+
+space-apart : (f : code.Profile) (x y : ℕ) (k : Context) → whitespace x ≡ false → whitespace y ≡ true → joined (number (profileOf f .class x)) k (number (profileOf f .class y)) ≡ false
+unfolding whitespace profileOf profile01
+space-apart f x y k n e =
     let p : number (class01 x) ≢ 0 = only-cr x (cases (eqb x 0x0D) (λ i. absurd (no-space i)) (λ i. i)) in
-    apart-numbers (number (class01 x)) k (number (class01 y)) p c
+    apart-numbers (number (class01 x)) k (number (class01 y)) p (space-numbers f y e)
   where
     no-space : eqb x 0x0D ≡ true → ⊥
     no-space i = let z : true ≡ false = rw (eqb-true x 0x0D i) at n in true-T (sym z)
 
 space-begins : (f : code.Profile) (before : List Scalar) (c : Scalar) → NoSpaceBefore before → whitespace (c .code) ≡ true → joins (profileOf f) before c ≡ false
-unfolding joins profileOf profile01
+unfolding joins
 space-begins f [] c o e = refl
-space-begins f (d ∷ before) c o e = space-apart (d .code) (c .code) (context (profileOf f) (d ∷ before)) o e
+space-begins f (d ∷ before) c o e = space-apart f (d .code) (c .code) (context (profileOf f) (d ∷ before)) o e
 
 pub spaces-begin : (f : code.Profile) → SpacesBegin (profileOf f)
 spaces-begin f = record { begins = space-begins f }

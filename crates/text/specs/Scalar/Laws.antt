@@ -9,7 +9,8 @@ use lib.Dec.{T, eqb, leb, leb→le, ltb}
 use lib.ListN.{drop, drop-of-length-le, length}
 use lib.Seq.{length-take-le}
 use borrow.Author.Tests.{eqb-false, eqb-true, ltb-false, ltb-true}
-use Rattle.text.specs.Class.{Class, Profile, classL, classLV, classLVT, classT, classV, control, cr, extend, lf, number, other, regionalIndicator, zwj}
+use Rattle.text.specs.Class.{Profile, number}
+use Rattle.text.specs.Class.Laws.{number-le}
 use Rattle.text.specs.Cluster.{classOf, clusters}
 use Rattle.text.specs.Cluster.Laws.{clusters-first}
 use Rattle.text.specs.Segmentation.{firstOf}
@@ -48,21 +49,6 @@ len-le : (s : List ℕ) → firstSequence (decode s) .len ≤ 4
 unfolding firstSequence decode decodeFrom sequence
 len-le [] = omega arith
 len-le (b ∷ s) = rw (first-len b s (sequence (b ∷ s)) refl) (in-short table (b ∷ s) short-table)
-
-pub number-le : (c : Class) → number c ≤ 11
-unfolding number
-number-le cr = omega arith
-number-le lf = omega arith
-number-le control = omega arith
-number-le extend = omega arith
-number-le zwj = omega arith
-number-le classL = omega arith
-number-le classV = omega arith
-number-le classT = omega arith
-number-le classLV = omega arith
-number-le classLVT = omega arith
-number-le regionalIndicator = omega arith
-number-le other = omega arith
 
 module _ (P : Profile) (s : List ℕ) (p : ℕ) where
   pub packed-past : length s ≤ p → packedAt P s p ≡ 0

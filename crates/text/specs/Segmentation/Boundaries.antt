@@ -11,12 +11,14 @@ use Rattle.text.specs.Tests.{cases, and-T, is-true, true-T}
 use Rattle.text.specs.Utf8.{Scalar, decode, runOf, bytesOf}
 use Rattle.text.specs.Utf8.Ascii.{Split, ascii-splits}
 use Rattle.text.specs.Utf8.Runs.{run-rest, run-length}
-use Rattle.text.specs.Class.{Profile, cr, lf, control, other, number, among}
+use Rattle.text.specs.Class.{Profile, cr, control, other, number, among}
+use Rattle.text.specs.Class.Laws.{aloneOrLf}
 use Rattle.text.specs.Class.Ascii.{AsciiClasses, c0-class}
 use Rattle.text.specs.Class.Code.{printable}
 use Rattle.text.specs.Cluster.{Context, joined, joins, context, clusters, joinAll}
 use Rattle.text.specs.Cluster.Ascii.{after-control}
-use Rattle.text.specs.Cluster.Laws.{clusters-all, clusters-split}
+use Rattle.text.specs.Cluster.Appended.{clusters-split}
+use Rattle.text.specs.Cluster.Laws.{clusters-all}
 use Rattle.text.specs.Segmentation.{neverJoinsBefore}
 
 -- classes that join nothing before them
@@ -42,7 +44,7 @@ unfolding among number
 other-alone = refl
 
 -- LF joins CR alone
-pub apart-numbers : (p : ℕ) (k : Context) (c : ℕ) → (p ≢ 0) → among c (cr ∷ lf ∷ control ∷ other ∷ []) ≡ true → joined p k c ≡ false
+pub apart-numbers : (p : ℕ) (k : Context) (c : ℕ) → (p ≢ 0) → aloneOrLf c ≡ true → joined p k c ≡ false
 unfolding joined among number
 apart-numbers p k c f g =
     cases (eqb c 1)
@@ -62,7 +64,7 @@ module _ (P : Profile) (a : AsciiClasses P) where
   not-cr b h n = eqb-false _ _ (rw (a .class b h, ne-eqb b 0x0D n) (cases (printable b) (λ p. rw p refl) (λ p. rw p (cases (eqb b 0x0A) (λ c. rw c refl) (λ c. rw c refl)))))
 
   -- none of them joins what stands before it, but for LF behind CR
-  ascii-numbers : (b : ℕ) → b < 0x80 → among (number (P .class b)) (cr ∷ lf ∷ control ∷ other ∷ []) ≡ true
+  pub ascii-numbers : (b : ℕ) → b < 0x80 → aloneOrLf (number (P .class b)) ≡ true
   unfolding among number
   ascii-numbers b h = rw (a .class b h) (cases (printable b) (λ p. rw p refl) (λ p. rw p (cases (eqb b 0x0D) (λ c. rw c refl) (λ c. rw c (cases (eqb b 0x0A) (λ d. rw d refl) (λ d. rw d refl))))))
 

@@ -101,7 +101,7 @@ pub record Split (r : List Scalar) (n b : ℕ) : Type 0 where
   pub size : length (bytesOf before) ≡ n
   pub code : here .code ≡ b
 
-split-in : (r : List Scalar) → All Valid r → (n : ℕ) → n < length (bytesOf r) → getD (bytesOf r) n 0 < 0x80 → Split r n (getD (bytesOf r) n 0)
+pub split-in : (r : List Scalar) → All Valid r → (n : ℕ) → n < length (bytesOf r) → getD (bytesOf r) n 0 < 0x80 → Split r n (getD (bytesOf r) n 0)
 unfolding bytesOf
 split-in [] all-nil n h l = absurd (omega arith)
 split-in (c ∷ r) (all-cons v a) n h l =

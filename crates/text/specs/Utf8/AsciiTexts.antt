@@ -2,12 +2,13 @@
 use mathlib.Core.Path.{_≡_, refl, sym, ap, _∙_}
 use Prim.Native.Nat.{ℕ, zero, suc, _<_}
 use native.Mathlib.Omega.{arith}
+use mathlib.Core.Bool.{true}
 use mathlib.Core.List.{List, [], _∷_, _++_, map}
 use lib.ListN.{length, replicate}
 use Rattle.text.specs.Each.{All, all-nil, all-cons}
-use Rattle.text.specs.Utf8.{Decoded, Scalar, addToRun, ascii, asciis, bytesOf, decode, run, runOf, runs, scalar, value, wellFormed}
+use Rattle.text.specs.Utf8.{Decoded, Scalar, addToRun, ascii, asciis, bytesOf, decode, reads, run, runOf, runs, scalar, value, wellFormed}
 use Rattle.text.specs.Utf8.Ascii.{low-sequence}
-use Rattle.text.specs.Utf8.Laws.{decode-good}
+use Rattle.text.specs.Utf8.Laws.{decode-good, reads-is}
 use Rattle.text.specs.Utf8.Valid.{Valid, run-text}
 use Rattle.text.specs.Utf8.Code.{size}
 
@@ -51,6 +52,11 @@ asciis-valid (all-cons {a = b} h a) = all-cons (ascii-valid b h) (asciis-valid a
 -- bytes below 80 are such a text
 pub run-asciis : {s : List ℕ} → All (λ (b : ℕ). b < 0x80) s → runOf (decode s) ≡ asciis s
 run-asciis {s} a = ap (λ (l : List ℕ). runOf (decode l)) (sym (asciis-bytes s)) ∙ run-text (asciis-valid a)
+
+-- a text that reads as one of them
+pub reads-ascii : {g : List Scalar} (b : ℕ) → b < 0x80 → All Valid g → reads g (b ∷ []) ≡ true → g ≡ ascii b ∷ []
+unfolding asciis
+reads-ascii {g} b h v e = sym (run-text v) ∙ ap (λ (l : List ℕ). runOf (decode l)) (reads-is g (b ∷ []) e) ∙ run-asciis (all-cons h all-nil)
 
 decode-asciis : {s : List ℕ} → All (λ (b : ℕ). b < 0x80) s → decode s ≡ map wellFormed (asciis s)
 unfolding asciis decode scalar value

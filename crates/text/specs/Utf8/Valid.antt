@@ -6,7 +6,7 @@ use native.Mathlib.Omega.{arith}
 use mathlib.Core.Bool.{Bool, true, false, _&&_, _||_}
 use mathlib.Core.List.{List, [], _∷_, _++_, map, append-assoc, append-nil}
 use lib.ListN.{length, take}
-use lib.Seq.{length-take-le, take-at, drop-at}
+use lib.Seq.{length-take-le, take-at, take-length, drop-at}
 use lib.Dec.{T, leb, ltb, leb→le, ltb→lt}
 use Rattle.text.specs.Tests.{and-T, or-T, is-true, is-false, true-T, cases}
 use Rattle.text.specs.Each.{All, all-nil, all-cons}
@@ -96,6 +96,10 @@ scalar-valid b n s e =
       some = suc-le-suc zero-le;
       decodes = λ t. decode-good b (take n s ++ t) n (sequence-take b n s t e) ∙ rw (take-at (take n s) t n k, drop-at (take n s) t n k);
     }
+
+pub sequence-valid : (s : List ℕ) → sequence s ≡ length s → 1 ≤ length s → Valid (scalar s)
+sequence-valid [] e h = absurd (omega arith)
+sequence-valid (b ∷ s) e h = rw (take-length s) at (scalar-valid b (length s) s e)
 
 -- its bytes are one sequence, and it is what they stand for
 pub record OneSequence (c : Scalar) : Type 0 where
