@@ -17,13 +17,14 @@ use Rattle.text.specs.Calls.{counted}
 use Rattle.text.specs.Calls.Laws.{counted-accepted, counted-refused}
 use Rattle.text.specs.declared.Answer.{Answer}
 use Rattle.spans.specs.Spans.{Span, spans, Record}
+use Rattle.spans.specs.Spans.Laws.{unmatched-spans}
 use Rattle.spans.specs.Calls.{Read, readCall, noRecord}
 use Rattle.spans.specs.Calls.Contracts.{readAs}
 use Rattle.rows.specs.Rows.{Row, rows}
 use Rattle.rows.specs.Calls.{modeOf}
 use Rattle.rows.specs.Calls.Contracts.{largest, lineRoom}
 use Rattle.rows.specs.Calls.Reading as reading
-use Rattle.rows.specs.Calls.Reading.{line-room, unmatched-spans}
+use Rattle.rows.specs.Calls.Reading.{line-room}
 use Rattle.rows.specs.Wrap.Laws.{rows-of-spans}
 use Rattle.rows.specs.Narrowest.{triedOf, modeRowsAndWidth, Narrowed, takesAtMost, narrowest, narrowestCall}
 use Rattle.rows.specs.Narrowest.Laws.{nothing, narrowest-refused, narrowest-five, narrowest-accepted, asked-ranges, first-alike}

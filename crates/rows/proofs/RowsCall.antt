@@ -18,6 +18,7 @@ use Rattle.text.specs.Class.Profile01.{profile-is}
 use Rattle.text.specs.Overstrike.{convert}
 use Rattle.text.specs.declared.Answer.{Answer}
 use Rattle.spans.specs.Spans.{Span, spans, Record, records}
+use Rattle.spans.specs.Spans.Laws.{unmatched-spans}
 use Rattle.spans.specs.Calls.{Read, readCall, noRecord}
 use Rattle.spans.specs.Calls.Contracts.{readAs}
 use Rattle.rows.specs.Rows.{Row}
@@ -33,7 +34,7 @@ use Rattle.rows.specs.declared.wrap.RowCounts.{RowCounts}
 use Rattle.rows.specs.declared.wrap.WrapState.{WrapState}
 use Rattle.rows.specs.declared.wrap.Wrapping.{Wrapping}
 use Rattle.rows.specs.Calls.Reading as reading
-use Rattle.rows.specs.Calls.Reading.{line-room, unmatched-spans}
+use Rattle.rows.specs.Calls.Reading.{line-room}
 
 -- ---- the covered functions
 

@@ -1,12 +1,12 @@
 -- The spans of a line as text, written one part after the other.
 use mathlib.Core.Path.{_≡_, refl, sym, ap, _∙_}
 use mathlib.Core.Logic.{_≢_}
-use Prim.Native.Nat.{ℕ, zero, suc, _+_, _-_, _*_, _/_, _%_, _≤_, _<_}
+use Prim.Native.Nat.{ℕ, suc, _+_, _-_, _*_, _/_, _%_, _≤_, _<_}
 use native.Mathlib.Numerals.{add-one}
 use native.Mathlib.Omega.{arith}
 use mathlib.Core.Bool.{true, false, _&&_}
 use mathlib.Core.List.{List, [], _∷_, _++_}
-use lib.ListN.{length, take, drop, getD, replicate, length-append, length-drop, length-map, length-replicate, drop-of-length-le}
+use lib.ListN.{length, take, drop, getD, replicate, length-append, length-drop, length-replicate, drop-of-length-le}
 use lib.Seq.{drop-cons}
 use lib.Dec.{eqb, leb}
 use borrow.Author.Tests.{eq-eqb, ne-eqb, le-leb, leb-true, eqb-true}
@@ -22,10 +22,12 @@ use Rattle.buffer.specs.Numbers.{smallerOf}
 use Rattle.buffer.specs.Numbers as numbers
 use Rattle.buffer.specs.Sink.{Sink, put, emit, writtenOrZero}
 use Rattle.buffer.specs.Sink.Laws.{emit-none, emit-append, then-emit, emit-put, then-put}
-use Rattle.spans.specs.Spans.{Span, spans, Record, recordOf, records}
+use Rattle.spans.specs.Spans.{Span, spans, Record, records}
+use Rattle.spans.specs.Spans.Laws.{records-length}
 use Rattle.spans.specs.Calls.{Read, readCall, question4, noRecord}
 use Rattle.spans.specs.Calls.Laws.{unmatched, unmatched-accepted}
-use Rattle.spans.specs.Numbers.{numbersOf, numbersOfAll, placesIn, ReadNumbers}
+use Rattle.spans.specs.Numbers.{numbersOfAll, placesIn, ReadNumbers}
+use Rattle.spans.specs.Numbers.Laws.{numbers-length, numbers-take}
 use Rattle.drawing.specs.Marks.{byteMark}
 use Rattle.drawing.specs.Marks.Laws.{digit-is}
 use Rattle.rows_io.specs.Output.{decimal}
@@ -191,20 +193,6 @@ unfolding numbersText recordsText numbersOfAll
 numbers-text number conv [] = refl
 numbers-text number conv (r ∷ rs) = ap (λ (l : List ℕ). spanText number conv (r .kind) (r .place .0) (r .len) ++ l) (numbers-text number conv rs)
 
-numbers-length : (rs : List Record) → length (numbersOfAll rs) ≡ 4 * length rs
-unfolding numbersOfAll
-numbers-length [] = refl
-numbers-length (r ∷ rs) = omega (arith, numbers-length rs)
-
-numbers-take : (rs : List Record) (zs : List ℕ) (k : ℕ) → k ≤ length rs → take (4 * k) (numbersOfAll rs ++ zs) ≡ numbersOfAll (take k rs)
-unfolding numbersOfAll
-numbers-take [] zs zero h = refl
-numbers-take [] zs (suc k) h = absurd (omega arith)
-numbers-take (r ∷ rs) zs zero h = refl
-numbers-take (r ∷ rs) zs (suc k) h =
-    let e : 4 * suc k ≡ suc (suc (suc (suc (4 * k)))) = omega arith in
-    rw e (ap (λ (l : List ℕ). numbersOf r ++ l) (numbers-take rs zs k (omega arith)))
-
 module _ (line : List ℕ) where
   abbrev call : Read
   call = readCall profile01 32768 2048 [] line
@@ -222,15 +210,11 @@ module _ (line : List ℕ) where
     count-is : call .count ≡ length ss
     count-is = ap (λ (c : Read). c .count) (unmatched-accepted profile01 32768 2048 line fine)
 
-    records-length : length (records ss) ≡ length ss
-    unfolding records
-    records-length = length-map ss recordOf
-
     places-length : length (call .spans) ≡ 2048
     places-length =
         ap length (ap (λ (c : Read). c .spans) (unmatched-accepted profile01 32768 2048 line fine))
         ∙ length-append (records ss) (replicate (2048 - length (records ss)) noRecord)
-        ∙ ap (λ (k : ℕ). length (records ss) + k) (length-replicate (2048 - length (records ss)) noRecord) ∙ omega (arith, records-length, few)
+        ∙ ap (λ (k : ℕ). length (records ss) + k) (length-replicate (2048 - length (records ss)) noRecord) ∙ omega (arith, records-length ss, few)
 
     numbers-front : take (4 * call .count) (writtenOrZero 8192 (numbersOfAll (call .spans))) ≡ numbersOfAll (take (call .count) (call .spans))
     unfolding writtenOrZero

@@ -9,7 +9,6 @@ use Rattle.spans.specs.Spans.{Record}
 use Rattle.drawing.specs.Marks.{byteMark}
 use Rattle.rows_io.specs.Output.{decimal}
 pub mod Contracts
-pub mod Controls
 pub mod Vectors
 
 -- ---- kinds, in document 01's words

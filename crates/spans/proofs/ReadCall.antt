@@ -5,7 +5,7 @@ use native.Mathlib.Nat.{not-suc-le-zero, le-of-suc-le-suc}
 use native.Mathlib.Omega.{arith}
 use mathlib.Core.Bool.{Bool, true, false, cond}
 use mathlib.Core.List.{List, [], _∷_, _++_, append-assoc, append-nil}
-use lib.ListN.{length, take, drop, set, replicate, length-append, length-replicate, length-map}
+use lib.ListN.{length, take, drop, set, replicate, length-append, length-replicate}
 use lib.Seq.{take-append-seam}
 use lib.Dec.{eqb, leb, ltb}
 use borrow.Author.Tests.{eq-eqb, ne-eqb, eqb-true, eqb-false, le-leb, lt-leb, leb-true, lt-ltb, le-ltb, ltb-true, ltb-false}
@@ -22,7 +22,8 @@ use Rattle.text.specs.Class.Profile01.{profile-is}
 use Rattle.text.specs.declared.Answer.{Answer}
 use Rattle.text.specs.declared.class.Profile as code
 use Rattle.spans.specs.Search.{searchedLength, inOrder, read}
-use Rattle.spans.specs.Spans.{Span, Record, recordOf, records}
+use Rattle.spans.specs.Spans.{Span, Record, records}
+use Rattle.spans.specs.Spans.Laws.{records-length}
 use Rattle.spans.specs.Calls.{noRecord, question3, Read, readCall}
 use Rattle.spans.specs.Segments.{remaining, Sound, NextRecordReady, firstRecord, RecordStep, BeginReady, Begun}
 use Rattle.spans.specs.Calls.Contracts.{refusedBy, thirdQuestion, Planned, Holds, recordsOf, NextReadingReady, ReadingStep, ParseSpansReady, SpansParsed, numberOf, Finished, readAs, firstQuestions, Prepared}
@@ -337,10 +338,6 @@ call-is size places matches line =
     (λ g. cases (inOrder (searchedLength s) 0 matches) (λ h. rw (f, g, h)) (λ h. rw (f, g, h)))
     (λ g. rw (f, g)))
     (λ f. rw f)
-
-records-length : (ss : List Span) → length (records ss) ≡ length ss
-unfolding records
-records-length ss = length-map ss recordOf
 
 pub parse-ready : (line matches : List ℕ) (size : ℕ) (conv : List ℕ) (places : ℕ) (r : Reading) → Prepared line matches size conv places r → ParseSpansReady conv matches places r
 parse-ready line matches size conv places r p =

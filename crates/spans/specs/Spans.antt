@@ -21,6 +21,8 @@ pub mod AroundSequences
 pub mod SpanCount
 pub mod PlainClusters
 pub mod ContentKinds
+pub mod TextClusters
+pub mod Controls
 
 -- the source's Span: what a span holds; Text is `text none`, Match is `text (some k)`
 pub data Content : Type 0 where

@@ -1,13 +1,13 @@
 -- The row picture of every accepted line: its spans are as the row picture asks, and its columns fit mode 0's row.
 use mathlib.Core.Path.{_≡_, refl, sym, ap, _∙_}
-use Prim.Native.Nat.{ℕ, suc, _+_, _*_, _≤_}
+use Prim.Native.Nat.{ℕ, _+_, _*_, _≤_}
 use native.Mathlib.Omega.{arith}
 use mathlib.Core.List.{List, [], _∷_}
-use mathlib.Core.Option.{Option, none, some}
+use mathlib.Core.Option.{none, some}
 use lib.ListN.{length, getD, length-append, length-drop, length-take}
 use lib.Seq.{slice}
-use Rattle.text.specs.Each.{All, all-nil, all-cons, all-append, all-map}
-use Rattle.text.specs.Utf8.{Scalar, decode, runOf, bytesOf, Piece}
+use Rattle.text.specs.Each.{All, all-nil, all-cons, all-both, all-map}
+use Rattle.text.specs.Utf8.{Scalar, decode, runOf, bytesOf, Piece, run, damaged}
 use Rattle.text.specs.Utf8.Laws.{bytes-cons}
 use Rattle.text.specs.Utf8.Runs.{run-valid, run-fits}
 use Rattle.text.specs.Utf8.Valid.{Valid}
@@ -17,19 +17,19 @@ use Rattle.text.specs.Width.Laws.{width-cons, width-nil}
 use Rattle.text.specs.Overstrike.{convert}
 use Rattle.text.specs.Overstrike.Bytes.{Byte, converted-bytes, byte-at}
 use Rattle.text.specs.Overstrike.Length.{convert-size}
-use Rattle.spans.specs.Spans.{Content, text, control, invalid, unprintable, escape, tab, crlf, lf, Span, span, readPieces, spans, kindOf, recordOf}
+use Rattle.spans.specs.Spans.{Content, text, control, invalid, unprintable, escape, tab, crlf, lf, Span, spans, kindOf, recordOf}
+use Rattle.spans.specs.Spans.Laws.{unmatched-spans}
 use Rattle.spans.specs.Spans.PlainClusters.{plain-wide}
+use Rattle.spans.specs.Spans.TextClusters.{TextClusters, PlainPiece, spans-texts}
 use Rattle.spans.specs.Spans.ContentLaw.{contentOf, content}
 use Rattle.spans.specs.Spans.ContentKinds.{scalarsOf, text-content, match-content, control-content, invalid-content, unprintable-content}
 use Rattle.spans.specs.Spans.SpanCount.{few}
 use Rattle.spans.specs.Calls.Laws.{read-passed}
 use Rattle.rows.specs.Marks.{drawnColumns}
 use Rattle.rows.specs.Marks.Laws.{mark-small}
-use Rattle.rows.specs.Calls.Reading.{unmatched-spans}
 use Rattle.columns.specs.Columns.{spanColumns, lastColumnFrom}
 use Rattle.picture.specs.Conditions.{Unshared, UnsharedPiece, UnsharedLine, Drawable}
 use Rattle.picture.specs.Picture.{RowsShowLines}
-use Rattle.picture.specs.Picture.TextSpans.{TextClusters, run-texts}
 use Rattle.picture.specs.Picture.AnyProfile.{rowPicture}
 
 -- ---- clusters
@@ -39,16 +39,12 @@ module _ (P : Profile) where
   abbrev Good : List Scalar → Type 0
   Good g = (1 ≤ widthOf P g) × Unshared P g
 
-  pieces-good : (m : Option ℕ) (p : ℕ) {ps : List Piece} → All (UnsharedPiece P) ps → All (TextClusters P Good) (readPieces P m p ps)
-  unfolding readPieces
-  pieces-good m p all-nil = all-nil
-  pieces-good m p (all-cons (UnsharedPiece.run {s = s} u) a) =
-      all-append (run-texts P Good s (all-map (λ g h k. (plain-wide P g k, h)) u) m p) (pieces-good m (p + length (bytesOf s)) a)
-  pieces-good m p (all-cons (UnsharedPiece.damaged {b = b}) a) = all-cons {a = span p 1 (invalid b)} (λ n t i. absurd (let z : _≡_ {A = ℕ} 0 1 = cc in omega arith)) (pieces-good m (suc p) a)
+  good-piece : (x : Piece) → UnsharedPiece P x → PlainPiece P Good x
+  good-piece (run s) (UnsharedPiece.run u) = all-map (λ g h k. (plain-wide P g k, h)) u
+  good-piece (damaged b) u = tt
 
   spans-good : (s : List ℕ) → UnsharedLine P s → All (TextClusters P Good) (spans P s)
-  unfolding spans
-  spans-good s u = pieces-good none 0 u
+  spans-good s u = spans-texts P Good s (all-map good-piece u)
 
 -- ---- bytes
 
@@ -110,10 +106,6 @@ module _ (P : Profile) (narrow : (v : ℕ) → P .width v ≤ 2) where
   last-few (all-cons {a = x} f a) p = omega (arith, f p, last-few a (p + spanColumns P drawnColumns p (x .content)))
 
 -- ---- lines
-
-all-both : {A : Type 0} {Q R : A → Type 0} {s : List A} → All Q s → All R s → All (λ (x : A). Q x × R x) s
-all-both all-nil all-nil = all-nil
-all-both (all-cons q a) (all-cons r b) = all-cons (q, r) (all-both a b)
 
 pub rowsShowLines : (P : Profile) → RowsShowLines P
 rowsShowLines P composed classes narrow line bytes conv places e u mode n o width current =

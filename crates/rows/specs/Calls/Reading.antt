@@ -1,20 +1,20 @@
 -- What `read` leaves, for those who go on with the spans: the converted line at the front of the buffer, and a record for each span.
-use mathlib.Core.Path.{_≡_, refl, sym, ap, _∙_}
+use mathlib.Core.Path.{_≡_, sym, ap, _∙_}
 use Prim.Native.Nat.{ℕ, zero, suc, _+_, _-_, _≤_}
 use native.Mathlib.Omega.{arith}
-use mathlib.Core.List.{List, [], _++_}
-use lib.ListN.{length, take, replicate, length-append, length-map}
+use mathlib.Core.List.{List, _++_}
+use lib.ListN.{length, take, replicate, length-append}
 use lib.Seq.{take-at, take-append-add}
 use lib.Dec.{leb}
 use borrow.Author.Tests.{leb-true, leb-false}
 use Rattle.text.specs.Tests.{cases}
 use Rattle.text.specs.Each.{All}
-use Rattle.text.specs.Class.{Profile}
 use Rattle.text.specs.Width.{profile01}
 use Rattle.text.specs.Overstrike.{convert}
 use Rattle.text.specs.Overstrike.Length.{convert-size}
 use Rattle.text.specs.declared.Answer.{Answer}
-use Rattle.spans.specs.Spans.{Span, spans, Record, recordOf, records}
+use Rattle.spans.specs.Spans.{Span, Record, recordOf, records}
+use Rattle.spans.specs.Spans.Laws.{records-length}
 use Rattle.spans.specs.Spans.SpanCount.{few}
 use Rattle.spans.specs.Spans.ContentLaw.{contentOf, content-front}
 use Rattle.spans.specs.Search as search
@@ -22,11 +22,6 @@ use Rattle.spans.specs.Calls.{Read, readCall, noRecord}
 use Rattle.spans.specs.Calls.Laws.{read-accepted, read-refused, read-passed}
 use Rattle.spans.specs.Calls.Contracts.{readAs}
 use Rattle.rows.specs.Calls.Contracts.{lineRoom}
-
--- without matches
-pub unmatched-spans : (P : Profile) (s : List ℕ) → search.read P [] s ≡ spans P s
-unfolding search.read
-unmatched-spans P s = refl
 
 module _ (size places : ℕ) (matches line : List ℕ) (a : Answer) (cs : List ℕ) (rs : List Record) (read : readAs a cs rs ≡ readCall profile01 size places matches line) where
   abbrev pub s : List ℕ
@@ -48,10 +43,6 @@ module _ (size places : ℕ) (matches line : List ℕ) (a : Answer) (cs : List �
     count-is : a .count ≡ length ss
     count-is = ap (λ (x : Read). x .count) found-is
 
-    records-length : length (records ss) ≡ length ss
-    unfolding records
-    records-length = length-map ss recordOf
-
     line-fits : length s ≤ lineRoom size
     line-fits =
         let y = read-passed profile01 size places matches line (number-is ∙ fine) in
@@ -70,7 +61,7 @@ module _ (size places : ℕ) (matches line : List ℕ) (a : Answer) (cs : List �
     pub spans-part : take (a .count) rs ≡ records ss
     spans-part =
         ap (take (a .count)) (ap (λ (x : Read). x .spans) found-is)
-        ∙ take-at (records ss) (replicate (places - length (records ss)) noRecord) (a .count) (records-length ∙ sym count-is)
+        ∙ take-at (records ss) (replicate (places - length (records ss)) noRecord) (a .count) (records-length ss ∙ sym count-is)
 
     -- each span holds what its record says of the line
     pub held-in : All (λ (x : Span). contentOf (s ++ after) (recordOf x) ≡ x .content) ss
@@ -80,7 +71,7 @@ module _ (size places : ℕ) (matches line : List ℕ) (a : Answer) (cs : List �
     counted =
         let y = read-passed profile01 size places matches line (number-is ∙ fine) in
         let k : length rs ≡ length (records ss) + length (replicate (places - length (records ss)) noRecord) = ap length (ap (λ (x : Read). x .spans) found-is) ∙ length-append (records ss) (replicate (places - length (records ss)) noRecord) in
-        (omega (arith, count-is, records-length), omega (arith, count-is, few profile01 matches s (y .ordered), y .short, convert-size profile01 line))
+        (omega (arith, count-is, records-length ss), omega (arith, count-is, few profile01 matches s (y .ordered), y .short, convert-size profile01 line))
 
   -- so many records there are, and few enough to draw or wrap
   pub count-in : (n : ℕ) → a .number ≡ n → (a .count ≤ length rs) × (a .count ≤ 32768)

@@ -1,6 +1,6 @@
 -- The span list as plain numbers: what is left to push, what the numbers hold at the end, and how many places are lent.
 use mathlib.Core.Path.{_≡_, refl, sym, ap, ap₂, _∙_}
-use Prim.Native.Nat.{ℕ, _+_, _-_, _*_, _/_, _≤_, _<_}
+use Prim.Native.Nat.{ℕ, zero, suc, _+_, _-_, _*_, _/_, _≤_, _<_}
 use native.Mathlib.Numerals.{add-one}
 use native.Mathlib.Omega.{arith}
 use mathlib.Core.Bool.{true}
@@ -36,10 +36,18 @@ push-end : (rs : List Record) (i : ℕ) (s : Sink) {e : Sink} → length rs ≤ 
 unfolding numbersOfAll
 push-end rs i s h w = sym (emit-none s) ∙ ap (λ (ys : List Record). emit s (numbersOfAll ys)) (sym (drop-of-length-le rs h)) ∙ w
 
-numbers-length : (rs : List Record) → length (numbersOfAll rs) ≡ 4 * length rs
+pub numbers-length : (rs : List Record) → length (numbersOfAll rs) ≡ 4 * length rs
 unfolding numbersOfAll
 numbers-length [] = refl
 numbers-length (r ∷ rs) = omega (arith, numbers-length rs)
+
+pub numbers-take : (rs : List Record) (zs : List ℕ) (k : ℕ) → k ≤ length rs → take (4 * k) (numbersOfAll rs ++ zs) ≡ numbersOfAll (take k rs)
+unfolding numbersOfAll
+numbers-take rs zs zero h = refl
+numbers-take [] zs (suc k) h = absurd (omega arith)
+numbers-take (r ∷ rs) zs (suc k) h =
+    let e : 4 * suc k ≡ suc (suc (suc (suc (4 * k)))) = omega arith in
+    rw e (ap (λ (l : List ℕ). numbersOf r ++ l) (numbers-take rs zs k (omega arith)))
 
 abbrev listOf : Sink → List ℕ
 listOf (sink l n) = l

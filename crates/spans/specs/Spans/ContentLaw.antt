@@ -54,10 +54,10 @@ contentOf line r = contentIn r (drop (r .place .0) line)
 -- ---- a span stands in the line
 
 -- n bytes from place p on are the valid text t
-record TextAt (line : List ℕ) (p n : ℕ) (t : List Scalar) : Type 0 where
-  bytes : drop p line ≡ bytesOf t ++ drop (p + n) line
-  len : n ≡ length (bytesOf t)
-  valid : All Valid t
+pub record TextAt (line : List ℕ) (p n : ℕ) (t : List Scalar) : Type 0 where
+  pub bytes : drop p line ≡ bytesOf t ++ drop (p + n) line
+  pub len : n ≡ length (bytesOf t)
+  pub valid : All Valid t
 
 -- a sequence at place p: an ESC, and behind it in its run the text that it was found in
 pub record SequenceAt (line : List ℕ) (p : ℕ) (e : Sequence) : Type 0 where
@@ -283,6 +283,11 @@ content-front P matches s after = all-map (λ x h. stands-content (s ++ after) (
 -- and of the line itself
 pub content : (P : Profile) (matches line : List ℕ) → All (λ (s : Span). contentOf line (recordOf s) ≡ s .content) (read P matches line)
 content P matches line = rw (append-nil line) at (content-front P matches line [])
+
+-- a text that was read stands in the line
+pub texts : (P : Profile) (matches s after : List ℕ) → All (λ (x : Span). (m : Option ℕ) (t : List Scalar) → x .content ≡ text m t → TextAt (s ++ after) (x .place) (x .len) t) (read P matches s)
+unfolding Stands
+texts P matches s after = all-map (λ x h m t q. rw q at h) (read-stands P (s ++ after) s after refl matches)
 
 -- a sequence that was read stands in its run
 pub sequences : (P : Profile) (line : List ℕ) → All (λ (s : Span). (e : Sequence) → s .content ≡ escape e → SequenceAt line (s .place) e) (spans P line)

@@ -1,21 +1,31 @@
--- Reading: places move on.
+-- Reading without matches; places move on.
 use mathlib.Core.Path.{_≡_, refl, sym, ap, ap₂, _∙_}
 use Prim.Native.Nat.{ℕ, zero, suc, _+_, _-_}
 use native.Mathlib.Omega.{arith}
 use native.Mathlib.Nat.{add-zero, zero-add}
 use mathlib.Core.List.{List, [], _∷_, _++_, map, append-assoc}
 use mathlib.Core.Option.{Option}
-use lib.ListN.{length, length-append}
+use lib.ListN.{length, length-append, length-map}
 use Rattle.text.specs.Utf8.{Scalar, decode, Piece, run, damaged, runs, bytesOf}
 use Rattle.text.specs.Class.{Profile}
 use Rattle.text.specs.Cluster.{clusters, joinAll}
 use Rattle.text.specs.Utf8.Laws.{pieceBytes, pieces-damaged, pieces-nil, pieces-run}
 use Rattle.text.specs.Utf8.Runs.{runs-nil}
-use Rattle.spans.specs.Spans.{Content, text, control, invalid, unprintable, escape, tab, crlf, lf, Span, span, ClusterKind, plain, special, joinText, addText, addCluster, clusterKind, readFrom, readPieces, spansAt}
+use Rattle.spans.specs.Spans.{Content, text, control, invalid, unprintable, escape, tab, crlf, lf, Span, span, ClusterKind, plain, special, joinText, addText, addCluster, clusterKind, readFrom, readPieces, spansAt, spans, recordOf, records}
+use Rattle.spans.specs.Search.{read}
 
 pub map-append {ℓ κ} : {A : Type ℓ} {B : Type κ} (f : A → B) (s t : List A) → map f (s ++ t) ≡ map f s ++ map f t
 map-append f [] t = refl
 map-append f (x ∷ s) t = ap (λ (l : List _). f x ∷ l) (map-append f s t)
+
+pub records-length : (ss : List Span) → length (records ss) ≡ length ss
+unfolding records
+records-length ss = length-map ss recordOf
+
+-- without matches
+pub unmatched-spans : (P : Profile) (s : List ℕ) → read P [] s ≡ spans P s
+unfolding read
+unmatched-spans P s = refl
 
 -- ---- places moved on
 

@@ -1,19 +1,21 @@
--- The clusters of a text span are plain clusters of the line, and each has a width.
+-- The clusters of a text span are plain clusters of the line.
 use mathlib.Core.Path.{_≡_, refl, sym, ap, _∙_, subst}
 use Prim.Native.Nat.{ℕ, zero, suc, _+_, _-_}
 use native.Mathlib.Omega.{arith}
 use mathlib.Core.Bool.{true}
 use mathlib.Core.List.{List, [], _∷_, _++_, append-nil}
-use mathlib.Core.Option.{Option}
-use lib.ListN.{length}
-use Rattle.text.specs.Each.{All, all-nil, all-cons}
-use Rattle.text.specs.Utf8.{Scalar, bytesOf}
+use mathlib.Core.Option.{Option, none, some}
+use lib.ListN.{length, take, drop}
+use Rattle.text.specs.Each.{All, all-nil, all-cons, all-append, all-every}
+use Rattle.text.specs.Utf8.{Scalar, Piece, run, damaged, runs, decode, bytesOf}
 use Rattle.text.specs.Class.{Profile}
 use Rattle.text.specs.Cluster.{clusters, joinAll}
 use Rattle.text.specs.Cluster.Laws.{clusters-nil, further}
-use Rattle.text.specs.Cluster.Parts.{Ends, ends-none, ends-same, Clustered, none, more, clustered, first-before}
-use Rattle.spans.specs.Spans.{Content, text, control, invalid, unprintable, escape, tab, crlf, lf, Span, span, ClusterKind, plain, special, clusterKind, joinText, addText, addCluster, readFrom}
+use Rattle.text.specs.Cluster.Parts as parts
+use Rattle.text.specs.Cluster.Parts.{Ends, ends-none, ends-same, Clustered, more, clustered, first-before}
+use Rattle.spans.specs.Spans.{Content, text, control, invalid, unprintable, escape, tab, crlf, lf, Span, span, ClusterKind, plain, special, clusterKind, joinText, addText, addCluster, readFrom, readPieces, spansAt, spans}
+use Rattle.spans.specs.Search.{EscapeRange, offsetFrom, escapes, readPart, readMatches, read}
 use Rattle.spans.specs.Spans.FirstSpan.{isPlain, NoText, kind-noText, plainCluster, plain-same}
 
 module _ (P : Profile) where
   module _ (Q : List Scalar → Type 0) where
@@ -74,7 +76,7 @@ module _ (P : Profile) where
     run-reads : {s : List Scalar} {gs : List (List Scalar)} → Clustered P s gs → All (λ (g : List Scalar). plainCluster P g ≡ true → Q g) gs → (m : Option ℕ) (p : ℕ)
         → ((k : ℕ) → All TextClusters (readFrom P m p k gs)) × Reads s (readFrom P m p zero gs)
     unfolding readFrom
-    run-reads none a m p = (λ k. all-nil, record { texts = all-nil; begins = λ x xs i. absurd (let z : _≡_ {A = ℕ} 0 1 = cc in omega arith) })
+    run-reads parts.none a m p = (λ k. all-nil, record { texts = all-nil; begins = λ x xs i. absurd (let z : _≡_ {A = ℕ} 0 1 = cc in omega arith) })
     run-reads (more {c = c} {x = x} {rest = rest} {gs = gs} e k) (all-cons f a) m p =
         let n : ℕ = length (bytesOf (c ∷ x)) in
         let ih = run-reads k a m (p + n) in
@@ -85,5 +87,46 @@ module _ (P : Profile) where
         from f b zero = b
         from f b (suc k) = f (suc k - length (bytesOf (c ∷ x)))
 
-    pub run-texts : (s : List Scalar) → All (λ (g : List Scalar). plainCluster P g ≡ true → Q g) (clusters P s) → (m : Option ℕ) (p : ℕ) → All TextClusters (readFrom P m p zero (clusters P s))
+    -- the text's plain clusters have Q
+    abbrev PlainClusters : List Scalar → Type 0
+    PlainClusters s = All (λ (g : List Scalar). plainCluster P g ≡ true → Q g) (clusters P s)
+
+    run-texts : (s : List Scalar) → PlainClusters s → (m : Option ℕ) (p : ℕ) → All TextClusters (readFrom P m p zero (clusters P s))
     run-texts s a m p = run-reads (clustered P (clusters P s) s refl) a m p .0 zero
+
+    -- ---- lines, and lines with matches
+
+    abbrev pub PlainPiece : Piece → Type 0
+    PlainPiece (run s) = PlainClusters s
+    PlainPiece (damaged b) = Unit {0}
+
+    pieces-texts : (m : Option ℕ) (p : ℕ) (ps : List Piece) → All PlainPiece ps → All TextClusters (readPieces P m p ps)
+    unfolding readPieces
+    pieces-texts m p [] a = all-nil
+    pieces-texts m p (run s ∷ ps) (all-cons u a) = all-append (run-texts s u m p) (pieces-texts m (p + length (bytesOf s)) ps a)
+    pieces-texts m p (damaged b ∷ ps) (all-cons u a) = all-cons {a = span p 1 (invalid b)} (λ n t i. absurd (let z : _≡_ {A = ℕ} 0 1 = cc in omega arith)) (pieces-texts m (suc p) ps a)
+
+    pub spans-texts : (s : List ℕ) → All PlainPiece (runs (decode s)) → All TextClusters (spans P s)
+    unfolding spans spansAt
+    spans-texts s a = pieces-texts none 0 (runs (decode s)) a
+
+    module _ (plains : (s : List Scalar) → PlainClusters s) where
+      plain-piece : (x : Piece) → PlainPiece x
+      plain-piece (run s) = plains s
+      plain-piece (damaged b) = tt
+
+      part-texts : (m : Option ℕ) (a b : ℕ) (s : List ℕ) → All TextClusters (readPart P m a b s)
+      unfolding readPart spansAt
+      part-texts m a b s = let ps : List Piece = runs (decode (take (b - a) (drop a s))) in pieces-texts m a ps (all-every plain-piece ps)
+
+      matches-texts : (es : List EscapeRange) (start k : ℕ) (ms s : List ℕ) → All TextClusters (readMatches P es start k ms s)
+      unfolding readMatches
+      matches-texts es start k [] s = part-texts none start (length s) s
+      matches-texts es start k (a ∷ []) s = all-nil
+      matches-texts es start k (a ∷ b ∷ ms) s =
+          all-append (all-append (part-texts none start (offsetFrom 0 a es) s) (part-texts (some k) (offsetFrom 0 a es) (offsetFrom 0 b es) s)) (matches-texts es (offsetFrom 0 b es) (suc k) ms s)
+
+      pub read-texts : (matches s : List ℕ) → All TextClusters (read P matches s)
+      unfolding read
+      read-texts [] s = spans-texts s (all-every plain-piece (runs (decode s)))
+      read-texts (m ∷ ms) s = matches-texts (escapes s) 0 0 (m ∷ ms) s
