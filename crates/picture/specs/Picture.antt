@@ -30,14 +30,11 @@ pub mod AttributesInForce
 pub mod LineCells
 pub mod WindowDrawing
 pub mod DrawnWidths
-pub mod AppendedClusters
 pub mod WordClusters
 pub mod RowBoundaries
 pub mod RowDrawing
 pub mod AnyProfile
-pub mod TextSpans
 pub mod Lines
-pub mod UnsharedClusters
 pub mod Document01
 pub mod Examples
 

@@ -11,6 +11,7 @@ use Rattle.text.specs.Tests.{cases, every, every-one}
 use Rattle.text.specs.Each.{Each, nil, cons, All, all-nil, all-cons, all-append}
 use Rattle.text.specs.Utf8.{Scalar, to, within, ascii}
 use Rattle.text.specs.Class.{Profile, number, inAny}
+use Rattle.text.specs.Class.Laws.{other-number}
 use Rattle.text.specs.Width.{widthOf}
 use Rattle.text.specs.Width.Laws.{width-cons, width-nil}
 use Rattle.text.specs.Cluster.{clusters}
@@ -86,12 +87,11 @@ module _ (P : Profile) where
 
   module _ (H : PlainComposed P) where
     composed-wide : {s : List Scalar} → Composed s → Wide P (clusters P s) × (widthOf P s ≡ length s)
-    unfolding number
     composed-wide all-nil = (rw (clusters-nil P) all-nil, width-nil P)
     composed-wide (all-cons {a = c} {s = s} q a) =
         let h = H .composed (c .code) q in
         let r = composed-wide a in
-        (other-wide P c s (h .class) (omega (arith, h .width)) (r .0), rw (width-cons P c s, h .width, r .1) (omega arith))
+        (other-wide P c s (h .class ∙ other-number) (omega (arith, h .width)) (r .0), rw (width-cons P c s, h .width, r .1) (omega arith))
 
     composed-takes : {n : ℕ} (s : List Scalar) → Composed s → length s ≡ n → Takes n (widths P (clusters P s))
     composed-takes s a e = let r = composed-wide a in record { wide = wide-widths (r .0); total = widths-total P s ∙ r .1 ∙ e }

@@ -3,48 +3,26 @@ use mathlib.Core.Path.{_≡_, refl, sym, ap, _∙_, subst}
 use Prim.Native.Nat.{ℕ, _+_}
 use native.Mathlib.Omega.{arith}
 use mathlib.Core.Bool.{Bool, true, false, or-true, true≢false}
-use mathlib.Core.List.{List, [], _∷_, _++_, append-assoc, append-nil, reverse}
+use mathlib.Core.List.{List, [], _∷_, _++_, append-assoc, append-nil}
 use lib.Dec.{eqb}
-use borrow.Author.Tests.{eqb-true}
-use Rattle.text.specs.Tests.{cases, true-T}
+use Rattle.text.specs.Tests.{cases}
 use Rattle.text.specs.Each.{All, all-nil, all-cons}
 use Rattle.text.specs.Utf8.{Scalar}
-use Rattle.text.specs.Class.{Profile, cr, lf, control, other, among, whitespace}
+use Rattle.text.specs.Class.{Profile, whitespace}
 use Rattle.text.specs.Width.{widthOf}
 use Rattle.text.specs.Width.Laws.{width-append, width-cons, width-nil}
-use Rattle.text.specs.Cluster.{Context, start, after, classOf, context, joins, joinsNext, addToCluster, clustersAfter, clusters}
+use Rattle.text.specs.Cluster.{clusters}
+use Rattle.text.specs.Cluster.Appended.{Appended, none, apart, shared, more, clusters-appended, alone-front, alone-behind}
 use Rattle.text.specs.Cluster.Laws.{clusters-nil, clusters-first}
 use Rattle.rows.specs.Words.{Word, aWord, words}
 use Rattle.rows.specs.Words.Laws.{belongs, leading, beyond, leading-beyond, wordFrom, restFrom, firstWord, restWords, words-first}
 use Rattle.columns.specs.Columns.Wrapping.{total, EachEnd, widths, widths-total, behind, WordEnds, TextEnds}
 use Rattle.picture.specs.Conditions.{wordBreak, WordBreakClasses, Unshared}
-use Rattle.picture.specs.Picture.AppendedClusters.{appendClusters, clusters-append, same-after}
 
 all-first : {A : Type 0} {Q : A → Type 0} {a : A} {s : List A} → All Q (a ∷ s) → Q a × All Q s
 all-first (all-cons q e) = (q, e)
 
--- behind these classes the context starts anew
-restarted : (k : Context) (n : ℕ) → among n (cr ∷ lf ∷ control ∷ other ∷ []) ≡ true → after k n ≡ start
-unfolding after
-restarted k n g = cases (eqb n 10) (λ e. absurd (true-T (rw (eqb-true n 10 e) at g))) (λ e. rw e)
-
 module _ (P : Profile) where
-  module _ (classes : WordBreakClasses P) (c : Scalar) (k : wordBreak (c .code) ≡ true) where
-    break-context : (a : List Scalar) → context P (c ∷ a) ≡ start
-    unfolding context
-    break-context a = restarted (context P a) (classOf P c) (classes (c .code) k)
-
-    -- whitespace or a hyphen in front of a text
-    break-clusters : (s : List Scalar) → clusters P (c ∷ s) ≡ addToCluster P (joinsNext P (c ∷ []) s) c (clusters P s)
-    unfolding clusters
-    break-clusters [] = refl
-    break-clusters (d ∷ s) = ap (addToCluster P (joinsNext P (c ∷ []) (d ∷ s)) c) (same-after P s d (c ∷ []) [] (ap (λ (k : Context). after k (classOf P d)) (break-context [])))
-
-    -- a text in front of whitespace or a hyphen
-    clusters-break : (a s : List Scalar) → clusters P (a ++ (c ∷ s)) ≡ appendClusters (joins P (reverse a) c) (clusters P a) (clusters P (c ∷ s))
-    unfolding clusters
-    clusters-break a s = clusters-append P a (c ∷ s) ∙ ap (appendClusters (joins P (reverse a) c) (clusters P a)) (same-after P s c (reverse a) [] (break-context (reverse a) ∙ sym (break-context [])))
-
   unshared-rest : (u v : List Scalar) → Unshared P (u ++ v) → Unshared P v
   unshared-rest u v f x y c e k =
       let z = f (u ++ x) y c (ap (λ (l : List Scalar). u ++ l) e ∙ sym (append-assoc u x (c ∷ y))) k in
@@ -54,11 +32,12 @@ module _ (P : Profile) where
 
   module _ (F : ℕ → Type 0) where
     -- where F holds at the ends of clusters, and in front of a part of them, it holds at the ends of the clusters in front
-    append-ends : (j : Bool) (xs ys : List (List Scalar)) (p : ℕ) → EachEnd F p (widths P (appendClusters j xs ys)) → F (p + total (widths P xs)) → EachEnd F p (widths P xs)
-    unfolding EachEnd total appendClusters
-    append-ends j [] ys p e f = tt
-    append-ends j (g ∷ []) ys p e f = (subst F (omega arith) f, tt)
-    append-ends j (g ∷ h ∷ xs) ys p e f = (e .0, append-ends j (h ∷ xs) ys (p + widthOf P g) (e .1) (subst F (omega arith) f))
+    append-ends : {xs ys zs : List (List Scalar)} → Appended xs ys zs → (p : ℕ) → EachEnd F p (widths P zs) → F (p + total (widths P xs)) → EachEnd F p (widths P xs)
+    unfolding EachEnd total
+    append-ends none p e f = tt
+    append-ends apart p e f = (subst F (omega arith) f, tt)
+    append-ends shared p e f = (subst F (omega arith) f, tt)
+    append-ends (more {f = g} a) p e f = (e .0, append-ends a (p + widthOf P g) (e .1) (subst F (omega arith) f))
 
     -- unshared clusters from column p on, at whose ends F holds
     record Ending (p : ℕ) (gs : List (List Scalar)) : Type 0 where
@@ -78,23 +57,21 @@ module _ (P : Profile) where
     first-ending g gs t = let u = all-first (t .unshared) in (u .0, record { here = t .ends .0; ends = t .ends .1; unshared = u .1 })
 
     -- the clusters from whitespace or a hyphen on: if the last cluster before is joined to them, it has no width
-    append-rest : (j : Bool) (c : Scalar) (v : List Scalar) (gs : List (List Scalar)) → wordBreak (c .code) ≡ true → (xs : List (List Scalar)) (p : ℕ) → Ending p (appendClusters j xs ((c ∷ v) ∷ gs)) → Ending (p + total (widths P xs)) ((c ∷ v) ∷ gs)
-    unfolding total appendClusters
-    append-rest j c v gs k [] p t = moved (omega arith) t
-    append-rest false c v gs k (g ∷ []) p t = moved (omega arith) (first-ending g ((c ∷ v) ∷ gs) t .1)
-    append-rest true c v gs k (g ∷ []) p t =
+    append-rest : (c : Scalar) (v : List Scalar) (gs : List (List Scalar)) → wordBreak (c .code) ≡ true → {xs zs : List (List Scalar)} → Appended xs ((c ∷ v) ∷ gs) zs → (p : ℕ) → Ending p zs → Ending (p + total (widths P xs)) ((c ∷ v) ∷ gs)
+    unfolding total
+    append-rest c v gs k none p t = moved (omega arith) t
+    append-rest c v gs k (apart {g = g}) p t = moved (omega arith) (first-ending g ((c ∷ v) ∷ gs) t .1)
+    append-rest c v gs k (shared {g = g}) p t =
         let f = first-ending (g ++ (c ∷ v)) gs t in
         let z = f .0 g v c refl k in
         let n = width-append P g v in
         with-first (c ∷ v) (subst F (omega arith) (t .here)) (unshared-rest g (c ∷ v) (f .0)) (moved (omega (arith, width-append P g (c ∷ v))) (f .1))
-    append-rest j c v gs k (g ∷ h ∷ xs) p t = moved (omega arith) (append-rest j c v gs k (h ∷ xs) (p + widthOf P g) (first-ending g _ t .1))
+    append-rest c v gs k (more {f = g} a) p t = moved (omega arith) (append-rest c v gs k a (p + widthOf P g) (first-ending g _ t .1))
 
     -- the clusters behind whitespace or a hyphen: if the first is joined to it, it has no width
-    add-rest : (j : Bool) (c : Scalar) (gs : List (List Scalar)) (p : ℕ) → wordBreak (c .code) ≡ true → Ending p (addToCluster P j c gs) → Ending (p + P .width (c .code)) gs
-    unfolding addToCluster
-    add-rest false c gs p k t = moved (omega (arith, width-cons P c [], width-nil P)) (first-ending (c ∷ []) gs t .1)
-    add-rest true c [] p k t = moved (omega (arith, width-cons P c [], width-nil P)) (first-ending (c ∷ []) [] t .1)
-    add-rest true c (g ∷ gs) p k t =
+    add-rest : (c : Scalar) {gs zs : List (List Scalar)} → Appended ((c ∷ []) ∷ []) gs zs → (p : ℕ) → wordBreak (c .code) ≡ true → Ending p zs → Ending (p + P .width (c .code)) gs
+    add-rest c (apart {ys = gs}) p k t = moved (omega (arith, width-cons P c [], width-nil P)) (first-ending (c ∷ []) gs t .1)
+    add-rest c (shared {h = g} {ys = gs}) p k t =
         let f = first-ending (c ∷ g) gs t in
         let z = f .0 [] g c refl k in
         let n = width-cons P c g in
@@ -114,17 +91,17 @@ module _ (P : Profile) where
     ClusterEnds p s = EachEnd F p (widths P (clusters P s))
 
     front-ends : (a b : List Scalar) (p : ℕ) → ClusterEnds p (a ++ b) → F (p + widthOf P a) → ClusterEnds p a
-    front-ends a b p e f = append-ends (joinsNext P (reverse a) b) (clusters P a) (clustersAfter P (reverse a) b) p (rw (clusters-append P a b) at e) (rw (widths-total P a) f)
+    front-ends a b p e f = append-ends (clusters-appended P a b) p e (rw (widths-total P a) f)
 
     module _ (classes : WordBreakClasses P) where
       before-break : (c : Scalar) → wordBreak (c .code) ≡ true → (a s : List Scalar) (p : ℕ) → EndingText p (a ++ (c ∷ s)) → EndingText (p + widthOf P a) (c ∷ s)
       before-break c k a s p t =
           let f = clusters-first P c s in
-          let r = append-rest (joins P (reverse a) c) c _ _ k (clusters P a) p (subst (Ending p) (clusters-break classes c k a s ∙ ap (appendClusters (joins P (reverse a) c) (clusters P a)) f) t) in
+          let r = append-rest c _ _ k (rw f at (alone-behind P c (classes (c .code) k) a s)) p t in
           rw f (rw (widths-total P a) at r)
 
       behind-break : (c : Scalar) → wordBreak (c .code) ≡ true → (s : List Scalar) (p : ℕ) → EndingText p (c ∷ s) → EndingText (p + P .width (c .code)) s
-      behind-break c k s p t = add-rest (joinsNext P (c ∷ []) s) c (clusters P s) p k (rw (break-clusters classes c k s) at t)
+      behind-break c k s p t = add-rest c (alone-front P c (classes (c .code) k) s) p k t
 
       behind-spaces : (s : List Scalar) (p : ℕ) → EndingText p s → EndingText (p + widthOf P (leading true s)) (beyond true s)
       unfolding beyond leading
