@@ -15,7 +15,7 @@ use Rattle.text.specs.Class.{Profile}
 use Rattle.text.specs.Calls.{Question, ask, decide, lent, counted, question2}
 use Rattle.text.specs.Overstrike.{convert}
 use Rattle.spans.specs.Spans.{Span, spans, Record, aRecord, recordOf, records, kindOf, matchOf}
-use Rattle.spans.specs.Spans.Laws.{shift, map-append}
+use Rattle.spans.specs.Spans.Laws.{shift, map-append, records-length}
 use Rattle.spans.specs.Spans.Noise.{damage, separation}
 use Rattle.spans.specs.Search as search
 use Rattle.spans.specs.Calls.{readCall, question3, question4, noRecord}
@@ -57,10 +57,6 @@ front : (r n places : ℕ) (rs : List Record) → r ≡ 0 → n ≡ length rs �
 unfolding lent counted
 front r n places rs e f = rw (e, f) (take-append-seam rs _)
 
-length-records : (ss : List Span) → length ss ≡ length (records ss)
-unfolding records
-length-records ss = sym (length-map ss recordOf)
-
 module _ (P : Profile) where
   -- the records of a line read without matches
   abbrev recordsOf : List ℕ → List Record
@@ -68,7 +64,7 @@ module _ (P : Profile) where
 
   listed-read : (conv places : ℕ) (s : List ℕ) → answer P (calls.read conv places []) s .number ≡ 0 → listed (answer P (calls.read conv places []) s) ≡ recordsOf s
   unfolding listed answer readCall search.read
-  listed-read conv places s e = front _ _ places (recordsOf s) e (length-records (spans P (convert P s)))
+  listed-read conv places s e = front _ _ places (recordsOf s) e (sym (records-length (spans P (convert P s))))
 
   -- reading accepts what is shorter in bytes and in spans
   read-down : (conv places : ℕ) (s t : List ℕ) → length s ≤ length t → length (spans P (convert P s)) ≤ length (spans P (convert P t))
