@@ -9,16 +9,14 @@ use lib.Dec.{eqb, ltb}
 use borrow.Author.Tests.{eqb-false, ne-eqb, ltb-true, ltb-false, le-ltb}
 use Rattle.text.specs.Tests.{cases, or-false, by-case}
 use Rattle.text.specs.Each.{All, all-nil, all-cons, all-split}
-use Rattle.text.specs.Utf8.{Scalar, ascii, asciis, decode, runOf, bytesOf, reads}
-use Rattle.text.specs.Utf8.AsciiTexts.{run-asciis}
-use Rattle.text.specs.Utf8.Laws.{reads-is}
-use Rattle.text.specs.Utf8.Valid.{Valid, run-text}
+use Rattle.text.specs.Utf8.{Scalar, ascii, bytesOf}
+use Rattle.text.specs.Utf8.Valid.{Valid}
 use Rattle.text.specs.Class.{Profile}
 use Rattle.text.specs.Class.Ascii.{control-columns, printable-columns}
 use Rattle.text.specs.Width.{widthOf}
 use Rattle.text.specs.Width.Laws.{width-append, width-nil}
 use Rattle.text.specs.Cluster.{clusters, joinAll}
-use Rattle.text.specs.Cluster.Ascii.{control-width}
+use Rattle.text.specs.Cluster.Ascii.{wide-reads}
 use Rattle.text.specs.Cluster.Laws.{clusters-all, join-cons, join-nil}
 use Rattle.drawing.specs.Attributes.{plain, arrows}
 use Rattle.drawing.specs.Change as change
@@ -52,12 +50,8 @@ module _ (P : Profile) (H : ProfileLaws P) (W : ℕ) (some : 1 ≤ W) where
 
   -- byte 08 has no width
   not-backspace : (g : List Scalar) → All Valid g → 1 ≤ widthOf P g → isBackspace g ≡ false
-  unfolding isBackspace asciis
-  not-backspace g v h = cases (reads g (0x08 ∷ []))
-      (λ e.
-      let r : g ≡ ascii 0x08 ∷ [] = sym (run-text v) ∙ ap (λ (b : List ℕ). runOf (decode b)) (reads-is g (0x08 ∷ []) e) ∙ run-asciis (all-cons {a = 0x08} (omega arith) all-nil) in
-      absurd (omega (arith, ap (widthOf P) r, control-width P (H .ascii) 0x08 (omega arith) refl)))
-      (λ e. e)
+  unfolding isBackspace
+  not-backspace g v h = wide-reads P (H .ascii) 0x08 (omega arith) refl g v h
 
   cluster-met : (n : ℕ) (t : Screen) (g : List Scalar) → Met n t → isBackspace g ≡ false → 1 ≤ widthOf P g → Met (n + widthOf P g) (onCluster P W t g)
   unfolding onCluster write

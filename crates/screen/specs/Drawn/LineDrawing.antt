@@ -1,18 +1,17 @@
 -- Line-drawn text has the clusters and the columns of the text that it stands for, and at most three times its bytes.
-use mathlib.Core.Path.{_≡_, refl, sym, subst, _∙_}
-use Prim.Native.Nat.{ℕ, suc, _+_, _-_, _*_, _≤_, _<_}
+use mathlib.Core.Path.{_≡_, refl, sym, _∙_}
+use Prim.Native.Nat.{ℕ, _-_, _*_, _≤_}
 use native.Mathlib.Omega.{arith}
 use mathlib.Core.Bool.{Bool, true, false, cond}
-use mathlib.Core.List.{List, [], _∷_, _++_}
+use mathlib.Core.List.{List, [], _∷_}
 use lib.ListN.{length, getD, length-append}
-use lib.Seq.{take-length, take-append-seam, drop-append-seam}
 use lib.Dec.{T, eqb, leb, ltb}
 use borrow.Author.Tests.{eqb-true, leb-true, ltb-true, le-leb}
 use Rattle.text.specs.Tests.{cases, in-range, every, every-one}
 use Rattle.text.specs.Each.{Each, nil, cons, All, all-nil, all-cons}
 use Rattle.text.specs.Utf8.{Scalar, to, within, sequence, value, scalar, bytesOf}
-use Rattle.text.specs.Utf8.Laws.{bytes-cons, bytes-nil, decode-good}
-use Rattle.text.specs.Utf8.Valid.{Valid, sequence-take}
+use Rattle.text.specs.Utf8.Laws.{bytes-cons, bytes-nil}
+use Rattle.text.specs.Utf8.Valid.{Valid, sequence-valid}
 use Rattle.text.specs.Class.{Profile, number}
 use Rattle.text.specs.Class.Ascii.{printable-class, printable-columns}
 use Rattle.text.specs.Class.Code.{printable}
@@ -36,15 +35,6 @@ replaces v = within (to 0x5F 0x7E) v
 -- a test of all of them
 replacement-passes : (f : List ℕ → Bool) → T (every (λ v. f (replacement v)) 0x5F 32) → (v : ℕ) → replaces v ≡ true → f (replacement v) ≡ true
 replacement-passes f t v e = let w = in-range 0x5F 0x7E v e in every-one (λ v. f (replacement v)) 32 0x5F v t (w .0) (omega (arith, w .1))
-
-sequence-valid : (r : List ℕ) → sequence r ≡ length r → 0 < length r → Valid (scalar r)
-unfolding scalar
-sequence-valid [] e h = absurd (omega arith)
-sequence-valid (b ∷ s) e h = record {
-  some = omega arith;
-  decodes = λ t. decode-good b (s ++ t) (length s) (subst (λ (l : List ℕ). sequence (b ∷ (l ++ t)) ≡ suc (length s)) (take-length s) (sequence-take b (length s) s t e))
-      ∙ rw (take-append-seam s t, drop-append-seam s t);
-}
 
 -- a symbol, in one sequence of at most three bytes
 record Replacement (r : List ℕ) : Type 0 where

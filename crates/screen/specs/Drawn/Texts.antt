@@ -1,26 +1,26 @@
 -- Texts that drawings write: spaces and marks are valid, and each of their clusters has a width.
-use mathlib.Core.Path.{_≡_, refl, sym, ap₂, subst, _∙_}
-use Prim.Native.Nat.{ℕ, zero, suc, _+_, _/_, _%_, _≤_, _<_}
+use mathlib.Core.Path.{_≡_, refl, subst, _∙_}
+use Prim.Native.Nat.{ℕ, zero, suc, _/_, _%_, _≤_, _<_}
 use native.Mathlib.Omega.{arith}
 use mathlib.Core.Bool.{true}
-use mathlib.Core.List.{List, [], _∷_, _++_, map, append-nil}
+use mathlib.Core.List.{List, [], _∷_, _++_, append-nil}
 use lib.ListN.{length, replicate, length-append, length-map, length-replicate}
 use lib.Dec.{ltb}
 use Rattle.text.specs.Tests.{cases, every, every-one}
 use Rattle.text.specs.Each.{All, all-nil, all-cons, all-append}
 use Rattle.text.specs.Utf8.{Scalar, ascii, asciis, bytesOf}
-use Rattle.text.specs.Utf8.AsciiTexts.{ascii-valid, asciis-nil, asciis-cons, asciis-bytes, asciis-replicate}
+use Rattle.text.specs.Utf8.AsciiTexts.{asciis-bytes, asciis-replicate}
 use Rattle.text.specs.Utf8.Valid.{Valid}
 use Rattle.text.specs.Class.{Profile}
-use Rattle.text.specs.Class.Ascii.{printable-class, printable-columns, printable-range}
+use Rattle.text.specs.Class.Ascii.{printable-class}
 use Rattle.text.specs.Class.Code.{printable}
 use Rattle.text.specs.Width.{widthOf}
 use Rattle.text.specs.Cluster.{clusters}
 use Rattle.text.specs.Cluster.Laws.{clusters-nil}
-use Rattle.text.specs.Cluster.Printable.{Printable, printable-width}
+use Rattle.text.specs.Cluster.Printable.{Printable, PrintableScalar, codes, codes-same, codes-printable, printable-valid, printable-wide, printable-width, spaces-printable}
 use Rattle.drawing.specs.Clip.{spaces}
 use Rattle.drawing.specs.Marks.{hexDigit, byteMark, upperDigits, scalarMark}
-use Rattle.text.specs.Cluster.Parts.{Wide, Ends, ends-none, ends-other, other-wide}
+use Rattle.text.specs.Cluster.Parts.{Wide, Ends, ends-none, ends-other}
 use Rattle.screen.specs.Drawn.{ProfileLaws}
 
 module _ (P : Profile) where
@@ -41,22 +41,12 @@ module _ (P : Profile) (H : ProfileLaws P) where
   -- ---- printable text
 
   pub printable-front : {bs : List ℕ} → Printable bs → {s : List Scalar} → Text P s → Text P (asciis bs ++ s)
-  printable-front all-nil t = rw asciis-nil t
-  printable-front (all-cons {a = b} {s = bs} e a) {s} t =
-      let r = printable-front a t in
-      rw (asciis-cons b bs) (record {
-        wide = other-wide P (ascii b) (asciis bs ++ s) (printable-class P (H .ascii) b e) (omega (arith, printable-columns P (H .ascii) b e)) (r .wide);
-        valid = all-cons (ascii-valid b (omega (arith, printable-range b e .1))) (r .valid);
-      })
+  printable-front a {s} t = record { wide = printable-wide P (H .ascii) a s (t .wide); valid = all-append (printable-valid a) (t .valid) }
 
   pub printable-text : {bs : List ℕ} → Printable bs → Text P (asciis bs)
   printable-text {bs} a = subst (Text P) (append-nil (asciis bs)) (printable-front a (no-text P))
 
   -- ---- spaces
-
-  spaces-printable : (n : ℕ) → Printable (replicate n 0x20)
-  spaces-printable zero = all-nil
-  spaces-printable (suc n) = all-cons {a = 0x20} refl (spaces-printable n)
 
   pub spaces-front : (n : ℕ) {s : List Scalar} → Text P s → Text P (spaces n ++ s)
   spaces-front n t = rw (← asciis-replicate n 0x20) (printable-front (spaces-printable n) t)
@@ -78,21 +68,6 @@ module _ (P : Profile) (H : ProfileLaws P) where
   spaces-drawable n h = record { text = spaces-text n; size = omega (arith, spaces-size n) }
 
   -- ---- marks
-
-  -- a printable scalar
-  abbrev PrintableScalar : Scalar → Type 0
-  PrintableScalar c = (c ≡ ascii (c .code)) × (printable (c .code) ≡ true)
-
-  abbrev codes : List Scalar → List ℕ
-  codes s = map (λ (c : Scalar). c .code) s
-
-  codes-same : {s : List Scalar} → All PrintableScalar s → asciis (codes s) ≡ s
-  codes-same all-nil = asciis-nil
-  codes-same (all-cons {a = c} {s = s} p a) = asciis-cons (c .code) (codes s) ∙ ap₂ (λ (x : Scalar) (l : List Scalar). x ∷ l) (sym (p .0)) (codes-same a)
-
-  codes-printable : {s : List Scalar} → All PrintableScalar s → Printable (codes s)
-  codes-printable all-nil = all-nil
-  codes-printable (all-cons {a = c} p a) = all-cons {a = c .code} (p .1) (codes-printable a)
 
   mark-drawable : {s : List Scalar} → All PrintableScalar s → length s ≤ 98304 → Drawable P s
   mark-drawable {s} a h =
