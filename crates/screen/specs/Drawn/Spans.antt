@@ -6,20 +6,18 @@ use mathlib.Core.List.{List}
 use mathlib.Core.Option.{Option, none, some}
 use lib.ListN.{length, take, drop, getD, length-append, length-drop, take-append-drop}
 use lib.Seq.{getD-drop}
-use Rattle.text.specs.Each.{All, all-nil, all-cons, all-every}
+use Rattle.text.specs.Each.{All, all-nil, all-cons}
 use Rattle.text.specs.Utf8.{Scalar, decode, runOf, bytesOf}
 use Rattle.text.specs.Utf8.Runs.{run-valid, run-fits}
 use Rattle.text.specs.Utf8.Valid.{Valid}
 use Rattle.text.specs.Class.{Profile}
-use Rattle.text.specs.Width.{widthOf}
 use Rattle.text.specs.Cluster.{clusters}
 use Rattle.spans.specs.Sequence.{sgr}
 use Rattle.spans.specs.declared.sgr.Sgr.{Sgr}
 use Rattle.spans.specs.Sgr.{parameters}
 use Rattle.spans.specs.Search.{read}
 use Rattle.spans.specs.Spans.{Content, text, control, invalid, escape, Span, aRecord, kindOf, matchOf, recordOf}
-use Rattle.spans.specs.Spans.PlainClusters.{plain-wide}
-use Rattle.spans.specs.Spans.TextClusters.{read-texts}
+use Rattle.spans.specs.Spans.TextClusters.{read-wide}
 use Rattle.spans.specs.Spans.ContentLaw.{textIn, contentIn, contentOf, content}
 use Rattle.spans.specs.Spans.ContentKinds.{style-content, style-orders}
 use Rattle.text.specs.Cluster.Parts.{Wide}
@@ -32,12 +30,6 @@ module _ (P : Profile) where
   -- a span that is a text has clusters that all have a width
   abbrev WideText : Content → Type 0
   WideText c = (m : Option ℕ) (s : List Scalar) → c ≡ text m s → Wide P (clusters P s)
-
-  abbrev WideSpans : List Span → Type 0
-  WideSpans ss = All (λ (x : Span). WideText (x .content)) ss
-
-  read-wide : (matches s : List ℕ) → WideSpans (read P matches s)
-  read-wide = read-texts P (λ (g : List Scalar). 1 ≤ widthOf P g) (λ s. all-every (plain-wide P) (clusters P s))
 
   -- ---- what spans of a line of bytes hold
 
@@ -79,10 +71,10 @@ module _ (P : Profile) where
     }
 
   module _ (line : List ℕ) (l : Line line) where
-    each-fit : {ss : List Span} → All (λ (s : Span). contentOf line (recordOf s) ≡ s .content) ss → WideSpans ss → FitSpans ss
+    each-fit : {ss : List Span} → All (λ (s : Span). contentOf line (recordOf s) ≡ s .content) ss → All (λ (x : Span). WideText (x .content)) ss → FitSpans ss
     unfolding recordOf
     each-fit all-nil all-nil = all-nil
     each-fit (all-cons {a = s} e a) (all-cons w b) = all-cons (content-fit line l (s .place) (s .len) (s .content) e w) (each-fit a b)
 
     pub read-fit : (matches : List ℕ) → FitSpans (read P matches line)
-    read-fit matches = each-fit (content P matches line) (read-wide matches line)
+    read-fit matches = each-fit (content P matches line) (read-wide P matches line)

@@ -5,7 +5,7 @@ use mathlib.Core.List.{List, _++_}
 use mathlib.Core.Option.{Option}
 use lib.ListN.{take, drop}
 use lib.Seq.{take-append-seam}
-use Rattle.text.specs.Each.{All, all-nil, all-cons, all-append, all-both, all-map}
+use Rattle.text.specs.Each.{All, all-both, all-map}
 use Rattle.text.specs.Utf8.{Scalar, bytesOf}
 use Rattle.text.specs.Utf8.Controls.{NoControl, NoControlByte, no-control-bytes}
 use Rattle.text.specs.Class.{Profile}
@@ -13,14 +13,11 @@ use Rattle.text.specs.Class.Laws.{ControlClasses, ZeroWidthClasses}
 use Rattle.text.specs.Class.Profile01.{profile-is, control-classes, zero-width-classes}
 use Rattle.text.specs.Width.{profile01}
 use Rattle.text.specs.declared.class.Profile as code
-use Rattle.text.specs.Cluster.{joinAll}
 use Rattle.text.specs.Cluster.Controls.{wide-no-control}
-use Rattle.text.specs.Cluster.Laws.{clusters-all, join-cons, join-nil}
 use Rattle.spans.specs.Search.{read}
 use Rattle.spans.specs.Spans.{text, Span}
 use Rattle.spans.specs.Spans.ContentLaw.{TextAt, texts}
-use Rattle.spans.specs.Spans.PlainClusters.{plain-wide}
-use Rattle.spans.specs.Spans.TextClusters.{read-texts}
+use Rattle.spans.specs.Spans.TextClusters.{read-wide}
 
 -- a span that is a text holds no control
 abbrev pub TextNoControl : Span → Type 0
@@ -30,15 +27,9 @@ TextNoControl x = (m : Option ℕ) (t : List Scalar) → x .content ≡ text m t
 abbrev pub BytesNoControl : List ℕ → Span → Type 0
 BytesNoControl line x = (m : Option ℕ) (t : List Scalar) → x .content ≡ text m t → All NoControlByte (take (x .len) (drop (x .place) line))
 
-join-no-control : {gs : List (List Scalar)} → All (All NoControl) gs → All NoControl (joinAll gs)
-join-no-control all-nil = rw join-nil all-nil
-join-no-control (all-cons {a = g} {s = gs} f a) = rw (join-cons g gs) (all-append f (join-no-control a))
-
 module _ (P : Profile) (c : ControlClasses P) (z : ZeroWidthClasses P) (matches s : List ℕ) where
   pub texts-no-control : All TextNoControl (read P matches s)
-  texts-no-control =
-      all-map (λ x h m t e. subst (All NoControl) (clusters-all P t) (join-no-control (h m t e)))
-      (read-texts P (All NoControl) (λ t. all-map (λ g f h. f (plain-wide P g h)) (wide-no-control P z c t)) matches s)
+  texts-no-control = all-map (λ x h m t e. wide-no-control P z c t (h m t e)) (read-wide P matches s)
 
   -- whatever stands behind the line
   pub bytes-no-control : (after : List ℕ) → All (BytesNoControl (s ++ after)) (read P matches s)

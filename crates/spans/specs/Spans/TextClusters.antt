@@ -1,6 +1,6 @@
--- The clusters of a text span are plain clusters of the line.
+-- The clusters of a text span are plain clusters of the line, and each has a width.
 use mathlib.Core.Path.{_≡_, refl, sym, ap, _∙_, subst}
-use Prim.Native.Nat.{ℕ, zero, suc, _+_, _-_}
+use Prim.Native.Nat.{ℕ, zero, suc, _+_, _-_, _≤_}
 use native.Mathlib.Omega.{arith}
 use mathlib.Core.Bool.{true}
 use mathlib.Core.List.{List, [], _∷_, _++_, append-nil}
@@ -9,6 +9,7 @@ use lib.ListN.{length, take, drop}
 use Rattle.text.specs.Each.{All, all-nil, all-cons, all-append, all-every}
 use Rattle.text.specs.Utf8.{Scalar, Piece, run, damaged, runs, decode, bytesOf}
 use Rattle.text.specs.Class.{Profile}
+use Rattle.text.specs.Width.{widthOf}
 use Rattle.text.specs.Cluster.{clusters, joinAll}
 use Rattle.text.specs.Cluster.Laws.{clusters-nil, further}
 use Rattle.text.specs.Cluster.Parts as parts
@@ -16,6 +17,7 @@ use Rattle.text.specs.Cluster.Parts.{Ends, ends-none, ends-same, Clustered, mor
 use Rattle.spans.specs.Spans.{Content, text, control, invalid, unprintable, escape, tab, crlf, lf, Span, span, ClusterKind, plain, special, clusterKind, joinText, addText, addCluster, readFrom, readPieces, spansAt, spans}
 use Rattle.spans.specs.Search.{EscapeRange, offsetFrom, escapes, readPart, readMatches, read}
 use Rattle.spans.specs.Spans.FirstSpan.{isPlain, NoText, kind-noText, plainCluster, plain-same}
+use Rattle.spans.specs.Spans.PlainClusters.{plain-wide}
 
 module _ (P : Profile) where
   module _ (Q : List Scalar → Type 0) where
@@ -126,7 +128,11 @@ module _ (P : Profile) where
       matches-texts es start k (a ∷ b ∷ ms) s =
           all-append (all-append (part-texts none start (offsetFrom 0 a es) s) (part-texts (some k) (offsetFrom 0 a es) (offsetFrom 0 b es) s)) (matches-texts es (offsetFrom 0 b es) (suc k) ms s)
 
-      pub read-texts : (matches s : List ℕ) → All TextClusters (read P matches s)
+      read-texts : (matches s : List ℕ) → All TextClusters (read P matches s)
       unfolding read
       read-texts [] s = spans-texts s (all-every plain-piece (runs (decode s)))
       read-texts (m ∷ ms) s = matches-texts (escapes s) 0 0 (m ∷ ms) s
+
+  -- each has a width
+  pub read-wide : (matches s : List ℕ) → All (TextClusters (λ (g : List Scalar). 1 ≤ widthOf P g)) (read P matches s)
+  read-wide = read-texts (λ (g : List Scalar). 1 ≤ widthOf P g) (λ s. all-every (plain-wide P) (clusters P s))

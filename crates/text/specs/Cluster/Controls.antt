@@ -1,5 +1,5 @@
--- GB4 and GB5 break at all of a cluster's scalars or at none; so a cluster that has a width holds no control.
-use mathlib.Core.Path.{_≡_, refl, sym, _∙_}
+-- GB4 and GB5 break at all of a cluster's scalars or at none; so a text whose clusters all have a width holds no control.
+use mathlib.Core.Path.{_≡_, refl, sym, subst, _∙_}
 use Prim.Native.Nat.{ℕ, _≤_}
 use native.Mathlib.Omega.{arith}
 use mathlib.Core.Bool.{Bool, true, false, true≢false, cond, not, _&&_, _||_}
@@ -8,15 +8,17 @@ use mathlib.Core.Logic.{_⊎_, inl, inr, ⊎-elim}
 use lib.Dec.{eqb}
 use borrow.Author.Tests.{eqb-true}
 use Rattle.text.specs.Tests.{and-T, cases, every, is-true, true-T}
-use Rattle.text.specs.Each.{All, all-nil, all-cons, all-map}
+use Rattle.text.specs.Each.{All, all-nil, all-cons, all-append, all-map}
 use Rattle.text.specs.Utf8.{Scalar}
 use Rattle.text.specs.Utf8.Controls.{NoControl}
 use Rattle.text.specs.Class.{Profile, among, cr, isControl, lf, number}
 use Rattle.text.specs.Class.Laws.{ControlClasses, ZeroWidthClasses, breaks, breaksOrExtends, every-class}
 use Rattle.text.specs.Width.{widthOf}
 use Rattle.text.specs.Width.Laws.{width-cons, width-nil}
-use Rattle.text.specs.Cluster.{Context, classOf, clusters, context, joined, joins}
+use Rattle.text.specs.Cluster.{Context, classOf, clusters, context, joinAll, joined, joins}
 use Rattle.text.specs.Cluster.Joined.{Joined, clusters-joined}
+use Rattle.text.specs.Cluster.Laws.{clusters-all, join-cons, join-nil}
+use Rattle.text.specs.Cluster.Parts.{Wide}
 
 first-rules : (a b c d : Bool) → cond a true (cond b false (cond c false d)) ≡ true → (a ≡ true) ⊎ ((b ≡ false) × (c ≡ false))
 first-rules true b c d e = inl refl
@@ -58,6 +60,16 @@ module _ (P : Profile) where
     breaks-flat all-nil = width-nil P
     breaks-flat (all-cons {a = c} {s = g} e a) = rw (width-cons P c g, break-flat c e, breaks-flat a)
 
-    pub wide-no-control : ControlClasses P → (s : List Scalar) → All (λ (g : List Scalar). 1 ≤ widthOf P g → All NoControl g) (clusters P s)
-    wide-no-control k s =
-        all-map (λ g w h. ⊎-elim (λ a. absurd (omega (arith, breaks-flat a))) (λ a. all-map (λ c e. cases (isControl (c .code)) (λ i. absurd (true≢false (sym (k .breaks (c .code) i) ∙ e))) (λ i. i)) a) w) (clusters-break s)
+    module _ (k : ControlClasses P) where
+      cluster-no-control : (g : List Scalar) → Breaks true g ⊎ Breaks false g → 1 ≤ widthOf P g → All NoControl g
+      cluster-no-control g w h = ⊎-elim
+          (λ a. absurd (omega (arith, breaks-flat a)))
+          (λ a. all-map (λ c e. cases (isControl (c .code)) (λ i. absurd (true≢false (sym (k .breaks (c .code) i) ∙ e))) (λ i. i)) a)
+          w
+
+      join-no-control : {gs : List (List Scalar)} → All (λ (g : List Scalar). Breaks true g ⊎ Breaks false g) gs → Wide P gs → All NoControl (joinAll gs)
+      join-no-control all-nil all-nil = rw join-nil all-nil
+      join-no-control (all-cons {a = g} {s = gs} b bs) (all-cons w ws) = rw (join-cons g gs) (all-append (cluster-no-control g b w) (join-no-control bs ws))
+
+      pub wide-no-control : (s : List Scalar) → Wide P (clusters P s) → All NoControl s
+      wide-no-control s w = subst (All NoControl) (clusters-all P s) (join-no-control (clusters-break s) w)
