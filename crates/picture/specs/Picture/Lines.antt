@@ -4,16 +4,14 @@ use Prim.Native.Nat.{ℕ, _+_, _*_, _≤_}
 use native.Mathlib.Omega.{arith}
 use mathlib.Core.List.{List, [], _∷_}
 use mathlib.Core.Option.{none, some}
-use lib.ListN.{length, getD, length-append, length-drop, length-take}
+use lib.ListN.{length, getD, length-drop, length-take}
 use lib.Seq.{slice}
 use Rattle.text.specs.Each.{All, all-nil, all-cons, all-both, all-map}
-use Rattle.text.specs.Utf8.{Scalar, decode, runOf, bytesOf, Piece, run, damaged}
-use Rattle.text.specs.Utf8.Laws.{bytes-cons}
-use Rattle.text.specs.Utf8.Runs.{run-valid, run-fits}
-use Rattle.text.specs.Utf8.Valid.{Valid}
+use Rattle.text.specs.Utf8.{Scalar, Piece, run, damaged}
+use Rattle.text.specs.Utf8.Runs.{run-few}
 use Rattle.text.specs.Class.{Profile}
 use Rattle.text.specs.Width.{widthOf}
-use Rattle.text.specs.Width.Laws.{width-cons, width-nil}
+use Rattle.text.specs.Width.Laws.{width-few}
 use Rattle.text.specs.Overstrike.{convert}
 use Rattle.text.specs.Overstrike.Bytes.{Byte, converted-bytes, byte-at}
 use Rattle.text.specs.Overstrike.Length.{convert-size}
@@ -60,14 +58,6 @@ module _ (P : Profile) (line : List ℕ) (bytes : All Byte line) (x : Span) (hel
 
 -- ---- columns
 
-valid-few : {s : List Scalar} → All Valid s → length s ≤ length (bytesOf s)
-valid-few all-nil = omega arith
-valid-few (all-cons {a = c} {s = s} v a) = rw (bytes-cons c s) (simp length-append (omega (arith, v .some, valid-few a)))
-
--- no more scalars than bytes
-run-few : (l : List ℕ) → length (runOf (decode l)) ≤ length l
-run-few l = omega (arith, valid-few (run-valid l), run-fits l)
-
 slice-few : (line : List ℕ) (a b : ℕ) → length (slice a b line) ≤ length line
 slice-few line a b = simp (length-drop, length-take) (omega arith)
 
@@ -77,10 +67,6 @@ drawn-few [] = omega arith
 drawn-few (c ∷ s) = omega (arith, mark-small (c .code), drawn-few s)
 
 module _ (P : Profile) (narrow : (v : ℕ) → P .width v ≤ 2) where
-  width-few : (s : List Scalar) → widthOf P s ≤ 2 * length s
-  width-few [] = omega (arith, width-nil P)
-  width-few (c ∷ s) = omega (arith, width-cons P c s, narrow (c .code), width-few s)
-
   -- a span takes few columns
   span-few : (line : List ℕ) → length line ≤ 0x8000 → (x : Span) → contentOf line (recordOf x) ≡ x .content → (p : ℕ) → spanColumns P drawnColumns p (x .content) ≤ 0x60000
   unfolding spanColumns recordOf
@@ -90,8 +76,8 @@ module _ (P : Profile) (narrow : (v : ℕ) → P .width v ≤ 2) where
       scalars s e = rw (← e) (omega (arith, run-few (slice (x .place) (x .place + x .len) line), slice-few line (x .place) (x .place + x .len)))
 
       by : (c : Content) → x .content ≡ c → spanColumns P drawnColumns p c ≤ 0x60000
-      by (text none s) i = let e : text none (scalarsOf line (recordOf x)) ≡ text none s = sym (text-content line (recordOf x) (ap kindOf i)) ∙ held ∙ i in omega (arith, width-few s, scalars s (cc))
-      by (text (some k) s) i = let e : text (some _) (scalarsOf line (recordOf x)) ≡ text (some k) s = sym (match-content line (recordOf x) (ap kindOf i)) ∙ held ∙ i in omega (arith, width-few s, scalars s (cc))
+      by (text none s) i = let e : text none (scalarsOf line (recordOf x)) ≡ text none s = sym (text-content line (recordOf x) (ap kindOf i)) ∙ held ∙ i in omega (arith, width-few P narrow s, scalars s (cc))
+      by (text (some k) s) i = let e : text (some _) (scalarsOf line (recordOf x)) ≡ text (some k) s = sym (match-content line (recordOf x) (ap kindOf i)) ∙ held ∙ i in omega (arith, width-few P narrow s, scalars s (cc))
       by (control b) i = omega arith
       by (invalid b) i = omega arith
       by (unprintable s) i = let e : unprintable (scalarsOf line (recordOf x)) ≡ unprintable s = sym (unprintable-content line (recordOf x) (ap kindOf i)) ∙ held ∙ i in omega (arith, drawn-few s, scalars s (cc))

@@ -141,8 +141,17 @@ module _ (s : List ℕ) (g r : List Scalar) (e : runOf (decode s) ≡ g ++ r) wh
   pub run-length : length (bytesOf (runOf (decode s))) ≡ length (bytesOf g) + length (bytesOf (runOf (decode (drop (length (bytesOf g)) s))))
   run-length = ap (λ (l : List Scalar). length (bytesOf l)) e ∙ ap length (bytesOf-append g r) ∙ length-append (bytesOf g) (bytesOf r) ∙ ap (λ (l : List Scalar). length (bytesOf g) + length (bytesOf l)) (sym run-rest)
 
+valid-few : {s : List Scalar} → All Valid s → length s ≤ length (bytesOf s)
+unfolding bytesOf
+valid-few all-nil = omega arith
+valid-few (all-cons {a = c} {s = s} v a) = simp length-append (omega (arith, v .some, valid-few a))
+
 pub run-fits : (s : List ℕ) → length (bytesOf (runOf (decode s))) ≤ length s
 run-fits s = omega (arith, simp length-append at (ap length (run-bytes s)))
+
+-- no more scalars than bytes
+pub run-few : (s : List ℕ) → length (runOf (decode s)) ≤ length s
+run-few s = omega (arith, valid-few (run-valid s), run-fits s)
 
 -- ---- a text in a line
 

@@ -3,6 +3,7 @@ use mathlib.Core.Path.{_≡_, refl}
 use Prim.Native.Nat.{ℕ, _+_, _*_, _≤_}
 use native.Mathlib.Omega.{arith}
 use mathlib.Core.List.{List, [], _∷_, _++_}
+use lib.ListN.{length}
 use Rattle.text.specs.Tests.{cases}
 use Rattle.text.specs.Each.{All, all-nil, all-cons}
 use Rattle.text.specs.Utf8.{Scalar}
@@ -33,6 +34,12 @@ pub width-append : (P : Profile) (a b : List Scalar) → widthOf P (a ++ b) ≡ 
 unfolding widthOf
 width-append P [] b = omega arith
 width-append P (c ∷ a) b = omega (arith, width-append P a b)
+
+-- two columns a scalar at most
+pub width-few : (P : Profile) → ((v : ℕ) → P .width v ≤ 2) → (s : List Scalar) → widthOf P s ≤ 2 * length s
+unfolding widthOf
+width-few P narrow [] = omega arith
+width-few P narrow (c ∷ s) = omega (arith, narrow (c .code), width-few P narrow s)
 
 -- two columns a byte at most
 pub width-size : (p : code.Profile) {s : List Scalar} → All Valid s → widthOf (profileOf p) s ≤ 2 * size s
