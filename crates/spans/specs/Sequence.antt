@@ -9,6 +9,7 @@ use Rattle.spans.specs.declared.sgr.Sgr.{Sgr}
 pub mod Laws
 pub mod Until
 pub mod Hyperlink
+pub mod ControlSequence
 pub mod Contracts
 
 -- what a sequence is; the place of a hyperlink's URI is counted from the ESC

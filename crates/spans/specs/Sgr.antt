@@ -16,6 +16,8 @@ use Rattle.spans.specs.declared.sgr.ColorState.the-variants.{Ready, Want
 use Rattle.spans.specs.declared.sgr.Meaning.{Meaning}
 use Rattle.spans.specs.declared.sgr.Meaning.the-variants.{Order, Group, Unknown}
 pub mod Contracts
+pub mod Parameters
+pub mod Orders
 pub mod Examples
 
 -- ---- parameters: digits and `;`

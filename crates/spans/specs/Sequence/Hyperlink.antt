@@ -1,20 +1,15 @@
 -- What has the form of a hyperlink is found as one.
 use mathlib.Core.Path.{_≡_, refl, sym, ap, ap₂, _∙_}
-use Prim.Native.Nat.{ℕ, suc, _+_}
+use Prim.Native.Nat.{ℕ, _+_}
 use native.Mathlib.Omega.{arith}
-use mathlib.Core.Bool.{Bool, true, false}
+use mathlib.Core.Bool.{true, false}
 use mathlib.Core.List.{List, [], _∷_, _++_}
 use lib.ListN.{length, drop, getD}
 use lib.Seq.{drop-at, getD-drop}
-use Rattle.text.specs.Each.{All, all-nil, all-cons}
+use Rattle.text.specs.Each.{All}
 use Rattle.text.specs.Places.{behind, byte-at}
-use Rattle.spans.specs.Sequence.{found, hyperlink, leading, past, uriByte, idByte, closed, osc, parse}
-use Rattle.spans.specs.Sequence.Laws.{Terminator, bel, st}
-
-all-leading : (p : ℕ → Bool) {a : List ℕ} (x : ℕ) (t : List ℕ) → All (λ (b : ℕ). p b ≡ true) a → p x ≡ false → leading p (a ++ x ∷ t) ≡ length a
-unfolding leading
-all-leading p x t all-nil e = rw e
-all-leading p x t (all-cons h a) e = rw h (ap suc (all-leading p x t a e))
+use Rattle.spans.specs.Sequence.{found, hyperlink, past, uriByte, idByte, closed, osc, parse}
+use Rattle.spans.specs.Sequence.Laws.{all-leading, Terminator, bel, st}
 
 osc-closed : {id uri : List ℕ} (x : ℕ) (t : List ℕ) → All (λ (b : ℕ). idByte b ≡ true) id → All (λ (b : ℕ). uriByte b ≡ true) uri → uriByte x ≡ false
     → osc (0x38 ∷ 0x3B ∷ (id ++ 0x3B ∷ (uri ++ x ∷ t))) ≡ closed (3 + length id) (3 + length id + length uri) x (getD t 0 0)

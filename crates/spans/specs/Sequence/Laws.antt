@@ -25,6 +25,11 @@ unfolding leading
 leading-le p [] = zero-le
 leading-le p (b ∷ s) = cases (p b) (λ e. rw e (suc-le-suc (leading-le p s))) (λ e. rw e zero-le)
 
+pub all-leading : (p : ℕ → Bool) {a : List ℕ} (x : ℕ) (t : List ℕ) → All (λ (b : ℕ). p b ≡ true) a → p x ≡ false → leading p (a ++ x ∷ t) ≡ length a
+unfolding leading
+all-leading p x t all-nil e = rw e
+all-leading p x t (all-cons h a) e = rw h (ap suc (all-leading p x t a e))
+
 pub leading-append : (p : ℕ → Bool) (s t : List ℕ) → leading p s < length s → leading p (s ++ t) ≡ leading p s
 unfolding leading
 leading-append p [] t h = absurd (not-suc-le-zero h)

@@ -8,7 +8,7 @@ use lib.ListN.{length, drop, getD, length-drop, List·getD-append, List·getD-eq
 use lib.Seq.{drop-append-le, getD-append-seam, getD-append-add}
 use lib.Dec.{eqb, ltb}
 use borrow.Author.Tests.{ltb-true, ltb-false}
-use Rattle.text.specs.Tests.{cases}
+use Rattle.text.specs.Tests.{or-false, cases}
 use Rattle.spans.specs.Sgr.{digit, parameters}
 use Rattle.spans.specs.Sequence.{Found, missing, leading, past, parameterByte, csi, charset, uriByte, idByte, closed, osc, parse}
 use Rattle.spans.specs.Sequence.Laws.{leading-le}
@@ -18,11 +18,11 @@ unfolding leading
 leading-until p [] x t e = rw e
 leading-until p (b ∷ a) x t e = ap (λ (n : ℕ). cond (p b) (suc n) 0) (leading-until p a x t e)
 
-parameters-until : (v : ℕ) (a t : List ℕ) → parameters v (a ++ 0x1B ∷ t) ≡ parameters v a
+pub parameters-until : (v : ℕ) (a : List ℕ) (x : ℕ) (t : List ℕ) → parameterByte x ≡ false → parameters v (a ++ x ∷ t) ≡ parameters v a
 unfolding parameters
-parameters-until v [] t = refl
-parameters-until v (b ∷ a) t =
-    ap₂ (λ (x y : List ℕ). cond (digit b) x (cond (eqb b 0x3B) (v ∷ y) (v ∷ []))) (parameters-until (v * 10 + (b - 0x30)) a t) (parameters-until 0 a t)
+parameters-until v [] x t e = let w = or-false (digit x) (eqb x 0x3B) e in rw (w .0, w .1)
+parameters-until v (b ∷ a) x t e =
+    ap₂ (λ (x y : List ℕ). cond (digit b) x (cond (eqb b 0x3B) (v ∷ y) (v ∷ []))) (parameters-until (v * 10 + (b - 0x30)) a x t e) (parameters-until 0 a x t e)
 
 neither : (p q : Bool) (f : Found) → cond (p && (q && false)) f missing ≡ missing
 neither true true f = refl
@@ -53,7 +53,7 @@ module _ (t : List ℕ) where
   csi-until (b ∷ a) = go (until (b ∷ a) (leading parameterByte (b ∷ a)) (leading-le parameterByte (b ∷ a)))
     where
       go : Until (b ∷ a) (leading parameterByte (b ∷ a)) → csi ((b ∷ a) ++ stop) ≡ csi (b ∷ a)
-      go (inside k e) = rw (leading-until parameterByte (b ∷ a) 0x1B (0x5D ∷ t) refl, parameters-until 0 (b ∷ a) (0x5D ∷ t), e)
+      go (inside k e) = rw (leading-until parameterByte (b ∷ a) 0x1B (0x5D ∷ t) refl, parameters-until 0 (b ∷ a) 0x1B (0x5D ∷ t) refl, e)
       go (outside k e f) = rw (leading-until parameterByte (b ∷ a) 0x1B (0x5D ∷ t) refl, e, f)
 
   charset-until : (a : List ℕ) → charset (a ++ stop) ≡ charset a
