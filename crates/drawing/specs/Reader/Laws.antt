@@ -7,26 +7,21 @@ use mathlib.Core.Option.{Option, none, some}
 use lib.ListN.{length, length-append, take, drop, replicate}
 use lib.Seq.{take-at, drop-at}
 use lib.Dec.{eqb}
-use Rattle.buffer.specs.Numbers.{le2, le4}
+use Rattle.buffer.specs.Numbers.{le4}
+use Rattle.buffer.specs.Numbers.Laws.{le4-length}
 use Rattle.text.specs.Tests.{cases}
 use Rattle.text.specs.Utf8.{Scalar}
-use Rattle.spans.specs.declared.sgr.Color.{Color}
-use Rattle.spans.specs.declared.sgr.Color.the-variants.{Default, Palette, Rgb}
 use Rattle.drawing.specs.declared.attributes.Attributes.{Attributes}
-use Rattle.drawing.specs.Change.{Change, text, torn, allAttributes, clearToEnd, cursorRight, whole, encode, encodeOne, body, clipped, attributeBytes, colorBytes, flagByte}
+use Rattle.drawing.specs.Change.{Change, text, torn, allAttributes, clearToEnd, cursorRight, whole, encode, encodeOne, body, clipped, attributeBytes, colorBytes}
+use Rattle.drawing.specs.Change.Contracts.{flagsByte}
+use Rattle.drawing.specs.Change.Laws.{color-length, attribute-bytes}
 use Rattle.drawing.specs.Reader.{unlinked, withoutUri, seenBy}
 
 -- ---- an attribute body
 
-color-length : (c : Color) → length (colorBytes c) ≡ 4
-unfolding colorBytes
-color-length Default = refl
-color-length (Palette i) = refl
-color-length (Rgb r g b) = refl
-
 -- bytes 0 to 15
 front : Attributes → List ℕ
-front a = (a .font .intensity ∷ a .font .underline ∷ a .font .blink ∷ flagByte a ∷ []) ++ (colorBytes (a .colors .foreground) ++ (colorBytes (a .colors .background) ++ colorBytes (a .colors .underline)))
+front a = (a .font .intensity ∷ a .font .underline ∷ a .font .blink ∷ flagsByte (a .flags) ∷ []) ++ (colorBytes (a .colors .foreground) ++ (colorBytes (a .colors .background) ++ colorBytes (a .colors .underline)))
 
 front-length : (a : Attributes) → length (front a) ≡ 16
 unfolding front
@@ -37,16 +32,16 @@ uri : Attributes → List ℕ
 uri a = le4 (a .link .place .0) ++ le4 (a .link .len)
 
 uri-length : (a : Attributes) → length (uri a) ≡ 8
-unfolding uri le4
-uri-length a = refl
+unfolding uri
+uri-length a = simp (length-append, le4-length)
 
 body-parts : (a : Attributes) → attributeBytes a ≡ front a ++ (uri a ++ a .font .alignment ∷ [])
-unfolding attributeBytes front uri
-body-parts a = simp append-assoc
+unfolding front uri
+body-parts a = attribute-bytes a ∙ simp append-assoc
 
 -- the crew's body: bytes 16 to 23 are 0, the others the bench's
 pub crew-body : (a : Attributes) → body (withoutUri (allAttributes a)) ≡ take 16 (body (allAttributes a)) ++ (replicate 8 0 ++ drop 24 (body (allAttributes a)))
-unfolding body withoutUri unlinked front uri le4 le2 flagByte
+unfolding body withoutUri unlinked front uri le4
 crew-body a =
     let v : List ℕ = a .font .alignment ∷ [] in
     let t : take 16 (attributeBytes a) ≡ front a = ap (take 16) (body-parts a) ∙ take-at (front a) (uri a ++ v) 16 (front-length a) in

@@ -1,11 +1,9 @@
 -- Parameter strings: what parameters they write, of which bytes they are, and which are allowed.
 use mathlib.Core.Path.{_≡_, refl, sym, ap, _∙_}
 use Prim.Native.Nat.{ℕ, _+_, _-_, _*_, _≤_}
-use native.Mathlib.Omega.{arith}
-use mathlib.Core.Bool.{true, _||_}
+use mathlib.Core.Bool.{true}
 use mathlib.Core.List.{List, [], _∷_, _++_, append-nil}
 use lib.ListN.{length}
-use lib.Dec.{eqb}
 use borrow.Author.Tests.{le-leb}
 use Rattle.text.specs.Each.{All, all-nil, all-cons, all-append, all-map}
 use Rattle.spans.specs.Sgr.{digit, parameters, allAtMost, allowed}
