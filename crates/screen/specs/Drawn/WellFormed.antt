@@ -1,13 +1,13 @@
 -- Changes that drawings send are well formed as records: no list of them is refused 10.
 use mathlib.Core.Path.{_≡_, refl, ap, subst, _∙_}
-use Prim.Native.Nat.{ℕ, suc, _+_, _≤_, _<_}
+use Prim.Native.Nat.{ℕ, _<_}
 use native.Mathlib.Omega.{arith}
-use mathlib.Core.Bool.{Bool, true, false, cond, _&&_, or-true}
+use mathlib.Core.Bool.{true, false, cond, _&&_, or-true}
 use mathlib.Core.List.{List, [], _∷_, _++_, map, append-nil}
-use lib.ListN.{length, getD, length-append}
-use lib.Dec.{eqb, leb, ltb, eqb-refl, lt→ltb}
-use borrow.Author.Tests.{le-leb}
+use lib.ListN.{length}
+use lib.Dec.{eqb, ltb, eqb-refl, lt→ltb}
 use Rattle.buffer.specs.Numbers.{le4}
+use Rattle.buffer.specs.Numbers.Laws.{le4-length}
 use Rattle.text.specs.Tests.{is-true}
 use Rattle.text.specs.Each.{All, all-nil, all-cons, all-map}
 use Rattle.text.specs.Utf8.{Scalar, ascii, bytesOf}
@@ -17,14 +17,16 @@ use Rattle.text.specs.Class.Code.{printable}
 use Rattle.text.specs.Width.{widthOf}
 use Rattle.text.specs.Cluster.{clusters}
 use Rattle.spans.specs.declared.sgr.Color.{Color}
-use Rattle.spans.specs.declared.sgr.Color.the-variants.{Default, Palette, Rgb}
 use Rattle.drawing.specs.declared.attributes.Attributes.{Attributes}
 use Rattle.drawing.specs.Attributes.{plain, arrows}
 use Rattle.drawing.specs.Change as change
-use Rattle.drawing.specs.Change.{Change, allAttributes, clearToEnd, cursorRight, colorBytes, flag, flagByte, attributeBytes, kindOf, body, encode}
+use Rattle.drawing.specs.Change.{Change, allAttributes, clearToEnd, cursorRight, colorBytes, attributeBytes, kindOf, body, encode}
+use Rattle.drawing.specs.Change.Contracts.{flagsByte}
+use Rattle.drawing.specs.Change.Laws.{color-length, attribute-bytes, attribute-length, flags-most}
 use Rattle.screen.specs.Records.{records}
 use Rattle.screen.specs.Records.Laws.{Short, recordOf, records-changes}
-use Rattle.screen.specs.WellFormed.{color, fields, utf8, bodySize, bodySizes, ofKind, wellFormed, clustersIn, isBackspace, wide, wideTexts}
+use Rattle.screen.specs.WellFormed.{color, fields, utf8, bodySizes, ofKind, wellFormed, clustersIn, isBackspace, wide, wideTexts}
+use Rattle.screen.specs.WellFormed.Laws.{byte-behind, color-behind, color-first, are-fields}
 use Rattle.text.specs.Cluster.Parts.{Wide}
 use Rattle.screen.specs.Drawn.{ProfileLaws}
 use Rattle.screen.specs.Drawn.Texts.{Text, printable-one}
@@ -32,56 +34,31 @@ use Rattle.screen.specs.Drawn.Attributes.{InLimits, plain-limits, arrows
 
 -- ---- attribute bodies
 
-flags-small : (a : Attributes) → flagByte a ≤ 31
-unfolding flagByte
-flags-small a = omega (arith, few 1 (a .flags .italic), few 2 (a .flags .reverse), few 4 (a .flags .invisible), few 8 (a .flags .strike), few 16 (a .flags .overline))
-  where
-    few : (n : ℕ) (b : Bool) → flag n b ≤ n
-    few n true = omega arith
-    few n false = omega arith
-
-color-size : (c : Color) → length (colorBytes c) ≡ 4
-unfolding colorBytes
-color-size Default = refl
-color-size (Palette i) = refl
-color-size (Rgb r g b) = refl
-
-color-first : (c : Color) (s : List ℕ) → color (colorBytes c ++ s) 0 ≡ true
-unfolding color colorBytes
-color-first Default s = refl
-color-first (Palette i) s = refl
-color-first (Rgb r g b) s = refl
-
-color-behind : (c : Color) (s : List ℕ) → (color (colorBytes c ++ s) 4 ≡ color s 0) × (color (colorBytes c ++ s) 8 ≡ color s 4)
-unfolding color colorBytes
-color-behind Default s = (refl, refl)
-color-behind (Palette i) s = (refl, refl)
-color-behind (Rgb r g b) s = (refl, refl)
-
-byte-behind : (c : Color) (s : List ℕ) (n : ℕ) → getD (colorBytes c ++ s) (suc (suc (suc (suc n)))) 0 ≡ getD s n 0
-unfolding colorBytes
-byte-behind Default s n = refl
-byte-behind (Palette i) s n = refl
-byte-behind (Rgb r g b) s n = refl
-
-attribute-size : (a : Attributes) → length (attributeBytes a) ≡ bodySize
-unfolding attributeBytes le4
-attribute-size a = simp length-append (omega (arith, color-size (a .colors .foreground), color-size (a .colors .background), color-size (a .colors .underline)))
-
 attribute-fields : (a : Attributes) → InLimits a → fields (attributeBytes a) ≡ true
-unfolding fields attributeBytes color
 attribute-fields a f =
-    let u : List ℕ = le4 (a .link .place .0) ++ (le4 (a .link .len) ++ (a .font .alignment ∷ [])) in
-    let t : List ℕ = colorBytes (a .colors .underline) ++ u in
-    let s : List ℕ = colorBytes (a .colors .background) ++ t in
-    rw (le-leb (a .font .intensity) 2 (f .intensity), le-leb (a .font .underline) 2 (f .underline), le-leb (a .font .blink) 2 (f .blink), le-leb (flagByte a) 31 (flags-small a))
-    (all-four (color-first (a .colors .foreground) s)
-    (color-behind (a .colors .foreground) s .0 ∙ color-first (a .colors .background) t)
-    (color-behind (a .colors .foreground) s .1 ∙ color-behind (a .colors .background) t .0 ∙ color-first (a .colors .underline) u)
-    (ap (λ (n : ℕ). leb n 2) (byte-behind (a .colors .foreground) s 16 ∙ byte-behind (a .colors .background) t 12 ∙ byte-behind (a .colors .underline) u 8) ∙ le-leb (a .font .alignment) 2 (f .alignment)))
-  where
-    all-four : {x y z w : Bool} → x ≡ true → y ≡ true → z ≡ true → w ≡ true → (x && (y && (z && w))) ≡ true
-    all-four e f g h = rw (e, f, g, h)
+    let v : List ℕ = a .font .alignment ∷ [] in
+    let n : List ℕ = le4 (a .link .len) in
+    let p : List ℕ = le4 (a .link .place .0) in
+    let z : List ℕ = colorBytes (a .colors .underline) in
+    let y : List ℕ = colorBytes (a .colors .background) in
+    let x : List ℕ = colorBytes (a .colors .foreground) in
+    let w : List ℕ = a .font .intensity ∷ a .font .underline ∷ a .font .blink ∷ flagsByte (a .flags) ∷ [] in
+    let u : List ℕ = p ++ (n ++ v) in
+    let t : List ℕ = z ++ u in
+    let s : List ℕ = y ++ t in
+    let k = color-length (a .colors .foreground) in
+    let l = color-length (a .colors .background) in
+    let m = color-length (a .colors .underline) in
+    ap fields (attribute-bytes a) ∙ are-fields (w ++ (x ++ s)) (record {
+      intensity = f .intensity;
+      underline = f .underline;
+      blink = f .blink;
+      flags = flags-most (a .flags);
+      alignment = rw (byte-behind x s 4 16 k ∙ byte-behind y t 4 12 l ∙ byte-behind z u 4 8 m ∙ byte-behind p (n ++ v) 4 4 (le4-length _) ∙ byte-behind n v 4 0 (le4-length _)) (f .alignment);
+      foreground = color-behind w (x ++ s) 4 0 refl ∙ color-first (a .colors .foreground) s;
+      background = color-behind w (x ++ s) 4 4 refl ∙ color-behind x s 4 0 k ∙ color-first (a .colors .background) t;
+      underlineColor = color-behind w (x ++ s) 4 8 refl ∙ color-behind x s 4 4 k ∙ color-behind y t 4 0 l ∙ color-first (a .colors .underline) u;
+    })
 
 -- ---- changes
 
@@ -111,8 +88,8 @@ module _ (P : Profile) where
   unfolding ofKind kindOf body utf8 wide clustersIn
   sendable-formed (text {s = s} t h) = record { short = h; kind = rw (run-text (t .valid)) (is-true _ (eqb-refl (length (bytesOf s)))); wide = rw (run-text (t .valid)) (wide-true (t .wide)) }
   sendable-formed torn = record { short = omega arith; kind = refl; wide = refl }
-  sendable-formed (attributes {a = a} f) = record { short = omega (arith, attribute-size a); kind = rw (attribute-size a, attribute-fields a f); wide = refl }
-  sendable-formed (clear {c = c}) = record { short = omega (arith, color-size c); kind = rw (color-size c) (subst (λ (b : List ℕ). color b 0 ≡ true) (append-nil (colorBytes c)) (color-first c [])); wide = refl }
+  sendable-formed (attributes {a = a} f) = record { short = omega (arith, attribute-length a); kind = rw (attribute-length a, attribute-fields a f); wide = refl }
+  sendable-formed (clear {c = c}) = record { short = omega (arith, color-length c); kind = rw (color-length c) (subst (λ (b : List ℕ). color b 0 ≡ true) (append-nil (colorBytes c)) (color-first c [])); wide = refl }
 
   -- a drawing's list: such changes, at its end a right arrow or none
   pub data DrawnList : List Change → Type 0 where

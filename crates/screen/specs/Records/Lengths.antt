@@ -1,5 +1,5 @@
 -- Little-endian numbers of n bytes: read where they were written, and written again where they were read.
-use mathlib.Core.Path.{_≡_, refl, ap, ap₂}
+use mathlib.Core.Path.{_≡_, refl, ap, ap₂, _∙_}
 use Prim.Native.Nat.{ℕ, zero, suc, _+_, _*_, _/_, _%_, _≤_, _<_}
 use native.Mathlib.Nat.{mod-add-div}
 use native.Mathlib.Omega.{arith}
@@ -59,3 +59,8 @@ length-of-4 x =
     let a : x / 65536 ≡ x / 256 / 256 = omega arith in
     let b : x / 16777216 ≡ x / 256 / 256 / 256 = omega arith in
     ap₂ (λ (i j : ℕ). x % 256 ∷ x / 256 % 256 ∷ i % 256 ∷ j % 256 ∷ []) a b
+
+-- read where it was written
+pub le4-read : (x : ℕ) → x < 4294967296 → littleEndian (le4 x) ≡ x
+unfolding limit
+le4-read x h = ap littleEndian (length-of-4 x) ∙ low-read 4 x h
