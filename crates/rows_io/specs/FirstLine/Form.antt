@@ -10,6 +10,7 @@ use lib.ListN.{length}
 use lib.Dec.{eqb, leb, leb→le}
 use borrow.Author.Tests.{ne-eqb, eqb-true, leb-true, leb-false}
 use Rattle.text.specs.Tests.{and-T, true-T, is-true, cases}
+use Rattle.spans.specs.Sgr.Parameters.{valueFrom}
 use Rattle.rows_io.specs.FirstLine.{digit, more, empty, withDigit, withByte, withBytes, inForm}
 use Rattle.rows_io.specs.FirstLine.Laws.{bytes-more, bytes-none, bytes-ended}
 use Rattle.rows_io.specs.declared.first_line.FirstLine.{FirstLine}
@@ -203,10 +204,6 @@ pub form-only : (s : List ℕ) → inForm (withBytes empty s) ≡ true → Form 
 form-only s e = width-only s false 0 e
 
 -- ---- the numbers are those of their digits, as far as question 5 looks
-
-unfoldable pub valueFrom : ℕ → List ℕ → ℕ
-valueFrom v [] = v
-valueFrom v (b ∷ s) = valueFrom (v * 10 + (b - 0x30)) s
 
 abbrev pub Alike : ℕ → ℕ → Type 0
 Alike a b = (a ≡ b) ⊎ ((65535 < a) × (65535 < b))

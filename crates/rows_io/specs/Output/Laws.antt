@@ -1,4 +1,4 @@
--- The digits of a number are the fewest that hold it; what stands behind the bytes that question 1 looks at changes nothing.
+-- The digits of a number are the fewest that hold it, and write it; what stands behind the bytes that question 1 looks at changes nothing.
 use mathlib.Core.Path.{_≡_, refl, sym, ap, subst, _∙_}
 use Prim.Native.Nat.{ℕ, zero, suc, _+_, _-_, _*_, _/_, _%_, _^_, _≤_, _<_}
 use native.Mathlib.Nat.{add-zero, div-one, div-eq-of-lt, div-div-eq-div-mul, div-lt-iff-lt-mul, le-div-iff-mul-le, one-le-pow, pow-succ', pow-le-pow-right}
@@ -7,11 +7,13 @@ use mathlib.Core.List.{List, [], _∷_, _++_}
 use lib.ListN.{length, take, drop, replicate, length-append, length-take, length-replicate}
 use lib.Seq.{take-all, take-append-seam, length-take-le}
 use lib.Dec.{eqb, leb}
-use borrow.Author.Tests.{ne-eqb, lt-ltb, lt-leb, leb-true, leb-false}
-use Rattle.text.specs.Tests.{cases}
+use borrow.Author.Tests.{eqb-true, ne-eqb, lt-ltb, le-leb, lt-leb, leb-true, leb-false}
+use Rattle.text.specs.Tests.{cases, both}
+use Rattle.text.specs.Each.{All, all-nil, all-cons, all-append}
 use Rattle.io.specs.Digits.{digits, glyph, Fewest}
 use Rattle.text.specs.Width.{profile01}
 use Rattle.text.specs.Overstrike.{convert}
+use Rattle.spans.specs.Sgr.Parameters.{Digit, valueFrom}
 use Rattle.spans.specs.Spans.{spans}
 use Rattle.rows.specs.Rows.{Row, rows}
 use Rattle.spans.specs.Calls.{noRecord, readCall}
@@ -101,6 +103,48 @@ few-digits most n r one h few = cases (leb r most) (λ p. leb-true r most p) (λ
 pub fewest-digits : (n r : ℕ) → n < 10 ^ 20 → Fewest 10 1 n r → digits 10 r n ≡ decimal n
 unfolding decimal
 fewest-digits n r h few = fewest-of 20 n r (few-digits 20 n r (omega arith) h few) few
+
+-- ---- they are digits, and write the number
+
+decimal-glyph : (d : ℕ) → d < 10 → Digit (glyph d)
+decimal-glyph d h = rw (lt-ltb d 10 h, le-leb 0x30 (48 + d) (omega arith), le-leb (48 + d) 0x39 (omega arith)) refl
+
+all-digits : (k n : ℕ) → All Digit (digits 10 k n)
+all-digits zero n = all-nil
+all-digits (suc k) n = all-append (all-digits k (n / 10)) (all-cons (decimal-glyph (n % 10) (omega arith)) all-nil)
+
+digits-left : {ds : List ℕ} → All Digit ds → All Digit (withoutZeros ds)
+unfolding withoutZeros
+digits-left all-nil = all-nil
+digits-left (all-cons h all-nil) = all-cons h all-nil
+digits-left (all-cons {a = d} h (all-cons k a)) = both (All Digit) (eqb d 0x30) (digits-left (all-cons k a)) (all-cons h (all-cons k a))
+
+pub decimal-digits : (n : ℕ) → All Digit (decimal n)
+unfolding decimal
+decimal-digits n = digits-left (all-digits 20 n)
+
+value-last : (ds : List ℕ) (v d : ℕ) → valueFrom v (ds ++ d ∷ []) ≡ valueFrom v ds * 10 + (d - 0x30)
+unfolding valueFrom
+value-last [] v d = refl
+value-last (c ∷ ds) v d = value-last ds (v * 10 + (c - 0x30)) d
+
+digits-value : (k n : ℕ) → n < 10 ^ k → valueFrom 0 (digits 10 k n) ≡ n
+unfolding valueFrom
+digits-value zero n h = omega arith
+digits-value (suc k) n h =
+    let ten : 0 < 10 = omega arith in
+    let less : n / 10 < 10 ^ k = div-lt-iff-lt-mul ten .1 (omega (arith, pow-succ' 10 k)) in
+    value-last (digits 10 k (n / 10)) 0 (glyph (n % 10)) ∙ rw (digits-value k (n / 10) less, lt-ltb (n % 10) 10 (omega arith)) (omega arith)
+
+value-left : (ds : List ℕ) → valueFrom 0 (withoutZeros ds) ≡ valueFrom 0 ds
+unfolding withoutZeros valueFrom
+value-left [] = refl
+value-left (d ∷ []) = refl
+value-left (d ∷ e ∷ ds) = cases (eqb d 0x30) (λ p. rw (p, eqb-true d 0x30 p) (value-left (e ∷ ds))) (λ p. rw p refl)
+
+pub decimal-value : (n : ℕ) → n < 10 ^ 20 → valueFrom 0 (decimal n) ≡ n
+unfolding decimal
+decimal-value n h = value-left (digits 10 20 n) ∙ digits-value 20 n h
 
 -- ---- the line as far as question 1 looks
 
