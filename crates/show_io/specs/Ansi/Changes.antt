@@ -4,21 +4,23 @@ use Prim.Native.Nat.{ℕ, zero, suc, _+_, _≤_, _<_}
 use native.Mathlib.Omega.{arith}
 use mathlib.Core.Bool.{Bool, true, false, _&&_}
 use mathlib.Core.List.{List, [], _++_}
-use lib.ListN.{length, take, drop, getD, List·getD-append}
-use lib.Seq.{length-take-le, getD-take, getD-drop, getD-append-add}
+use lib.ListN.{length, take, drop, getD, replicate, List·getD-append}
+use lib.Seq.{length-take-le, getD-take, getD-drop}
 use lib.Dec.{T, eqb, eqb→eq}
 use borrow.Author.Tests.{eq-eqb}
 use Rattle.text.specs.Tests.{and-T, true-T, cases}
 use Rattle.text.specs.Each.{All}
 use Rattle.text.specs.Overstrike.Bytes.{Byte}
 use Rattle.buffer.specs.Numbers.{le4}
+use Rattle.buffer.specs.Numbers.Laws.{le4-length}
 use Rattle.spans.specs.Sequence.{sgr, found, parse}
 use Rattle.spans.specs.declared.sgr.Sgr.{Sgr}
 use Rattle.drawing.specs.declared.attributes.Attributes.{Attributes}
 use Rattle.drawing.specs.declared.attributes.Link.{Link}
 use Rattle.drawing.specs.Attributes.{plainWith, applyAll}
-use Rattle.drawing.specs.Change.{colorBytes, flagByte, attributeBytes}
+use Rattle.drawing.specs.Change.{attributeBytes}
 use Rattle.screen.specs.WellFormed.{bodySize, fields}
+use Rattle.screen.specs.WellFormed.Laws.{byte-behind, fields-are, body-attributes}
 use Rattle.show_io.specs.Ansi.{alike, sameStyle}
 use Rattle.show_io.specs.Ansi.Contracts.{styleChange}
 use Rattle.show_io.specs.Ansi.Orders.{StyleRead, style-read}
@@ -78,10 +80,9 @@ module _ (b : List ℕ) (size : length b ≡ bodySize) (p n : ℕ) where
   front i h = List·getD-append (take 16 b) (le4 p ++ (le4 n ++ drop 24 b)) 0 i (omega (arith, long)) ∙ getD-take 16 b i 0 h
 
   last : getD whole 24 0 ≡ getD b 24 0
-  unfolding le4
   last =
-      ap (λ (k : ℕ). getD whole k 0) (let e : 24 ≡ length (take 16 b) + 8 = omega (arith, long) in e)
-      ∙ getD-append-add (take 16 b) (le4 p ++ (le4 n ++ drop 24 b)) 8 0 ∙ getD-drop 24 b 0 0
+      byte-behind (take 16 b) (le4 p ++ (le4 n ++ drop 24 b)) 16 8 long ∙ byte-behind (le4 p) (le4 n ++ drop 24 b) 4 4 (le4-length p)
+      ∙ byte-behind (le4 n) (drop 24 b) 4 0 (le4-length n) ∙ getD-drop 24 b 0 0
 
   whole-same : sameStyle whole b ≡ true
   whole-same =
@@ -93,8 +94,10 @@ module _ (b : List ℕ) (size : length b ≡ bodySize) (p n : ℕ) where
 
 -- a row begins in default attributes
 pub begins : (l : Link) → InForce [] (plainWith l)
-unfolding alike attributeBytes colorBytes flagByte le4 plainWith
-begins l = refl
+unfolding alike fields plainWith
+begins l =
+    let b : List ℕ = replicate bodySize 0 in
+    style-through (attributeBytes (plainWith l)) b [] (ap (λ (s : List ℕ). sameStyle s b) (body-attributes b refl (fields-are b refl) l) ∙ whole-same b refl (l .place .0) (l .len)) refl
 
 pub change-read : (x b : List ℕ) → All Byte b → length b ≡ bodySize → fields b ≡ true → ChangeRead x b
 change-read x b bytes size is =
