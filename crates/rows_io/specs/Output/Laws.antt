@@ -8,12 +8,12 @@ use lib.ListN.{length, take, drop, replicate, length-append, length-take, length
 use lib.Seq.{take-all, take-append-seam, length-take-le}
 use lib.Dec.{eqb, leb}
 use borrow.Author.Tests.{eqb-true, ne-eqb, lt-ltb, le-leb, lt-leb, leb-true, leb-false}
-use Rattle.text.specs.Tests.{cases, both}
-use Rattle.text.specs.Each.{All, all-nil, all-cons, all-append}
+use Rattle.text.specs.Tests.{cases, by-case}
+use Rattle.text.specs.Each.{all-nil, all-cons, all-append, all-drop}
 use Rattle.io.specs.Digits.{digits, glyph, Fewest}
 use Rattle.text.specs.Width.{profile01}
 use Rattle.text.specs.Overstrike.{convert}
-use Rattle.spans.specs.Sgr.Parameters.{Digit, valueFrom}
+use Rattle.spans.specs.Sgr.Parameters.{valueFrom, value-last, value-zero, Numeral}
 use Rattle.spans.specs.Spans.{spans}
 use Rattle.rows.specs.Rows.{Row, rows}
 use Rattle.spans.specs.Calls.{noRecord, readCall}
@@ -104,47 +104,33 @@ pub fewest-digits : (n r : ℕ) → n < 10 ^ 20 → Fewest 10 1 n r → digits 1
 unfolding decimal
 fewest-digits n r h few = fewest-of 20 n r (few-digits 20 n r (omega arith) h few) few
 
--- ---- they are digits, and write the number
+-- ---- they write the number
 
-decimal-glyph : (d : ℕ) → d < 10 → Digit (glyph d)
-decimal-glyph d h = rw (lt-ltb d 10 h, le-leb 0x30 (48 + d) (omega arith), le-leb (48 + d) 0x39 (omega arith)) refl
-
-all-digits : (k n : ℕ) → All Digit (digits 10 k n)
-all-digits zero n = all-nil
-all-digits (suc k) n = all-append (all-digits k (n / 10)) (all-cons (decimal-glyph (n % 10) (omega arith)) all-nil)
-
-digits-left : {ds : List ℕ} → All Digit ds → All Digit (withoutZeros ds)
-unfolding withoutZeros
-digits-left all-nil = all-nil
-digits-left (all-cons h all-nil) = all-cons h all-nil
-digits-left (all-cons {a = d} h (all-cons k a)) = both (All Digit) (eqb d 0x30) (digits-left (all-cons k a)) (all-cons h (all-cons k a))
-
-pub decimal-digits : (n : ℕ) → All Digit (decimal n)
-unfolding decimal
-decimal-digits n = digits-left (all-digits 20 n)
-
-value-last : (ds : List ℕ) (v d : ℕ) → valueFrom v (ds ++ d ∷ []) ≡ valueFrom v ds * 10 + (d - 0x30)
+digits-numeral : (k n : ℕ) → n < 10 ^ k → Numeral (digits 10 k n) n
 unfolding valueFrom
-value-last [] v d = refl
-value-last (c ∷ ds) v d = value-last ds (v * 10 + (c - 0x30)) d
-
-digits-value : (k n : ℕ) → n < 10 ^ k → valueFrom 0 (digits 10 k n) ≡ n
-unfolding valueFrom
-digits-value zero n h = omega arith
-digits-value (suc k) n h =
+digits-numeral zero n h = record { digits = all-nil; value = omega arith }
+digits-numeral (suc k) n h =
     let ten : 0 < 10 = omega arith in
     let less : n / 10 < 10 ^ k = div-lt-iff-lt-mul ten .1 (omega (arith, pow-succ' 10 k)) in
-    value-last (digits 10 k (n / 10)) 0 (glyph (n % 10)) ∙ rw (digits-value k (n / 10) less, lt-ltb (n % 10) 10 (omega arith)) (omega arith)
+    let w = digits-numeral k (n / 10) less in
+    let d : n % 10 < 10 = omega arith in
+    record {
+      digits = all-append (w .digits) (all-cons (rw (lt-ltb (n % 10) 10 d, le-leb 0x30 (48 + n % 10) (omega arith), le-leb (48 + n % 10) 0x39 (omega arith)) refl) all-nil);
+      value = value-last (digits 10 k (n / 10)) 0 (glyph (n % 10)) ∙ rw (w .value, lt-ltb (n % 10) 10 d) (omega arith);
+    }
 
-value-left : (ds : List ℕ) → valueFrom 0 (withoutZeros ds) ≡ valueFrom 0 ds
-unfolding withoutZeros valueFrom
-value-left [] = refl
-value-left (d ∷ []) = refl
-value-left (d ∷ e ∷ ds) = cases (eqb d 0x30) (λ p. rw (p, eqb-true d 0x30 p) (value-left (e ∷ ds))) (λ p. rw p refl)
+zeros-left : (ds : List ℕ) (n : ℕ) → Numeral ds n → Numeral (withoutZeros ds) n
+unfolding withoutZeros
+zeros-left [] n w = w
+zeros-left (d ∷ []) n w = w
+zeros-left (d ∷ e ∷ ds) n w =
+    by-case (λ (l : List ℕ). Numeral l n) (eqb d 0x30)
+    (λ p. zeros-left (e ∷ ds) n (record { digits = all-drop 1 (w .digits); value = sym (value-zero (e ∷ ds)) ∙ (rw (eqb-true d 0x30 p) at (w .value)) }))
+    (λ p. w)
 
-pub decimal-value : (n : ℕ) → n < 10 ^ 20 → valueFrom 0 (decimal n) ≡ n
+pub decimal-numeral : (n : ℕ) → n < 10 ^ 20 → Numeral (decimal n) n
 unfolding decimal
-decimal-value n h = value-left (digits 10 20 n) ∙ digits-value 20 n h
+decimal-numeral n h = zeros-left (digits 10 20 n) n (digits-numeral 20 n h)
 
 -- ---- the line as far as question 1 looks
 

@@ -13,7 +13,7 @@ use Rattle.text.specs.Each.{All, all-nil, all-cons, all-append, all-map}
 use Rattle.text.specs.Overstrike.Bytes.{Byte, byte-at}
 use Rattle.buffer.specs.Numbers.{le4}
 use Rattle.spans.specs.Sgr.{known, meaningOf, coloured, orders}
-use Rattle.spans.specs.Sgr.Parameters.{Digit, valueFrom, ParameterString, last, next, are-allowed}
+use Rattle.spans.specs.Sgr.Parameters.{valueFrom, Numeral, ParameterString, last, next, are-allowed}
 use Rattle.spans.specs.Sgr.Orders.{orders-order, orders-index, orders-rgb}
 use Rattle.spans.specs.Sequence.{sgr, hyperlink, found, uriByte, parse}
 use Rattle.spans.specs.Sequence.Laws.{st}
@@ -38,8 +38,7 @@ use Rattle.drawing.specs.Change.{attributeBytes}
 use Rattle.drawing.specs.Change.Laws as change
 use Rattle.screen.specs.WellFormed.{bodySize, fields}
 use Rattle.screen.specs.WellFormed.Laws.{colorAt, Fields, fields-are, attributesOf, body-attributes}
-use Rattle.rows_io.specs.Output.{decimal}
-use Rattle.rows_io.specs.Output.Laws.{decimal-digits, decimal-value}
+use Rattle.rows_io.specs.Output.Laws.{decimal-numeral}
 use Rattle.show_io.specs.Ansi.{valued, flagged, colored, fontOf, flagsOf, colorsOf, alignmentOf, parametersOf, further, styleOrder, linkOrder}
 
 -- a style order of the body b, read back
@@ -55,16 +54,16 @@ pub record LinkRead (u : List ℕ) : Type 0 where
 
 -- ---- what is recognised
 
--- digits, and parameters behind them
-further-string : (ps ds : List ℕ) → All Digit ds → All Byte ps → ParameterString (ds ++ further ps) (valueFrom 0 ds ∷ ps)
+-- a numeral, and parameters behind it
+further-string : (ps : List ℕ) {ds : List ℕ} {n : ℕ} → Numeral ds n → All Byte ps → ParameterString (ds ++ further ps) (n ∷ ps)
 unfolding further
-further-string [] ds a all-nil = rw append-nil (last a)
-further-string (p ∷ ps) ds a (all-cons h hs) = let small : p < 10 ^ 20 = omega arith in next a (rw (decimal-value p small) at (further-string ps (decimal p) (decimal-digits p) hs))
+further-string [] w all-nil = rw append-nil (last w)
+further-string (p ∷ ps) w (all-cons h hs) = let small : p < 10 ^ 20 = omega arith in next w (further-string ps (decimal-numeral p small) hs)
 
 recognised-whole : (ps : List ℕ) → All Byte ps → length ps ≤ 31 → (t : List ℕ) → parse (0x5B ∷ 0x30 ∷ (further ps ++ 0x6D ∷ t)) ≡ found (sgr (Reset ∷ orders ps)) (4 + length (further ps))
 unfolding valueFrom meaningOf known
 recognised-whole ps h few t =
-    parse-sgr t (further-string ps (0x30 ∷ []) (all-cons refl all-nil) h) (are-allowed {ps = 0 ∷ ps} (omega arith) (all-cons (omega arith) (all-map (λ p b. omega arith) h))) (orders-order 0 ps refl)
+    parse-sgr t (further-string ps {ds = 0x30 ∷ []} {n = 0} (record { digits = all-cons refl all-nil; value = refl }) h) (are-allowed {ps = 0 ∷ ps} (omega arith) (all-cons (omega arith) (all-map (λ p b. omega arith) h))) (orders-order 0 ps refl)
     ∙ ap (found (sgr (Reset ∷ orders ps))) (omega arith)
 
 -- ---- what the orders lead to

@@ -5,13 +5,13 @@ use native.Mathlib.Numerals.{add-one}
 use native.Mathlib.Omega.{arith}
 use native.Mathlib.Nat.{le-of-suc-le-suc, not-suc-le-zero}
 use mathlib.Core.Logic.{_⊎_, inl, inr}
-use mathlib.Core.Bool.{Bool, true, false, true≢false, not, cond, _&&_, _||_, and-false}
+use mathlib.Core.Bool.{Bool, true, false, true≢false, not, _&&_, _||_, and-false}
 use mathlib.Core.List.{List, [], _∷_, _++_}
 use lib.ListN.{length, take, drop, getD, length-drop, take-append-drop, List·getD-append, List·getD-eq-default}
 use lib.Seq.{drop-append-le, drop-cons, drop-drop, length-take-le}
 use lib.Dec.{T, eqb, leb, ltb, eqb→eq, ltb→lt, nltb→le}
 use borrow.Author.Tests.{eqb-true, ltb-false, lt-leb, ne-eqb}
-use Rattle.text.specs.Tests.{cases, and-T, is-true, true-T, every, every-one}
+use Rattle.text.specs.Tests.{cases, by-case, and-T, is-true, true-T, every, every-one}
 use Rattle.text.specs.Each.{All, all-nil, all-cons}
 use Rattle.text.specs.Segmentation.{neverJoinsBefore}
 use Rattle.spans.specs.Sgr.{digit, parameters, allowed, orders}
@@ -138,11 +138,6 @@ parse-stable (a ∷ s) t q n e =
     (λ h. rw (f, g, h) (osc-stable s t q n (rw (f, g, h) at e)))
     (λ h. absurd-missing missing q n refl (rw (f, g, h) at e))))
 
--- a fact of what is found, by the test
-cond-found : (Q : Found → Type 0) (b : Bool) (x y : Found) → (b ≡ true → Q x) → (b ≡ false → Q y) → Q (cond b x y)
-cond-found Q true x y f g = f refl
-cond-found Q false x y f g = g refl
-
 -- ---- a sequence lies inside the bytes
 
 unfoldable Short : ℕ → Found → Type 0
@@ -167,12 +162,12 @@ csi-short-by s h =
     let n : ℕ = leading parameterByte s in
     let ps : List ℕ = parameters 0 s in
     let k : 3 + leading parameterByte s ≤ 2 + length s = omega arith in
-    cond-found (Short (2 + length s)) (eqb (getD s n 0) 0x6D) _ _
-    (λ e. cond-found (Short (2 + length s)) (allowed ps) _ _ (λ f. known-short (2 + length s) (orders ps) n k) (λ f. tt))
-    (λ e. cond-found (Short (2 + length s)) (eqb (getD s n 0) 0x4B) _ _
-    (λ f. cond-found (Short (2 + length s)) (eqb n 0 || (eqb n 1 && eqb (getD s 0 0) 0x30)) _ _ (λ g. k)
-    (λ g. cond-found (Short (2 + length s)) (eqb n 1 && (eqb (getD s 0 0) 0x31 || eqb (getD s 0 0) 0x32)) _ _ (λ j. k) (λ j. tt)))
-    (λ f. cond-found (Short (2 + length s)) (final (getD s n 0)) _ _ (λ g. k) (λ g. tt)))
+    by-case (Short (2 + length s)) (eqb (getD s n 0) 0x6D)
+    (λ e. by-case (Short (2 + length s)) (allowed ps) (λ f. known-short (2 + length s) (orders ps) n k) (λ f. tt))
+    (λ e. by-case (Short (2 + length s)) (eqb (getD s n 0) 0x4B)
+    (λ f. by-case (Short (2 + length s)) (eqb n 0 || (eqb n 1 && eqb (getD s 0 0) 0x30)) (λ g. k)
+    (λ g. by-case (Short (2 + length s)) (eqb n 1 && (eqb (getD s 0 0) 0x31 || eqb (getD s 0 0) 0x32)) (λ j. k) (λ j. tt)))
+    (λ f. by-case (Short (2 + length s)) (final (getD s n 0)) (λ g. k) (λ g. tt)))
 
 csi-inside : (s : List ℕ) → Short (2 + length s) (csi s)
 unfolding Short
@@ -184,19 +179,19 @@ csi-inside s =
 charset-inside : (s : List ℕ) → Short (2 + length s) (charset s)
 unfolding charset Short
 charset-inside s =
-    cond-found (Short (2 + length s)) (eqb (getD s 0 0) 0x30) _ _
+    by-case (Short (2 + length s)) (eqb (getD s 0 0) 0x30)
     (λ e. omega (arith, byte-inside s 0 0x2F (true-T e)))
-    (λ e. cond-found (Short (2 + length s)) (eqb (getD s 0 0) 0x42) _ _ (λ f. omega (arith, byte-inside s 0 0x41 (true-T f))) (λ f. tt))
+    (λ e. by-case (Short (2 + length s)) (eqb (getD s 0 0) 0x42) (λ f. omega (arith, byte-inside s 0 0x41 (true-T f))) (λ f. tt))
 
 osc-inside : (s : List ℕ) → Short (2 + length s) (osc s)
 unfolding osc closed Short
 osc-inside s =
     let i : ℕ = past idByte s 2 in
     let e : ℕ = past uriByte s (i + 1) in
-    cond-found (Short (2 + length s)) (eqb (getD s 0 0) 0x38 && (eqb (getD s 1 0) 0x3B && eqb (getD s i 0) 0x3B)) _ _
-    (λ f. cond-found (Short (2 + length s)) (eqb (getD s e 0) 0x07) _ _
+    by-case (Short (2 + length s)) (eqb (getD s 0 0) 0x38 && (eqb (getD s 1 0) 0x3B && eqb (getD s i 0) 0x3B))
+    (λ f. by-case (Short (2 + length s)) (eqb (getD s e 0) 0x07)
     (λ g. omega (arith, byte-inside s e 0x06 (true-T g)))
-    (λ g. cond-found (Short (2 + length s)) (eqb (getD s e 0) 0x1B && eqb (getD s (e + 1) 0) 0x5C) _ _
+    (λ g. by-case (Short (2 + length s)) (eqb (getD s e 0) 0x1B && eqb (getD s (e + 1) 0) 0x5C)
     (λ h. omega (arith, byte-inside s (e + 1) 0x5B (and-T (eqb (getD s e 0) 0x1B) (eqb (getD s (e + 1) 0) 0x5C) (true-T h) .1)))
     (λ h. tt)))
     (λ f. tt)
@@ -206,9 +201,9 @@ unfolding parse Short
 parse-inside [] = tt
 parse-inside (a ∷ s) =
     let k : 2 + length s ≡ 1 + length (a ∷ s) = omega arith in
-    cond-found (Short (1 + length (a ∷ s))) (eqb a 0x5B) _ _ (λ e. rw k at (csi-inside s))
-    (λ e. cond-found (Short (1 + length (a ∷ s))) (eqb a 0x28) _ _ (λ f. rw k at (charset-inside s))
-    (λ f. cond-found (Short (1 + length (a ∷ s))) (eqb a 0x5D) _ _ (λ g. rw k at (osc-inside s)) (λ g. tt)))
+    by-case (Short (1 + length (a ∷ s))) (eqb a 0x5B) (λ e. rw k at (csi-inside s))
+    (λ e. by-case (Short (1 + length (a ∷ s))) (eqb a 0x28) (λ f. rw k at (charset-inside s))
+    (λ f. by-case (Short (1 + length (a ∷ s))) (eqb a 0x5D) (λ g. rw k at (osc-inside s)) (λ g. tt)))
 
 -- a sequence and its ESC
 pub parse-length : (s : List ℕ) (q : Sequence) (n : ℕ) → parse s ≡ found q n → n ≤ 1 + length s
@@ -257,20 +252,20 @@ ends (a ∷ s) =
     let i : ℕ = past idByte s 2 in
     let e : ℕ = past uriByte s (i + 1) in
     let Q : Found → Type 0 = Ends (a ∷ s) in
-    cond-found Q (eqb a 0x5B) _ _
-    (λ f. cond-found Q (eqb (getD s n 0) 0x6D) _ _
-    (λ g. cond-found Q (allowed ps) _ _ (λ h. known-ends a s (orders ps) n (lone-as (getD s n 0) 0x6D g refl)) (λ h. tt))
-    (λ g. cond-found Q (eqb (getD s n 0) 0x4B) _ _
-    (λ h. cond-found Q (eqb n 0 || (eqb n 1 && eqb (getD s 0 0) 0x30)) _ _ (λ j. ends-at a s (3 + n) n refl (lone-as (getD s n 0) 0x4B h refl))
-    (λ j. cond-found Q (eqb n 1 && (eqb (getD s 0 0) 0x31 || eqb (getD s 0 0) 0x32)) _ _ (λ k. ends-at a s (3 + n) n refl (lone-as (getD s n 0) 0x4B h refl)) (λ k. tt)))
-    (λ h. cond-found Q (final (getD s n 0)) _ _ (λ j. ends-at a s (3 + n) n refl (final-lone (getD s n 0) j)) (λ j. tt))))
-    (λ f. cond-found Q (eqb a 0x28) _ _
-    (λ g. cond-found Q (eqb (getD s 0 0) 0x30) _ _ (λ h. ends-at a s 3 0 refl (lone-as (getD s 0 0) 0x30 h refl))
-    (λ h. cond-found Q (eqb (getD s 0 0) 0x42) _ _ (λ j. ends-at a s 3 0 refl (lone-as (getD s 0 0) 0x42 j refl)) (λ j. tt)))
-    (λ g. cond-found Q (eqb a 0x5D) _ _
-    (λ h. cond-found Q (eqb (getD s 0 0) 0x38 && (eqb (getD s 1 0) 0x3B && eqb (getD s i 0) 0x3B)) _ _
-    (λ j. cond-found Q (eqb (getD s e 0) 0x07) _ _ (λ k. ends-at a s (3 + e) e refl (lone-as (getD s e 0) 0x07 k refl))
-    (λ k. cond-found Q (eqb (getD s e 0) 0x1B && eqb (getD s (e + 1) 0) 0x5C) _ _
+    by-case Q (eqb a 0x5B)
+    (λ f. by-case Q (eqb (getD s n 0) 0x6D)
+    (λ g. by-case Q (allowed ps) (λ h. known-ends a s (orders ps) n (lone-as (getD s n 0) 0x6D g refl)) (λ h. tt))
+    (λ g. by-case Q (eqb (getD s n 0) 0x4B)
+    (λ h. by-case Q (eqb n 0 || (eqb n 1 && eqb (getD s 0 0) 0x30)) (λ j. ends-at a s (3 + n) n refl (lone-as (getD s n 0) 0x4B h refl))
+    (λ j. by-case Q (eqb n 1 && (eqb (getD s 0 0) 0x31 || eqb (getD s 0 0) 0x32)) (λ k. ends-at a s (3 + n) n refl (lone-as (getD s n 0) 0x4B h refl)) (λ k. tt)))
+    (λ h. by-case Q (final (getD s n 0)) (λ j. ends-at a s (3 + n) n refl (final-lone (getD s n 0) j)) (λ j. tt))))
+    (λ f. by-case Q (eqb a 0x28)
+    (λ g. by-case Q (eqb (getD s 0 0) 0x30) (λ h. ends-at a s 3 0 refl (lone-as (getD s 0 0) 0x30 h refl))
+    (λ h. by-case Q (eqb (getD s 0 0) 0x42) (λ j. ends-at a s 3 0 refl (lone-as (getD s 0 0) 0x42 j refl)) (λ j. tt)))
+    (λ g. by-case Q (eqb a 0x5D)
+    (λ h. by-case Q (eqb (getD s 0 0) 0x38 && (eqb (getD s 1 0) 0x3B && eqb (getD s i 0) 0x3B))
+    (λ j. by-case Q (eqb (getD s e 0) 0x07) (λ k. ends-at a s (3 + e) e refl (lone-as (getD s e 0) 0x07 k refl))
+    (λ k. by-case Q (eqb (getD s e 0) 0x1B && eqb (getD s (e + 1) 0) 0x5C)
     (λ l. ends-at a s (4 + e) (e + 1) (omega arith) (lone-as (getD s (e + 1) 0) 0x5C (is-true _ (and-T (eqb (getD s e 0) 0x1B) (eqb (getD s (e + 1) 0) 0x5C) (true-T l) .1)) refl))
     (λ l. tt)))
     (λ j. tt))
@@ -363,18 +358,18 @@ told (a ∷ s) =
     let i : ℕ = past idByte s 2 in
     let e : ℕ = past uriByte s (i + 1) in
     let Q : Found → Type 0 = Told (a ∷ s) in
-    cond-found Q (eqb a 0x5B) _ _
-    (λ f. cond-found Q (eqb (getD s n 0) 0x6D) _ _
-    (λ g. cond-found Q (allowed ps) _ _ (λ h. known-told (a ∷ s) (orders ps) n refl) (λ h. tt))
-    (λ g. cond-found Q (eqb (getD s n 0) 0x4B) _ _
-    (λ h. cond-found Q (eqb n 0 || (eqb n 1 && eqb (getD s 0 0) 0x30)) _ _ (λ j. tt) (λ j. cond-found Q (eqb n 1 && (eqb (getD s 0 0) 0x31 || eqb (getD s 0 0) 0x32)) _ _ (λ k. tt) (λ k. tt)))
-    (λ h. cond-found Q (final (getD s n 0)) _ _ (λ j. tt) (λ j. tt))))
-    (λ f. cond-found Q (eqb a 0x28) _ _
-    (λ g. cond-found Q (eqb (getD s 0 0) 0x30) _ _ (λ h. sym h) (λ h. cond-found Q (eqb (getD s 0 0) 0x42) _ _ (λ j. sym h) (λ j. tt)))
-    (λ g. cond-found Q (eqb a 0x5D) _ _
-    (λ h. cond-found Q (eqb (getD s 0 0) 0x38 && (eqb (getD s 1 0) 0x3B && eqb (getD s i 0) 0x3B)) _ _
-    (λ j. cond-found Q (eqb (getD s e 0) 0x07) _ _ (λ k. rw (eqb-true a 0x5D h) (link-form s (drop (e + 1) s) (3 + e) (true-T j) bel (byte-there s e 0x06 (true-T k)) (omega arith)))
-    (λ k. cond-found Q (eqb (getD s e 0) 0x1B && eqb (getD s (e + 1) 0) 0x5C) _ _
+    by-case Q (eqb a 0x5B)
+    (λ f. by-case Q (eqb (getD s n 0) 0x6D)
+    (λ g. by-case Q (allowed ps) (λ h. known-told (a ∷ s) (orders ps) n refl) (λ h. tt))
+    (λ g. by-case Q (eqb (getD s n 0) 0x4B)
+    (λ h. by-case Q (eqb n 0 || (eqb n 1 && eqb (getD s 0 0) 0x30)) (λ j. tt) (λ j. by-case Q (eqb n 1 && (eqb (getD s 0 0) 0x31 || eqb (getD s 0 0) 0x32)) (λ k. tt) (λ k. tt)))
+    (λ h. by-case Q (final (getD s n 0)) (λ j. tt) (λ j. tt))))
+    (λ f. by-case Q (eqb a 0x28)
+    (λ g. by-case Q (eqb (getD s 0 0) 0x30) (λ h. sym h) (λ h. by-case Q (eqb (getD s 0 0) 0x42) (λ j. sym h) (λ j. tt)))
+    (λ g. by-case Q (eqb a 0x5D)
+    (λ h. by-case Q (eqb (getD s 0 0) 0x38 && (eqb (getD s 1 0) 0x3B && eqb (getD s i 0) 0x3B))
+    (λ j. by-case Q (eqb (getD s e 0) 0x07) (λ k. rw (eqb-true a 0x5D h) (link-form s (drop (e + 1) s) (3 + e) (true-T j) bel (byte-there s e 0x06 (true-T k)) (omega arith)))
+    (λ k. by-case Q (eqb (getD s e 0) 0x1B && eqb (getD s (e + 1) 0) 0x5C)
     (λ l. let q = and-T (eqb (getD s e 0) 0x1B) _ (true-T l) in
     rw (eqb-true a 0x5D h) (link-form s (drop (e + 1 + 1) s) (4 + e) (true-T j) st (byte-there s e 0x1A (q .0) ∙ ap (λ (r : List ℕ). 0x1B ∷ r) (byte-there s (e + 1) 0x5B (q .1))) (omega arith)))
     (λ l. tt)))

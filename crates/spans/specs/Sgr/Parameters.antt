@@ -17,27 +17,45 @@ unfoldable pub valueFrom : ℕ → List ℕ → ℕ
 valueFrom v [] = v
 valueFrom v (d ∷ ds) = valueFrom (v * 10 + (d - 0x30)) ds
 
--- a parameter string (ECMA-48, 5.4.2) and its parameters: sub-strings of decimal digits, `;` between them
+-- one digit more, and a zero in front
+pub value-last : (ds : List ℕ) (v d : ℕ) → valueFrom v (ds ++ d ∷ []) ≡ valueFrom v ds * 10 + (d - 0x30)
+unfolding valueFrom
+value-last [] v d = refl
+value-last (c ∷ ds) v d = value-last ds (v * 10 + (c - 0x30)) d
+
+pub value-zero : (ds : List ℕ) → valueFrom 0 (0x30 ∷ ds) ≡ valueFrom 0 ds
+unfolding valueFrom
+value-zero ds = refl
+
+-- decimal digits that write n; none write 0
+pub record Numeral (ds : List ℕ) (n : ℕ) : Type 0 where
+  pub digits : All Digit ds
+  pub value : valueFrom 0 ds ≡ n
+
+-- a parameter string (ECMA-48, 5.4.2) and its parameters: numerals, `;` between them
 pub data ParameterString : List ℕ → List ℕ → Type 0 where
-  last : {ds : List ℕ} → All Digit ds → ParameterString ds (valueFrom 0 ds ∷ [])
-  next : {ds s ps : List ℕ} → All Digit ds → ParameterString s ps → ParameterString (ds ++ 0x3B ∷ s) (valueFrom 0 ds ∷ ps)
+  last : {ds : List ℕ} {n : ℕ} → Numeral ds n → ParameterString ds (n ∷ [])
+  next : {ds s ps : List ℕ} {n : ℕ} → Numeral ds n → ParameterString s ps → ParameterString (ds ++ 0x3B ∷ s) (n ∷ ps)
 
 parameters-digits : {ds : List ℕ} (v : ℕ) (s : List ℕ) → All Digit ds → parameters v (ds ++ s) ≡ parameters (valueFrom v ds) s
 unfolding parameters valueFrom
 parameters-digits v s all-nil = refl
 parameters-digits v s (all-cons {a = d} h a) = rw h (parameters-digits (v * 10 + (d - 0x30)) s a)
 
+parameters-numeral : {ds : List ℕ} {n : ℕ} (s : List ℕ) → Numeral ds n → parameters 0 (ds ++ s) ≡ parameters n s
+parameters-numeral s w = parameters-digits 0 s (w .digits) ∙ ap (λ (v : ℕ). parameters v s) (w .value)
+
 pub string-parameters : {s ps : List ℕ} → ParameterString s ps → parameters 0 s ≡ ps
 unfolding parameters
-string-parameters (last {ds = ds} a) = ap (parameters 0) (sym (append-nil ds)) ∙ parameters-digits 0 [] a
-string-parameters (next {ds = ds} {s = s} a w) = parameters-digits 0 (0x3B ∷ s) a ∙ ap (λ (ps : List ℕ). valueFrom 0 ds ∷ ps) (string-parameters w)
+string-parameters (last {ds = ds} w) = ap (parameters 0) (sym (append-nil ds)) ∙ parameters-numeral [] w
+string-parameters (next {s = s} {n = n} w f) = parameters-numeral (0x3B ∷ s) w ∙ ap (λ (ps : List ℕ). n ∷ ps) (string-parameters f)
 
 digits-bytes : {ds : List ℕ} → All Digit ds → All (λ (b : ℕ). parameterByte b ≡ true) ds
 digits-bytes a = all-map (λ d h. rw h refl) a
 
 pub string-bytes : {s ps : List ℕ} → ParameterString s ps → All (λ (b : ℕ). parameterByte b ≡ true) s
-string-bytes (last a) = digits-bytes a
-string-bytes (next a w) = all-append (digits-bytes a) (all-cons refl (string-bytes w))
+string-bytes (last w) = digits-bytes (w .digits)
+string-bytes (next w f) = all-append (digits-bytes (w .digits)) (all-cons refl (string-bytes f))
 
 all-at-most : (m : ℕ) {ps : List ℕ} → All (λ (p : ℕ). p ≤ m) ps → allAtMost m ps ≡ true
 unfolding allAtMost
