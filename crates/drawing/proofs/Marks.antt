@@ -15,7 +15,7 @@ use Rattle.buffer.specs.Numbers.Laws.{smaller-right}
 use Rattle.buffer.specs.Sink.{Sink, sink, put, emit}
 use Rattle.buffer.specs.Sink.Laws.{emit-none, then-emit}
 use Rattle.text.specs.Tests.{cases, both}
-use Rattle.text.specs.Utf8.{asciis, decode}
+use Rattle.text.specs.Utf8.{asciis, bytesOf, decode}
 use Rattle.text.specs.Utf8.AsciiTexts.{asciis-bytes, asciis-cons, asciis-nil, asciis-replicate}
 use Rattle.text.specs.Cluster.Printable.{printable-width, run-printable}
 use Rattle.text.specs.Class.Profile01.{ascii-classes}
@@ -186,6 +186,9 @@ scalar-is v =
 pub byte-is : (b : ℕ) → b < 256 → byteMark b ≡ markText b 4
 unfolding byteMark markPart
 byte-is b h = let e : b / 16 % 16 ≡ b / 16 = omega arith in rw e (simp (digit-is, asciis-cons, asciis-nil) refl)
+
+pub byte-pushed : (b : ℕ) (s z : Sink) → b < 256 → z ≡ emit s (markPart b 4 0 4) → z ≡ emit s (bytesOf (byteMark b))
+byte-pushed b s z h p = rw (byte-is b h, asciis-bytes (markPart b 4 0 4)) p
 
 mark-columns : (w : Window) (v n : ℕ) → n ≡ widthOf (profileOf (w .profile)) (markText v n)
 mark-columns w v n = sym (printable-width (profileOf (w .profile)) (ascii-classes (w .profile)) (all-printable (markPart v n 0 n) (part-printable v n 0 n)) ∙ part-length v n 0 n)

@@ -16,7 +16,7 @@ use Rattle.text.specs.Tests.{cases}
 use Rattle.text.specs.Utf8.{asciis, bytesOf}
 use Rattle.text.specs.Utf8.AsciiTexts.{asciis-append, asciis-bytes, asciis-cons, asciis-nil}
 use Rattle.drawing.specs.Marks.{byteMark, upperDigits, scalarMark}
-use Rattle.drawing.specs.Marks.Laws.{digit-is}
+use Rattle.drawing.specs.Marks.Laws.{digit-is, byte-bytes}
 use Rattle.marks.specs.Composed.{clippedChange}
 
 -- ---- digits
@@ -84,12 +84,6 @@ mark-length v =
     rw (length-append (upperBytes v) (lowerBytes v ++ 0x3E ∷ [])) (cases (ltb v 0x10000) (λ e. rw e (omega arith)) (λ e. cases (ltb v 0x100000) (λ f. rw (e, f) (omega arith)) (λ f. rw (e, f) (omega arith))))
 
 -- ---- the mark of a byte
-
-byte-bytes : (b : ℕ) → bytesOf (byteMark b) ≡ 0x3C ∷ numbers.hexDigit (b / 16) ∷ numbers.hexDigit (b % 16) ∷ 0x3E ∷ []
-unfolding byteMark
-byte-bytes b =
-    let e : byteMark b ≡ asciis (0x3C ∷ numbers.hexDigit (b / 16) ∷ numbers.hexDigit (b % 16) ∷ 0x3E ∷ []) = simp (digit-is, asciis-cons, asciis-nil) refl in
-    ap bytesOf e ∙ asciis-bytes (0x3C ∷ numbers.hexDigit (b / 16) ∷ numbers.hexDigit (b % 16) ∷ 0x3E ∷ [])
 
 pub byte-pushed : (s s₁ s₂ s₃ s₄ : Sink) (b h l : ℕ) → b < 256 → h ≡ numbers.hexDigit (b / 16 % 16) → l ≡ numbers.hexDigit (b % 16 % 16) → s₁ ≡ put s 0x3C → s₂ ≡ put s₁ h → s₃ ≡ put s₂ l → s₄ ≡ put s₃ 0x3E → s₄ ≡ emit s (bytesOf (byteMark b))
 byte-pushed s s₁ s₂ s₃ s₄ b h l g e f p q r t =

@@ -1,7 +1,7 @@
 -- The spans of a line as text, written one part after the other.
 use mathlib.Core.Path.{_≡_, refl, sym, ap, _∙_}
 use mathlib.Core.Logic.{_≢_}
-use Prim.Native.Nat.{ℕ, suc, _+_, _-_, _*_, _/_, _%_, _≤_, _<_}
+use Prim.Native.Nat.{ℕ, suc, _+_, _-_, _*_, _/_, _≤_, _<_}
 use native.Mathlib.Numerals.{add-one}
 use native.Mathlib.Omega.{arith}
 use mathlib.Core.Bool.{true, false, _&&_}
@@ -11,15 +11,13 @@ use lib.Seq.{drop-cons}
 use lib.Dec.{eqb, leb}
 use borrow.Author.Tests.{eq-eqb, ne-eqb, le-leb, leb-true, eqb-true}
 use Rattle.text.specs.Tests.{cases}
-use Rattle.text.specs.Utf8.{asciis, bytesOf}
-use Rattle.text.specs.Utf8.AsciiTexts.{asciis-bytes, asciis-cons, asciis-nil}
+use Rattle.text.specs.Utf8.{bytesOf}
 use Rattle.text.specs.Width.{profile01}
 use Rattle.text.specs.Overstrike.{convert}
 use Rattle.text.specs.Calls.{question1, question2}
 use Rattle.text.specs.Calls.Laws.{first-yes}
 use Rattle.text.specs.declared.Answer.{Answer}
 use Rattle.buffer.specs.Numbers.{smallerOf}
-use Rattle.buffer.specs.Numbers as numbers
 use Rattle.buffer.specs.Sink.{Sink, put, emit, writtenOrZero}
 use Rattle.buffer.specs.Sink.Laws.{emit-none, emit-append, then-emit, emit-put, then-put}
 use Rattle.spans.specs.Spans.{Span, spans, Record, records}
@@ -29,7 +27,6 @@ use Rattle.spans.specs.Calls.Laws.{unmatched, unmatched-accepted}
 use Rattle.spans.specs.Numbers.{numbersOfAll, placesIn, ReadNumbers}
 use Rattle.spans.specs.Numbers.Laws.{numbers-length, numbers-take}
 use Rattle.drawing.specs.Marks.{byteMark}
-use Rattle.drawing.specs.Marks.Laws.{digit-is}
 use Rattle.rows_io.specs.Output.{decimal}
 use Rattle.show_io.specs.SpanText.{sequenceWord, kindWord, visibleByte, visible, shown, headText, placeText, spanText, recordsText}
 use Rattle.show_io.specs.SpanText.Contracts.{numbersText}
@@ -49,18 +46,6 @@ unfolding kindWord
 kind-last n s z a b c d e f g h p = rw (ne-eqb n 1 a, ne-eqb n 2 b, ne-eqb n 3 c, ne-eqb n 4 d, ne-eqb n 5 e, ne-eqb n 10 f, ne-eqb n 11 g, ne-eqb n 12 h) p
 
 -- ---- bytes
-
-mark-bytes : (b : ℕ) → bytesOf (byteMark b) ≡ 0x3C ∷ numbers.hexDigit (b / 16) ∷ numbers.hexDigit (b % 16) ∷ 0x3E ∷ []
-unfolding byteMark
-mark-bytes b =
-    let e : byteMark b ≡ asciis (0x3C ∷ numbers.hexDigit (b / 16) ∷ numbers.hexDigit (b % 16) ∷ 0x3E ∷ []) = simp (digit-is, asciis-cons, asciis-nil) refl in
-    ap bytesOf e ∙ asciis-bytes (0x3C ∷ numbers.hexDigit (b / 16) ∷ numbers.hexDigit (b % 16) ∷ 0x3E ∷ [])
-
-pub mark-pushed : (s s₁ s₂ s₃ s₄ : Sink) (b h l : ℕ) → b < 256 → h ≡ numbers.hexDigit (b / 16 % 16) → l ≡ numbers.hexDigit (b % 16 % 16) → s₁ ≡ put s 0x3C → s₂ ≡ put s₁ h → s₃ ≡ put s₂ l → s₄ ≡ put s₃ 0x3E → s₄ ≡ emit s (bytesOf (byteMark b))
-mark-pushed s s₁ s₂ s₃ s₄ b h l g e f p q r t =
-    let m : numbers.hexDigit (b / 16) ≡ h = ap numbers.hexDigit (let x : b / 16 ≡ b / 16 % 16 = omega arith in x) ∙ sym e in
-    let n : numbers.hexDigit (b % 16) ≡ l = ap numbers.hexDigit (let x : b % 16 ≡ b % 16 % 16 = omega arith in x) ∙ sym f in
-    rw (mark-bytes b, m, n) (then-put s s₃ s₄ (0x3C ∷ h ∷ l ∷ []) 0x3E (then-put s s₂ s₃ (0x3C ∷ h ∷ []) l (then-put s s₁ s₂ (0x3C ∷ []) h (emit-put s s₁ 0x3C p) q) r) t)
 
 module _ (s z : Sink) (b : ℕ) where
   pub byte-plain : (leb 0x20 b && leb b 0x7E) ≡ true → z ≡ put s b → z ≡ emit s (visibleByte b)

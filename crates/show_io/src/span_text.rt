@@ -1,14 +1,12 @@
 // The spans of a line as text: for each the line's number, the kind in words, place and length in the converted line, and its bytes.
-use buffer::hex_digit;
 use buffer::push_byte;
 use buffer::push_bytes;
 use buffer::smaller;
+use drawing::mark::push_byte_mark;
 use rows_io::output::push_decimal;
 ghost use mathlib.Core.Path.{_≡_};
 ghost use lib.ListN.{take, drop};
 ghost use Rattle.buffer.specs.Sink.{sink, emit};
-ghost use Rattle.text.specs.Utf8.{bytesOf};
-ghost use Rattle.drawing.specs.Marks.{byteMark};
 ghost use Rattle.show_io.specs.SpanText.{sequenceWord, kindWord, visibleByte, visible, shown, headText, placeText, spanText};
 ghost use Rattle.show_io.specs.SpanText.Contracts.{numbersText};
 
@@ -62,23 +60,13 @@ fn push_kind_word(out: &mut [u8], at: usize, kind: usize) -> usize
     push_sequence_word(out, at, kind)
 }
 
-// A byte's mark, such as `<1B>`.
-fn push_mark(out: &mut [u8], at: usize, b: u8) -> usize
-    ensures { λ r. ⌜ sink (now (out .exit)) r ≡ emit (sink (now (out .entry)) at) (bytesOf (byteMark b)) ⌝ }
-{
-    let a = push_byte(out, at, 0x3C);
-    let c = push_byte(out, a, hex_digit(b / 16));
-    let d = push_byte(out, c, hex_digit(b % 16));
-    push_byte(out, d, 0x3E)
-}
-
 fn push_visible_byte(out: &mut [u8], at: usize, b: u8) -> usize
     ensures { λ r. ⌜ sink (now (out .exit)) r ≡ emit (sink (now (out .entry)) at) (visibleByte b) ⌝ }
 {
     if (0x20 <= b) & (b <= 0x7E) {
         return push_byte(out, at, b);
     }
-    push_mark(out, at, b)
+    push_byte_mark(out, at, b)
 }
 
 fn push_visible(out: &mut [u8], at: usize, s: &[u8]) -> usize

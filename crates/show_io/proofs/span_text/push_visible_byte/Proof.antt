@@ -12,8 +12,8 @@ same-length c = search needs
 returns : tie.Need-returns
 returns c = search byte-plain
 
-push-mark-requires : tie.Need-push-mark-requires
-push-mark-requires c κs = search needs
+push-byte-mark-requires : tie.Need-push-byte-mark-requires
+push-byte-mark-requires c κs = search needs
 
 same-length-2 : tie.Need-same-length-2
 same-length-2 c = search needs
@@ -24,4 +24,4 @@ returns-2 c = search byte-marked
 pub push-visible-byte-spec : {M : Type 1} → statement M
 push-visible-byte-spec =
     tie.close
-    (tie.spec push-byte-requires same-length returns push-mark-requires same-length-2 returns-2)
+    (tie.spec push-byte-requires same-length returns push-byte-mark-requires same-length-2 returns-2)
