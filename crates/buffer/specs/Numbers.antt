@@ -4,6 +4,7 @@ use mathlib.Core.Bool.{cond}
 use mathlib.Core.List.{List, [], _∷_}
 use lib.Dec.{leb, ltb}
 pub mod Laws
+pub mod Parts
 
 abbrev pub smallerOf : ℕ → ℕ → ℕ
 smallerOf a b = cond (leb a b) a b

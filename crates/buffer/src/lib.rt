@@ -2,7 +2,7 @@
 ghost use mathlib.Core.Path.{_≡_};
 ghost use Prim.Native.Nat.{_+_, _-_, _%_, _≤_};
 ghost use mathlib.Core.List.{_++_};
-ghost use lib.ListN.{length, take, replicate, getD};
+ghost use lib.ListN.{length, take, drop, replicate, getD};
 ghost use Rattle.buffer.specs.Sink.{sink, put, emit, Copied};
 ghost use Rattle.buffer.specs.Numbers.{smallerOf, le2, le4, hexDigit};
 
@@ -98,6 +98,15 @@ pub fn push_bytes(out: &mut [u8], at: usize, src: &[u8]) -> usize
         }
     }
     push_each(out, at, src)
+}
+
+// So many bytes of src from a place on, as far as it has them.
+pub fn push_part(out: &mut [u8], at: usize, src: &[u8], place: usize, len: usize) -> usize
+    ensures { λ r. ⌜ sink (now (out .exit)) r ≡ emit (sink (now (out .entry)) at) (take len (drop place (now (src .entry)))) ⌝ }
+{
+    let from = smaller(place, src.len());
+    let n = smaller(len, src.len() - from);
+    push_bytes(out, at, &src[from..from + n])
 }
 
 // A number in two bytes, little-endian.

@@ -1,16 +1,17 @@
 -- Printable bytes: what clipping leaves of them is a part of them.
-use mathlib.Core.Path.{_≡_, refl, sym, ap, ap₂, _∙_}
+use mathlib.Core.Path.{_≡_, sym, ap, ap₂, _∙_}
 use Prim.Native.Nat.{ℕ, suc, _+_, _-_, _≤_, _<_}
 use native.Mathlib.Numerals.{add-one}
 use native.Mathlib.Omega.{arith}
 use mathlib.Core.Bool.{Bool, true, false, cond, _||_, true≢false}
 use mathlib.Core.List.{List, [], _∷_, append-nil}
 use mathlib.Core.Option.{some}
-use lib.ListN.{length, take, drop, getD, length-drop, drop-of-length-le, take-append-drop}
+use lib.ListN.{length, take, drop, getD, drop-of-length-le, take-append-drop}
 use lib.Seq.{take-nil, take-all, drop-cons}
 use lib.Dec.{leb, ltb}
-use borrow.Author.Tests.{le-leb, leb-true, leb-false, ltb-true, ltb-false, le-ltb}
-use Rattle.buffer.specs.Numbers.Laws.{smaller-left, smaller-right}
+use borrow.Author.Tests.{leb-true, leb-false, ltb-true, ltb-false, le-ltb}
+use Rattle.buffer.specs.Numbers.Laws.{smaller-left, smaller-right, smaller-order}
+use Rattle.buffer.specs.Numbers.Parts.{part-cut}
 use Rattle.text.specs.Tests.{cases, both-true, or-false}
 use Rattle.text.specs.Each.{all-nil, all-cons, all-split}
 use Rattle.text.specs.Utf8.{Scalar, ascii, asciis, decode, bytesOf}
@@ -116,41 +117,17 @@ module _ (f : code.Profile) where
       let n : length s ≤ width = omega (arith, ltb-false width (widthOf P (asciis s)) (q .1), printable-width P a h) in
       rw (t, o) (ap (λ (l : List ℕ). some (asciis l)) (sym (take-all width s n))))
 
-  -- a part of them
-  part-is : (offset width start end : ℕ) (s : List ℕ) → start ≡ cond (leb offset (length s)) offset (length s) → end ≡ cond (leb (offset + width) (length s)) (offset + width) (length s)
-      → bytesIn s start end ≡ take width (drop offset s)
-  part-is offset width start end s p q =
-      cases (leb (offset + width) (length s))
-      (λ u. let v = leb-true (offset + width) (length s) u in
-      let o : start ≡ offset = rw (le-leb offset (length s) (omega arith)) at p in
-      let z : end - start ≡ width = omega (arith, rw u at q) in
-      rw (z, o) refl)
-      (λ u. let v = leb-false (offset + width) (length s) u in
-      let y : end ≡ length s = rw u at q in
-      cases (leb offset (length s))
-      (λ t. let o : start ≡ offset = rw t at p in
-      let l = leb-true offset (length s) t in
-      let z : end - start ≡ length s - offset = omega arith in
-      rw (z, o) (take-all (length s - offset) (drop offset s) (rw length-drop (omega arith)) ∙ sym (take-all width (drop offset s) (rw length-drop (omega arith)))))
-      (λ t. let o : start ≡ length s = rw t at p in
-      let l = leb-false offset (length s) t in
-      rw (o, drop-of-length-le s {i = offset} (omega arith), drop-of-length-le s {i = length s} (omega arith), take-nil {A = ℕ} width) (take-nil {A = ℕ} (end - length s))))
-
   pub columns-clipped : (offset width start end : ℕ) (s : List ℕ) → ColumnsClip s offset width → start ≡ cond (leb offset (length s)) offset (length s)
       → end ≡ cond (leb (offset + width) (length s)) (offset + width) (length s)
       → Clipped s (clip P offset width (textAt s 0)) (record { before = record { 0 = 0 }; start = record { 0 = start }; end = record { 0 = end }; behind = record { 0 = 0 }; torn = false })
   unfolding clipText clipOf
   columns-clipped offset width start end s ready p q =
       let h = all-printable s (ready .printable) in
-      let b : bytesIn s start end ≡ take width (drop offset s) = part-is offset width start end s p q in
+      let b : bytesIn s start end ≡ take width (drop offset s) = part-cut s offset start p width end q in
       let r : textIn s start end ≡ asciis (take width (drop offset s)) = ap (λ (l : List ℕ). runOf (decode l)) b ∙ run-printable (part-printable width offset s h) in
       let o : start ≤ offset = smaller-left offset (length s) start p in
-      let e : (start ≤ end) × (end ≤ length s) = (
-        cases (leb (offset + width) (length s)) (λ t. omega (arith, rw t at q)) (λ t. omega (arith, rw t at q, smaller-right offset (length s) start p)),
-        smaller-right (offset + width) (length s) end q,
-      ) in
       record {
-        fits = record { ordered = e .0; inside = e .1; valid = ap bytesOf r ∙ asciis-bytes (take width (drop offset s)) ∙ sym b; before = omega arith; behind = omega arith };
+        fits = record { ordered = smaller-order offset (length s) start p (offset + width) end (omega arith) q; inside = smaller-right (offset + width) (length s) end q; valid = ap bytesOf r ∙ asciis-bytes (take width (drop offset s)) ∙ sym b; before = omega arith; behind = omega arith };
         same = rw (run-printable h) (clip-printable offset width s h ∙ ap some (sym (append-nil (textIn s start end) ∙ r)));
         empty = λ t. absurd (true≢false (sym t));
       }

@@ -1,15 +1,16 @@
 -- A mark composed in memory: its bytes, and that they fit.
-use mathlib.Core.Path.{_≡_, refl, sym, ap, _∙_}
+use mathlib.Core.Path.{_≡_, sym, ap, _∙_}
 use Prim.Native.Nat.{ℕ, _+_, _-_, _/_, _%_, _≤_, _<_}
 use native.Mathlib.Omega.{arith}
 use mathlib.Core.Bool.{cond}
 use mathlib.Core.List.{List, [], _∷_, _++_}
 use lib.ListN.{length, take, drop, replicate, length-append}
 use lib.Seq.{length-take-le}
-use lib.Dec.{leb, ltb}
-use borrow.Author.Tests.{lt-ltb, le-ltb, leb-true, leb-false}
+use lib.Dec.{ltb}
+use borrow.Author.Tests.{lt-ltb, le-ltb}
 use Rattle.buffer.specs.Numbers as numbers
 use Rattle.buffer.specs.Numbers.{smallerOf, le2, le4}
+use Rattle.buffer.specs.Numbers.Laws.{smaller-order}
 use Rattle.buffer.specs.Sink.{Sink, sink, put, emit}
 use Rattle.buffer.specs.Sink.Laws.{emit-none, then-emit, fitted, emit-put, then-put}
 use Rattle.text.specs.Tests.{cases}
@@ -113,11 +114,8 @@ module _ (mark : List ℕ) (n : ℕ) where
 
 -- ---- a part of it
 
-module _ (n offset width from to : ℕ) (a : from ≡ smallerOf offset n) (b : to ≡ smallerOf (offset + width) n) where
-  pub part-order : from ≤ to
-  part-order = cases (leb offset n)
-      (λ e. cases (leb (offset + width) n) (λ f. omega (arith, rw e at a, rw f at b)) (λ f. omega (arith, rw e at a, rw f at b, leb-true offset n e)))
-      (λ e. cases (leb (offset + width) n) (λ f. omega (arith, leb-true (offset + width) n f, leb-false offset n e)) (λ f. omega (arith, rw e at a, rw f at b)))
+pub part-order : (n offset width from to : ℕ) → from ≡ smallerOf offset n → to ≡ smallerOf (offset + width) n → from ≤ to
+part-order n offset width from to a b = smaller-order offset n from a (offset + width) to (omega arith) b
 
 pub part-pushed : (mark : List ℕ) (offset width from to : ℕ) (s s₁ s₂ s₃ : Sink) → from ≡ smallerOf offset (length mark) → to ≡ smallerOf (offset + width) (length mark)
     → s₁ ≡ emit s (le4 (to - from)) → s₂ ≡ emit s₁ (le2 1) → s₃ ≡ emit s₂ (take (to - from) (drop from mark)) → s₃ ≡ emit s (clippedChange mark offset width)

@@ -1,15 +1,13 @@
 -- What is written of a row, byte for byte.
 use mathlib.Core.Path.{_≡_, refl, sym, ap, ap₂, _∙_}
-use Prim.Native.Nat.{ℕ, zero, suc, _+_, _-_, _*_, _<_, _≤_}
+use Prim.Native.Nat.{ℕ, suc, _+_, _-_, _*_, _<_, _≤_}
 use native.Mathlib.Omega.{arith}
 use mathlib.Core.Logic.{_≢_}
 use mathlib.Core.List.{List, [], _∷_, _++_, append-assoc}
-use lib.ListN.{length, take, drop, getD, replicate, length-drop, drop-of-length-le}
-use lib.Seq.{length-take-le, take-nil, drop-cons, getD-take}
-use lib.Dec.{leb}
-use borrow.Author.Tests.{eq-eqb, ne-eqb, leb-true, leb-false}
-use Rattle.text.specs.Tests.{cases}
-use Rattle.buffer.specs.Numbers.{smallerOf, le4}
+use lib.ListN.{length, take, drop, getD, replicate, drop-of-length-le}
+use lib.Seq.{length-take-le, drop-cons, getD-take}
+use borrow.Author.Tests.{eq-eqb, ne-eqb}
+use Rattle.buffer.specs.Numbers.{le4}
 use Rattle.buffer.specs.Sink.{Sink, sink, emit}
 use Rattle.buffer.specs.Sink.Laws.{emit-append, emit-none}
 use Rattle.screen.specs.WellFormed.{bodySize}
@@ -20,37 +18,6 @@ use Rattle.screen.specs.Screen.{rowOf}
 use Rattle.screen.specs.Output.{cellBytes}
 use Rattle.screen.specs.Output.Laws.{row-nil, row-cons, row-append}
 use Rattle.screen.specs.declared.screen.Screen as code
-
--- ---- write_part
-
-module _ (list : List ℕ) (start len from n : ℕ) (is : from ≡ smallerOf start (length list)) (size : n ≡ length (part list from len)) where
-  from-inside : from ≤ length list
-  from-inside = rw is (cases (leb start (length list)) (λ e. rw e (leb-true start (length list) e)) (λ e. rw e (omega arith)))
-
-  pub part-inside : from + n ≤ length list
-  part-inside = omega (arith, size, shorter (drop from list) len, length-drop from list, from-inside)
-    where
-      shorter : (l : List ℕ) (k : ℕ) → length (take k l) ≤ length l
-      shorter [] k = rw (take-nil {A = ℕ} k) (omega arith)
-      shorter (x ∷ l) zero = omega arith
-      shorter (x ∷ l) (suc k) = omega (arith, shorter l k)
-
-  same-part : take (from + n - from) (drop from list) ≡ part list start len
-  same-part =
-      let k : from + n - from ≡ length (part list from len) = omega (arith, size) in
-      ap (λ (m : ℕ). take m (drop from list)) k ∙ again len (drop from list) ∙ place
-    where
-      again : (m : ℕ) (l : List ℕ) → take (length (take m l)) l ≡ take m l
-      again zero l = refl
-      again (suc m) [] = refl
-      again (suc m) (x ∷ l) = ap (λ (xs : List ℕ). x ∷ xs) (again m l)
-
-      place : part list from len ≡ part list start len
-      place = cases (leb start (length list)) (λ e. rw (rw e at is) refl)
-          (λ e. let h = leb-false start (length list) e in rw (rw e at is, drop-of-length-le list (let g : length list ≤ length list = omega arith in g), drop-of-length-le list (let g : length list ≤ start = omega arith in g)) refl)
-
-  pub part-written : (s s′ : Sink) → s′ ≡ emit s (take (from + n - from) (drop from list)) → s′ ≡ emit s (part list start len)
-  part-written s s′ e = e ∙ ap (emit s) same-part
 
 -- ---- bodies
 

@@ -4,7 +4,7 @@ use super::row::part_len;
 use super::screen::Screen;
 use buffer::push_bytes;
 use buffer::push_le4;
-use buffer::smaller;
+use buffer::push_part;
 ghost use mathlib.Core.Path.{_≡_};
 ghost use Prim.Native.Nat.{_*_, _≤_};
 ghost use lib.ListN.{length, take, replicate};
@@ -14,15 +14,6 @@ ghost use Rattle.screen.specs.Row.Contracts.{part, bodyAt, blankAt, cell
 ghost use Rattle.screen.specs.Screen.{rowOf, RowReady};
 ghost use Rattle.screen.specs.Output.{cellBytes};
 
-// A part of the list.
-fn write_part(list: &[u8], start: usize, len: usize, out: &mut [u8], at: usize) -> usize
-    ensures { λ r. ⌜ sink (now (out .exit)) r ≡ emit (sink (now (out .entry)) at) (part (now (list .entry)) start len) ⌝ }
-{
-    let from = smaller(start, list.len());
-    let n = part_len(list, from, len);
-    push_bytes(out, at, &list[from..from + n])
-}
-
 // The attribute body at a place, 0 for default.
 fn write_body(list: &[u8], place: usize, out: &mut [u8], at: usize) -> usize
     ensures { λ r. ⌜ sink (now (out .exit)) r ≡ emit (sink (now (out .entry)) at) (bodyAt (now (list .entry)) place) ⌝ }
@@ -31,7 +22,7 @@ fn write_body(list: &[u8], place: usize, out: &mut [u8], at: usize) -> usize
         let plain = [0u8; BODY_SIZE];
         return push_bytes(out, at, &plain);
     }
-    write_part(list, place, BODY_SIZE, out, at)
+    push_part(out, at, list, place, BODY_SIZE)
 }
 
 // Default attributes with the background at a place.
@@ -40,7 +31,7 @@ fn write_background(list: &[u8], place: usize, out: &mut [u8], at: usize) -> usi
 {
     let zeros = [0u8; 13];
     let a = push_bytes(out, at, &zeros[..8]);
-    let b = write_part(list, place, 4, out, a);
+    let b = push_part(out, a, list, place, 4);
     push_bytes(out, b, &zeros)
 }
 
@@ -68,7 +59,7 @@ fn write_cell(list: &[u8], row: &[usize], i: usize, out: &mut [u8], at: usize) -
         return write_blank(list, body, out, at);
     }
     let a = push_le4(out, at, part_len(list, cluster, len));
-    let b = write_part(list, cluster, len, out, a);
+    let b = push_part(out, a, list, cluster, len);
     write_body(list, body, out, b)
 }
 

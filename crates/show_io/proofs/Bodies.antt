@@ -5,14 +5,12 @@ use Prim.Native.Nat.{ℕ, zero, suc, _+_, _-_, _≤_, _<_}
 use native.Mathlib.Omega.{arith}
 use mathlib.Core.Bool.{Bool, true, false, true≢false, _&&_}
 use mathlib.Core.List.{List, [], _∷_, _++_}
-use lib.ListN.{length, take, drop, getD, length-drop, drop-of-length-le}
-use lib.Seq.{take-all}
+use lib.ListN.{length, take, drop, getD, drop-of-length-le}
 use lib.Dec.{T, eqb, leb, eqb→eq}
-use borrow.Author.Tests.{eq-eqb, ne-eqb, le-leb, lt-leb, leb-true, leb-false}
+use borrow.Author.Tests.{eq-eqb, ne-eqb, leb-true, leb-false}
 use Rattle.text.specs.Tests.{and-T, is-true, true-T, cases}
 use Rattle.buffer.specs.Sink.{Sink, emit}
 use Rattle.buffer.specs.Sink.Laws.{then-emit, emit-none}
-use Rattle.buffer.specs.Numbers.{smallerOf}
 use Rattle.screen.specs.Records.{littleEndian}
 use Rattle.screen.specs.Records.Contracts.{HeadReady}
 use Rattle.show_io.specs.Ansi.{alike, styleOrder, uri, linkOrder, change}
@@ -109,60 +107,11 @@ pub number-past : (s : List ℕ) (at : ℕ) → length s ≤ at → 0 ≡ little
 unfolding littleEndian
 number-past s at h = rw (drop-of-length-le s h) refl
 
--- ---- a part of a list, cut where it ends
+-- ---- push_uri
 
-module _ (s : List ℕ) (at n : ℕ) where
-  pub part-cut : (from to : ℕ) → from ≡ smallerOf at (length s) → to ≡ smallerOf (at + n) (length s) → take (to - from) (drop from s) ≡ take n (drop at s)
-  part-cut from to e f = cases (leb at (length s))
-      (λ h. let k = leb-true at (length s) h in let from-is : from ≡ at = rw h at e in
-      cases (leb (at + n) (length s))
-      (λ g. let to-is : to ≡ at + n = rw g at f in let m : at + n - at ≡ n = omega arith in rw (from-is, to-is, m) refl)
-      (λ g. let l = leb-false (at + n) (length s) g in let to-is : to ≡ length s = rw g at f in
-      let long : length (drop at s) ≡ length s - at = length-drop at s in
-      rw (from-is, to-is) (take-all (length s - at) (drop at s) (omega arith) ∙ sym (take-all n (drop at s) (omega arith)))))
-      (λ h. let k = leb-false at (length s) h in let from-is : from ≡ length s = rw h at e in
-      rw (from-is, drop-of-length-le s (let g : length s ≤ length s = omega arith in g), drop-of-length-le s (let g : length s ≤ at = omega arith in g)) (none (to - length s) n))
-    where
-      none : (k m : ℕ) → _≡_ {A = List ℕ} (take k []) (take m [])
-      none zero zero = refl
-      none zero (suc m) = refl
-      none (suc k) zero = refl
-      none (suc k) (suc m) = refl
-
--- a part from p on of n bytes
-module _ (line : List ℕ) (p n from len : ℕ) (is : from ≡ smallerOf p (length line)) where
-  from-within : from ≤ length line
-  from-within = rw is (cases (leb p (length line)) (λ e. rw e (leb-true p (length line) e)) (λ e. rw e (omega arith)))
-
-  module _ (cut : len ≡ smallerOf n (length line - from)) where
-    pub part-within : from + len ≤ length line
-    part-within =
-        let w = from-within in
-        cases (leb n (length line - from))
-        (λ e. let k = leb-true n (length line - from) e in let l : len ≡ n = rw e at cut in omega arith)
-        (λ e. let l : len ≡ length line - from = rw e at cut in omega arith)
-
-    -- a place in memory
-    pub part-fits : length line < 18446744073709551616 → from + len < 18446744073709551616
-    part-fits h = omega (arith, part-within)
-
-    to-is : from + len ≡ smallerOf (p + n) (length line)
-    to-is = cases (leb p (length line))
-        (λ e. let f : from ≡ p = rw e at is in let k = leb-true p (length line) e in cases (leb n (length line - from))
-        (λ g. let l : len ≡ n = rw g at cut in let h = leb-true n (length line - from) g in rw (le-leb (p + n) (length line) (omega arith)) (omega arith))
-        (λ g. let l : len ≡ length line - from = rw g at cut in let h = leb-false n (length line - from) g in rw (lt-leb (p + n) (length line) (omega arith)) (omega arith)))
-        (λ e. let f : from ≡ length line = rw e at is in let k = leb-false p (length line) e in cases (leb n (length line - from))
-        (λ g. let l : len ≡ n = rw g at cut in let h = leb-true n (length line - from) g in rw (lt-leb (p + n) (length line) (omega arith)) (omega arith))
-        (λ g. let l : len ≡ length line - from = rw g at cut in rw (lt-leb (p + n) (length line) (omega arith)) (omega arith)))
-
-    pub part-is : take (from + len - from) (drop from line) ≡ take n (drop p line)
-    part-is = part-cut line p n from (from + len) is to-is
-
-    -- ---- push_uri
-
-    pub uri-pushed : (body : List ℕ) (s z : Sink) → p ≡ littleEndian (take 4 (drop 16 body)) → n ≡ littleEndian (take 4 (drop 20 body)) → z ≡ emit s (take (from + len - from) (drop from line)) → z ≡ emit s (uri line body)
-    unfolding uri
-    uri-pushed body s z place size e = e ∙ ap (emit s) (part-is ∙ rw (place, size) refl)
+pub uri-pushed : (line body : List ℕ) (p n : ℕ) (s z : Sink) → p ≡ littleEndian (take 4 (drop 16 body)) → n ≡ littleEndian (take 4 (drop 20 body)) → z ≡ emit s (take n (drop p line)) → z ≡ emit s (uri line body)
+unfolding uri
+uri-pushed line body p n s z place size e = e ∙ ap (emit s) (rw (place, size) refl)
 
 -- ---- changes
 

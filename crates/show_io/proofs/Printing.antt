@@ -7,12 +7,13 @@ use mathlib.Core.List.{List, [], _∷_, _++_, append-assoc}
 use lib.ListN.{length, take, drop, getD, drop-of-length-le}
 use lib.Seq.{drop-cons, drop-drop}
 use lib.Dec.{leb}
-use borrow.Author.Tests.{leb-true, leb-false, lt-leb}
+use borrow.Author.Tests.{leb-false}
 use Rattle.text.specs.Tests.{cases}
 use Rattle.buffer.specs.Sink.{Sink, sink, emit}
 use Rattle.buffer.specs.Sink.Laws.{then-emit, emit-append}
 use Rattle.buffer.specs.Numbers.{smallerOf}
-use Rattle.buffer.specs.Numbers.Laws.{smaller-right}
+use Rattle.buffer.specs.Numbers.Laws.{smaller-right, smaller-order}
+use Rattle.buffer.specs.Numbers.Parts.{part-cut}
 use Rattle.screen.specs.Records.{littleEndian}
 use Rattle.screen.specs.WellFormed.{bodySize}
 use Rattle.screen.specs.Row.{Cell, cell}
@@ -20,18 +21,13 @@ use Rattle.show_io.specs.Ansi.{lengthAt, cellAt, cells, change, textFrom
 use Rattle.show_io.specs.Ansi.Cells.{cells-none, cells-first}
 use Rattle.show_io.specs.Ansi.Contracts.{placesAt, clusterIn, bodyIn, InRow, cellText, sameBody}
 use Rattle.show_io.specs.declared.ansi.Places.{Places}
-use Rattle.show_io.proofs.Bodies.{part-cut, change-none}
+use Rattle.show_io.proofs.Bodies.{change-none}
 
 pub places-are : (row : List ℕ) (at n x y z : ℕ) → n ≡ littleEndian (take 4 (drop at row)) → x ≡ smallerOf (at + 4) (length row) → y ≡ smallerOf (at + 4 + n) (length row) → z ≡ smallerOf (at + 4 + n + 25) (length row)
     → record { cluster = x; body = y; end = z } ≡ placesAt row at
 places-are row at n x y z e f g h = rw (f, g, h, e) refl
 
 -- ---- the cell at a place
-
-larger : (a b m : ℕ) → a ≤ b → smallerOf a m ≤ smallerOf b m
-larger a b m h = cases (leb a m)
-    (λ e. let i = leb-true a m e in cases (leb b m) (λ f. rw (e, f) h) (λ f. rw (e, f) i))
-    (λ e. let i = leb-false a m e in rw (e, lt-leb b m (omega arith)) (omega arith))
 
 module _ (row : List ℕ) (at : ℕ) where
   abbrev n : ℕ
@@ -42,15 +38,15 @@ module _ (row : List ℕ) (at : ℕ) where
 
   pub places-in : InRow row (placesAt row at)
   places-in = record {
-    cluster = larger (at + 4) (at + 4 + n) len (omega arith);
-    body = larger (at + 4 + n) (at + 4 + n + bodySize) len (omega arith);
+    cluster = smaller-order (at + 4) len _ refl (at + 4 + n) _ (omega arith) refl;
+    body = smaller-order (at + 4 + n) len _ refl (at + 4 + n + bodySize) _ (omega arith) refl;
     end = smaller-right (at + 4 + n + bodySize) len _ refl;
   }
 
   cell-is : cellAt (drop at row) ≡ cell (clusterIn row (placesAt row at)) (bodyIn row (placesAt row at))
   cell-is = same
-      (ap (take n) (drop-drop 4 at row) ∙ sym (part-cut row (at + 4) n _ _ refl refl))
-      (ap (take bodySize) (drop-drop (4 + n) at row ∙ ap (λ (k : ℕ). drop k row) (let e : at + (4 + n) ≡ at + 4 + n = omega arith in e)) ∙ sym (part-cut row (at + 4 + n) bodySize _ _ refl refl))
+      (ap (take n) (drop-drop 4 at row) ∙ sym (part-cut row (at + 4) _ refl n _ refl))
+      (ap (take bodySize) (drop-drop (4 + n) at row ∙ ap (λ (k : ℕ). drop k row) (let e : at + (4 + n) ≡ at + 4 + n = omega arith in e)) ∙ sym (part-cut row (at + 4 + n) _ refl bodySize _ refl))
     where
       same : {g h a b : List ℕ} → g ≡ h → a ≡ b → _≡_ {A = Cell} (cell g a) (cell h b)
       same e f = rw (e, f)

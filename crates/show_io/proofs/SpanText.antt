@@ -18,6 +18,7 @@ use Rattle.text.specs.Calls.{question1, question2}
 use Rattle.text.specs.Calls.Laws.{first-yes}
 use Rattle.text.specs.declared.Answer.{Answer}
 use Rattle.buffer.specs.Numbers.{smallerOf}
+use Rattle.buffer.specs.Numbers.Parts.{part-is}
 use Rattle.buffer.specs.Sink.{Sink, put, emit, writtenOrZero}
 use Rattle.buffer.specs.Sink.Laws.{emit-none, emit-append, then-emit, emit-put, then-put}
 use Rattle.spans.specs.Spans.{Span, spans, Record, records}
@@ -32,7 +33,6 @@ use Rattle.show_io.specs.SpanText.{sequenceWord, kindWord, visibleByte, 
 use Rattle.show_io.specs.SpanText.Contracts.{numbersText}
 use Rattle.show_io.specs.Lines.{refusalText, readText, spansText}
 use Rattle.show_io.specs.Lines.Contracts.{answerText}
-use Rattle.show_io.proofs.Bodies.{part-is}
 use Rattle.show_io.proofs.LineRows.{take-smaller}
 
 -- ---- kinds
@@ -92,7 +92,7 @@ module _ (s z : Sink) (kind : ℕ) (l : List ℕ) where
   shown-visible e p = rw (ne-eqb kind 1 e) p
 
 pub part-pushed : (conv : List ℕ) (place len from n kind : ℕ) → from ≡ smallerOf place (length conv) → n ≡ smallerOf len (length conv - from) → (s z : Sink) → z ≡ emit s (shown kind (take (from + n - from) (drop from conv))) → z ≡ emit s (shown kind (take len (drop place conv)))
-part-pushed conv place len from n kind is cut s z p = p ∙ ap (λ (l : List ℕ). emit s (shown kind l)) (part-is conv place len from n is cut)
+part-pushed conv place len from n kind is cut s z p = p ∙ ap (λ (l : List ℕ). emit s (shown kind l)) (part-is conv place from is len n cut)
 
 -- ---- a span
 

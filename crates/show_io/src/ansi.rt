@@ -2,6 +2,7 @@
 use buffer::byte_at;
 use buffer::push_byte;
 use buffer::push_bytes;
+use buffer::push_part;
 use buffer::smaller;
 use rows_io::output::push_decimal;
 use screen::BODY_SIZE;
@@ -131,9 +132,7 @@ fn number_at(s: &[u8], at: usize) -> usize
 fn push_uri(out: &mut [u8], at: usize, line: &[u8], body: &[u8]) -> usize
     ensures { λ r. ⌜ sink (now (out .exit)) r ≡ emit (sink (now (out .entry)) at) (uri (now (line .entry)) (now (body .entry))) ⌝ }
 {
-    let from = smaller(number_at(body, 16), line.len());
-    let len = smaller(number_at(body, 20), line.len() - from);
-    push_bytes(out, at, &line[from..from + len])
+    push_part(out, at, line, number_at(body, 16), number_at(body, 20))
 }
 
 // `ESC ] 8 ; ;`, the URI, `ESC \`.

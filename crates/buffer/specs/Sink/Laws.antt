@@ -9,6 +9,8 @@ use native.Mathlib.Omega.{arith}
 use lib.ListN.{length, set, take, drop, getD, replicate, drop-of-length-le, length-set, length-replicate, getD-replicate, length-drop, take-append-drop}
 use lib.Seq.{take-at, set-out, drop-cons, sets, sets-eq, paste, paste-zero, paste-suc, take-all, take-length, length-take-le, length-paste, take-append-seam, take-append-le, drop-at, drop-drop, drop-paste, drop-append-le}
 use borrow.Author.Tests.{lt-ltb, le-ltb}
+use Rattle.buffer.specs.Numbers.{smallerOf}
+use Rattle.buffer.specs.Numbers.Parts.{part-is}
 use Rattle.buffer.specs.Sink.{Sink, sink, saturated, put, emit, written, cleared, Copied}
 
 abbrev countOf : Sink → ℕ
@@ -52,6 +54,9 @@ emit-put s s′ b p = p
 
 pub then-put : (s s′ s″ : Sink) (xs : List ℕ) (b : ℕ) → s′ ≡ emit s xs → s″ ≡ put s′ b → s″ ≡ emit s (xs ++ b ∷ [])
 then-put s s′ s″ xs b p q = then-emit s s′ s″ xs (b ∷ []) p (emit-put s′ s″ b q)
+
+pub emit-part : (xs : List ℕ) (at n from len : ℕ) (s s′ : Sink) → from ≡ smallerOf at (length xs) → len ≡ smallerOf n (length xs - from) → s′ ≡ emit s (take (from + len - from) (drop from xs)) → s′ ≡ emit s (take n (drop at xs))
+emit-part xs at n from len s s′ is cut e = e ∙ ap (emit s) (part-is xs at from is n len cut)
 
 -- ---- a loop that writes one byte n times: a turn, and the end
 

@@ -12,8 +12,8 @@ slice-aggregate-push-bytes c = search needs
 push-bytes-requires : tie.Need-push-bytes-requires
 push-bytes-requires c κs = search needs
 
-write-part-requires : tie.Need-write-part-requires
-write-part-requires c κs = search needs
+push-part-requires : tie.Need-push-part-requires
+push-part-requires c κs = search needs
 
 slice-aggregate-push-bytes-2 : tie.Need-slice-aggregate-push-bytes-2
 slice-aggregate-push-bytes-2 c = search needs
@@ -34,7 +34,7 @@ write-background-spec =
     array-share-prefix-zeros
     slice-aggregate-push-bytes
     push-bytes-requires
-    write-part-requires
+    push-part-requires
     slice-aggregate-push-bytes-2
     push-bytes-requires-2
     same-length

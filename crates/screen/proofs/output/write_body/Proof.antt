@@ -15,8 +15,8 @@ same-length c = search needs
 returns : tie.Need-returns
 returns c = search plain-written
 
-write-part-requires : tie.Need-write-part-requires
-write-part-requires c κs = search needs
+push-part-requires : tie.Need-push-part-requires
+push-part-requires c κs = search needs
 
 same-length-2 : tie.Need-same-length-2
 same-length-2 c = search needs
@@ -32,6 +32,6 @@ write-body-spec =
     push-bytes-requires
     same-length
     returns
-    write-part-requires
+    push-part-requires
     same-length-2
     returns-2)

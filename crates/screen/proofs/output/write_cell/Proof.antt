@@ -51,8 +51,8 @@ part-len-requires c κs = search needs
 push-le4-requires : tie.Need-push-le4-requires
 push-le4-requires c κs = search needs
 
-write-part-requires : tie.Need-write-part-requires
-write-part-requires c κs = search needs
+push-part-requires : tie.Need-push-part-requires
+push-part-requires c κs = search needs
 
 write-body-requires : tie.Need-write-body-requires
 write-body-requires c κs = search needs
@@ -83,7 +83,7 @@ write-cell-spec =
     returns
     part-len-requires
     push-le4-requires
-    write-part-requires
+    push-part-requires
     write-body-requires
     same-length-2
     returns-2)

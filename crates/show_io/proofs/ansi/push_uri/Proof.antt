@@ -1,5 +1,4 @@
-use Rattle.show_io.proofs.Bodies.{part-within, part-fits, uri-pushed}
-use Rattle.buffer.specs.Numbers.Laws.{smaller-right}
+use Rattle.show_io.proofs.Bodies.{uri-pushed}
 use borrow.Author.Needs.{needs}
 use Rattle.show_io.proofs.ansi.push_uri.Statement.{statement}
 use Rattle.show_io.proofs.ansi.push_uri.Tie as tie
@@ -7,32 +6,11 @@ use Rattle.show_io.proofs.ansi.push_uri.Tie as tie
 number-at-requires : tie.Need-number-at-requires
 number-at-requires c κs = search needs
 
-smaller-requires : tie.Need-smaller-requires
-smaller-requires c κs = search needs
-
 number-at-requires-2 : tie.Need-number-at-requires-2
 number-at-requires-2 c κs = search needs
 
-sub-smaller : tie.Need-sub-smaller
-sub-smaller c = search smaller-right
-
-smaller-requires-2 : tie.Need-smaller-requires-2
-smaller-requires-2 c κs = search needs
-
-add-push-bytes : tie.Need-add-push-bytes
-add-push-bytes c = search (needs, part-fits)
-
-sub-push-bytes : tie.Need-sub-push-bytes
-sub-push-bytes c = search needs
-
-part-push-bytes-start : tie.Need-part-push-bytes-start
-part-push-bytes-start c = search needs
-
-part-push-bytes-end : tie.Need-part-push-bytes-end
-part-push-bytes-end c = search part-within
-
-push-bytes-requires : tie.Need-push-bytes-requires
-push-bytes-requires c κs = search needs
+push-part-requires : tie.Need-push-part-requires
+push-part-requires c κs = search needs
 
 same-length : tie.Need-same-length
 same-length c = search needs
@@ -43,16 +21,4 @@ returns c = search uri-pushed
 pub push-uri-spec : {M : Type 1} → statement M
 push-uri-spec =
     tie.close
-    (tie.spec
-    number-at-requires
-    smaller-requires
-    number-at-requires-2
-    sub-smaller
-    smaller-requires-2
-    add-push-bytes
-    sub-push-bytes
-    part-push-bytes-start
-    part-push-bytes-end
-    push-bytes-requires
-    same-length
-    returns)
+    (tie.spec number-at-requires number-at-requires-2 push-part-requires same-length returns)

@@ -1,6 +1,6 @@
 use Rattle.show_io.proofs.SpanText.{part-pushed}
-use Rattle.show_io.proofs.Bodies.{part-within, part-fits}
 use Rattle.buffer.specs.Numbers.Laws.{smaller-right}
+use Rattle.buffer.specs.Numbers.Parts.{part-within, part-fits}
 use borrow.Author.Needs.{needs}
 use Rattle.show_io.proofs.span_text.push_part.Statement.{statement}
 use Rattle.show_io.proofs.span_text.push_part.Tie as tie
