@@ -23,7 +23,7 @@ module _ (a b r : ℕ) (e : r ≡ smallerOf a b) where
   pub smaller-right : r ≤ b
   smaller-right = ⊎-elim (λ (p : (a ≤ b) × (r ≡ a)). omega arith) (λ (p : (b < a) × (r ≡ b)). omega arith) smaller-is
 
-  -- a smaller number has no greater one
+  -- it is no greater for a lesser number
   pub smaller-order : (d t : ℕ) → a ≤ d → t ≡ smallerOf d b → r ≤ t
   smaller-order d t h f = let l = smaller-left in let m = smaller-right in ⊎-elim (λ (p : (d ≤ b) × (t ≡ d)). omega arith) (λ (p : (b < d) × (t ≡ b)). omega arith) (smaller-by d b t (leb d b) refl f)
 
