@@ -14,7 +14,7 @@ use Rattle.bytes.specs.Bytes.{indexOf, slice}
 use Rattle.text.specs.Tests.{cases, in-range}
 use Rattle.buffer.specs.Sink.{Sink, sink, put, emit}
 use Rattle.buffer.specs.Numbers.{smallerOf}
-use Rattle.vectors.specs.Fields.{startOf, fieldOf, digitOf, withDigit, decimal, listedFrom, listed, hexByte, hexBytes, clipped, Kept}
+use Rattle.vectors.specs.Fields.{startOf, fieldOf, digitOf, withDigit, decimal, listedFrom, listed, hexByte, hexBytes, clipped, Filled}
 use Rattle.vectors.specs.Recorded.{Lent}
 
 at-byte : (s : List ℕ) (i : ℕ) → i < length s → drop i s ≡ getD s i 0 ∷ drop (i + 1) s
@@ -132,8 +132,8 @@ smaller-inside a b r e = omega (arith, smaller-low a b)
 pub counted : (n : ℕ) (l : List ℕ) → n ≤ length l → Counts n l
 counted n l h = (h, sym (length-take-le n l h))
 
-pub kept : (l l′ xs : List ℕ) (k r : ℕ) → sink l′ k ≡ emit (sink l 0) xs → r ≡ smallerOf k (length l′) → Kept l l′ xs r
-kept l l′ xs k r e h =
+pub filled : (l l′ xs : List ℕ) (k r : ℕ) → sink l′ k ≡ emit (sink l 0) xs → r ≡ smallerOf k (length l′) → Filled l l′ xs r
+filled l l′ xs k r e h =
     record { filled = ap (sink l′) h ∙ ap clipped e; inside = counted r l′ (omega (arith, h, smaller-low k (length l′))) }
 
 pub counted-in : (n : ℕ) (l l₀ : List ℕ) → n ≤ length l₀ → length l ≡ length l₀ → Counts n l
@@ -156,7 +156,7 @@ module _ (n m : ℕ) (l : List ℕ) (e : n ≡ m) where
 
 -- ---- lists of numbers
 
-pub list-none : (l s : List ℕ) (b : ℕ) → b ≡ getD s 0 0 → b ≡ 0x2D → Kept l l (listed s) 0
+pub list-none : (l s : List ℕ) (b : ℕ) → b ≡ getD s 0 0 → b ≡ 0x2D → Filled l l (listed s) 0
 unfolding listed emit
 list-none l s b p q =
     let none : listed s ≡ [] = rw (eq-eqb (getD s 0 0) 0x2D (sym p ∙ q)) in

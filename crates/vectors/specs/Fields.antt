@@ -65,6 +65,6 @@ abbrev pub clipped : Sink → Sink
 clipped (sink l n) = sink l (smallerOf n (length l))
 
 -- xs in the front of a buffer, as many as it holds, and how many
-pub record Kept (before after xs : List ℕ) (r : ℕ) : Type 0 where
+pub record Filled (before after xs : List ℕ) (r : ℕ) : Type 0 where
   pub filled : sink after r ≡ clipped (emit (sink before 0) xs)
   pub inside : Counts r after

@@ -1,7 +1,7 @@
 // The fields of a case, parted by single spaces: words, decimal numbers, lists of them parted by commas, and hexadecimal bytes. `-` is
 // an empty list, no bytes, or the largest number.
 ghost use mathlib.Core.Path.{_≡_};
-ghost use Rattle.vectors.specs.Fields.{startOf, fieldOf, digitOf, withDigit, decimal, listed, hexByte, hexBytes, Kept};
+ghost use Rattle.vectors.specs.Fields.{startOf, fieldOf, digitOf, withDigit, decimal, listed, hexByte, hexBytes, Filled};
 use buffer::byte_at;
 use buffer::push_byte;
 use buffer::push_number;
@@ -77,7 +77,7 @@ pub(crate) fn number(s: &[u8], n: usize) -> usize
 
 // The numbers of a list, as many as `out` holds; how many.
 pub(crate) fn numbers(text: &[u8], out: &mut [usize]) -> usize
-    ensures { λ r. ⌜ Kept (now (out .entry)) (now (out .exit)) (listed (now (text .entry))) r ⌝ }
+    ensures { λ r. ⌜ Filled (now (out .entry)) (now (out .exit)) (listed (now (text .entry))) r ⌝ }
 {
     if byte_at(text, 0) == b'-' {
         return 0;
@@ -106,7 +106,7 @@ fn hex_byte(high: u8, low: u8) -> u8
 
 // The bytes of a hexadecimal text, as many as `out` holds; how many.
 pub(crate) fn bytes(text: &[u8], out: &mut [u8]) -> usize
-    ensures { λ r. ⌜ Kept (now (out .entry)) (now (out .exit)) (hexBytes (now (text .entry))) r ⌝ }
+    ensures { λ r. ⌜ Filled (now (out .entry)) (now (out .exit)) (hexBytes (now (text .entry))) r ⌝ }
 {
     let mut at = 0;
     let mut i = 0;

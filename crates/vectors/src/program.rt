@@ -2,7 +2,7 @@
 // bytes.
 ghost use mathlib.Core.Path.{_≡_};
 ghost use Prim.Native.Nat.{_-_};
-ghost use Rattle.vectors.specs.Fields.{Kept};
+ghost use Rattle.vectors.specs.Fields.{Filled};
 ghost use Rattle.vectors.specs.Program.{inputAt, inputLen, partOf};
 use super::fields;
 use super::fields::field;
@@ -48,7 +48,7 @@ fn fill(
     end: usize,
     part: &mut [u8],
 ) -> usize
-    ensures { λ r. ⌜ Kept (now (part .entry)) (now (part .exit)) (partOf (inputAt (now (prefix .entry)) byte times (now (suffix .entry))) at (end - at)) r ⌝ }
+    ensures { λ r. ⌜ Filled (now (part .entry)) (now (part .exit)) (partOf (inputAt (now (prefix .entry)) byte times (now (suffix .entry))) at (end - at)) r ⌝ }
 {
     let mut n = 0;
     let mut i = at;

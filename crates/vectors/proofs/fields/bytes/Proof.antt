@@ -3,7 +3,7 @@ use Prim.Native.Nat.{_-_, _*_, _/_}
 use lib.ListN.{length, drop}
 use Rattle.buffer.specs.Sink.{sink, emit}
 use Rattle.vectors.specs.Fields.{hexBytes}
-use Rattle.vectors.proofs.FieldText.{hex-turn, hex-end, kept}
+use Rattle.vectors.proofs.FieldText.{hex-turn, hex-end, filled}
 use borrow.Author.Needs.{needs}
 use Rattle.vectors.proofs.fields.bytes.Statement.{statement}
 use Rattle.vectors.proofs.fields.bytes.Tie as tie
@@ -54,7 +54,7 @@ same-length : tie.Need-same-length Inv-loop μ-loop
 same-length c = search needs
 
 returns : tie.Need-returns Inv-loop μ-loop
-returns c = search (kept, hex-end)
+returns c = search (filled, hex-end)
 
 pub bytes-spec : {M : Type 1} → statement M
 bytes-spec =

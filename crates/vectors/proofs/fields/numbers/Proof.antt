@@ -3,7 +3,7 @@ use Prim.Native.Nat.{_-_, _≤_}
 use lib.ListN.{length, drop}
 use Rattle.buffer.specs.Sink.{sink, emit}
 use Rattle.vectors.specs.Fields.{listedFrom, listed}
-use Rattle.vectors.proofs.FieldText.{list-none, list-begins, list-comma, list-digit, list-end, kept}
+use Rattle.vectors.proofs.FieldText.{list-none, list-begins, list-comma, list-digit, list-end, filled}
 use borrow.Author.Needs.{needs}
 use Rattle.vectors.proofs.fields.numbers.Statement.{statement}
 use Rattle.vectors.proofs.fields.numbers.Tie as tie
@@ -57,7 +57,7 @@ same-length : tie.Need-same-length Inv-loop μ-loop
 same-length c = search needs
 
 returns-2 : tie.Need-returns-2 Inv-loop μ-loop
-returns-2 c = search (kept, list-end)
+returns-2 c = search (filled, list-end)
 
 pub numbers-spec : {M : Type 1} → statement M
 numbers-spec =

@@ -4,7 +4,7 @@ use lib.ListN.{length}
 use Rattle.buffer.specs.Sink.{sink, emit}
 use Rattle.vectors.specs.Program.{inputAt, partOf}
 use Rattle.vectors.proofs.InputParts.{part-turn, part-end}
-use Rattle.vectors.proofs.FieldText.{kept}
+use Rattle.vectors.proofs.FieldText.{filled}
 use borrow.Author.Needs.{needs}
 use Rattle.vectors.proofs.program.fill.Statement.{statement}
 use Rattle.vectors.proofs.program.fill.Tie as tie
@@ -40,7 +40,7 @@ same-length : tie.Need-same-length Inv-loop μ-loop
 same-length c = search needs
 
 returns : tie.Need-returns Inv-loop μ-loop
-returns c = search (kept, part-end)
+returns c = search (filled, part-end)
 
 pub fill-spec : {M : Type 1} → statement M
 fill-spec =
