@@ -1,4 +1,4 @@
-pub mod Smaller
+pub mod Pairs
 pub mod Reading
 pub mod LineBuffer
 pub mod Lines

@@ -16,7 +16,7 @@ use Rattle.buffer.specs.Numbers.{smallerOf}
 use Rattle.rows_io.specs.FirstLine.{withBytes, behind, partOf}
 use Rattle.rows_io.specs.FirstLine.Laws.{read-within}
 use Rattle.rows_io.specs.Input.{stateOf, readInto, withPart}
-use Rattle.rows_io.proofs.Smaller.{smaller-first, smaller-second}
+use Rattle.buffer.specs.Numbers.Laws.{smaller-first, smaller-second}
 use Rattle.rows_io.specs.declared.first_line.Part.{Part}
 use Rattle.rows_io.specs.declared.input.Input.{Input}
 use Rattle.rows_io.specs.declared.first_line.FirstLine.{FirstLine}

@@ -5,15 +5,13 @@ use native.Mathlib.Numerals.{add-one}
 use native.Mathlib.Omega.{arith}
 use mathlib.Core.List.{List, [], _∷_, _++_}
 use lib.ListN.{length, take, drop, getD, length-drop}
-use lib.Seq.{drop-cons, take-all}
-use lib.Dec.{leb}
-use borrow.Author.Tests.{eq-eqb, ne-eqb, leb-true, leb-false}
+use lib.Seq.{drop-cons}
+use borrow.Author.Tests.{eq-eqb, ne-eqb}
 use Rattle.io.specs.Digits.{digits, Fewest}
-use Rattle.text.specs.Tests.{cases}
 use Rattle.buffer.specs.Sink.{Sink, put, emit}
 use Rattle.buffer.specs.Sink.Laws.{emit-none, emit-append, then-emit}
 use Rattle.buffer.specs.Numbers.{smallerOf}
-use Rattle.rows_io.proofs.Smaller.{smaller-first, smaller-second}
+use Rattle.buffer.specs.Numbers.Parts.{take-smaller}
 use Rattle.text.specs.Width.{profile01}
 use Rattle.text.specs.declared.Answer.{Answer}
 use Rattle.rows.specs.Calls.{Wrapped, rowsCall}
@@ -84,13 +82,6 @@ module _ (s₀ : Sink) (ns : List ℕ) (s : Sink) (i : ℕ) (left : RowsLeft s�
       sym (emit-none s) ∙ ap (emit s) (sym (rows-past i (drop (2 * i) ns) few)) ∙ left .work
 
 -- ---- the answer
-
-take-smaller : (l : List ℕ) (a n : ℕ) → n ≡ smallerOf a (length l) → take n l ≡ take a l
-take-smaller l a n e = cases (leb a (length l))
-    (λ p. ap (λ (k : ℕ). take k l) (e ∙ smaller-first a (length l) (leb-true a (length l) p)))
-    (λ p. let h : length l ≤ a = omega (arith, leb-false a (length l) p) in
-    let n′ : n ≡ length l = e ∙ smaller-second a (length l) h in
-    take-all n l (omega arith) ∙ sym (take-all a l h))
 
 module _ (number count : ℕ) (rows : List ℕ) (s z : Sink) where
   pub accepted : (n : ℕ) → number ≡ 0 → n ≡ smallerOf (2 * count) (length rows) → z ≡ emit s (rowLines 0 (take n rows)) → z ≡ emit s (answerText number count rows)

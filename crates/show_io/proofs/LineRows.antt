@@ -7,12 +7,12 @@ use mathlib.Core.Bool.{Bool, cond}
 use mathlib.Core.List.{List, [], _++_}
 use mathlib.Core.Option.{none}
 use lib.ListN.{length, take, getD, List·getD-eq-default}
-use lib.Seq.{take-all}
-use lib.Dec.{eqb, leb}
-use borrow.Author.Tests.{eq-eqb, ne-eqb, le-leb, lt-leb, lt-ltb, le-ltb, leb-false, eqb-true}
+use lib.Dec.{eqb}
+use borrow.Author.Tests.{eq-eqb, ne-eqb, le-leb, lt-leb, lt-ltb, le-ltb, eqb-true}
 use Rattle.text.specs.Tests.{cases}
 use Rattle.text.specs.Width.{profile01}
 use Rattle.text.specs.declared.Answer.{Answer}
+use Rattle.buffer.specs.Numbers.Parts.{take-smaller}
 use Rattle.buffer.specs.Sink.{Sink, sink, put, emit}
 use Rattle.buffer.specs.Sink.Laws.{emit-none, emit-append, then-put}
 use Rattle.buffer.specs.Numbers.{smallerOf}
@@ -62,15 +62,12 @@ numbers-drawn d = record { read = record { number = d .read .number; count = d .
 
 -- ---- print_list
 
-pub take-smaller : (n : ℕ) (l : List ℕ) → take (smallerOf n (length l)) l ≡ take n l
-take-smaller n l = cases (leb n (length l)) (λ e. rw e refl) (λ e. let h = leb-false n (length l) e in rw e (take-all (length l) l (omega arith) ∙ sym (take-all n l (omega arith))))
-
 module _ (line out : List ℕ) (t : Written) where
   screen-printed : (n z : ℕ) (s a : Sink) → t .number ≡ 0 → n ≡ smallerOf (t .count) (length (t .out)) → a ≡ emit s (rowText line (cells (take n (t .out)))) → sink out z ≡ put a 0x0A → PrintedTo (screenText line t) s out (record { number = 0; at = z })
   unfolding screenText
   screen-printed n z s a e m f g =
       rw (eq-eqb (t .number) 0 e)
-      record { number = refl; text = then-put s a (sink out z) (rowText line (cells (take (t .count) (t .out)))) 0x0A (f ∙ ap (λ (l : List ℕ). emit s (rowText line (cells l))) (ap (λ (k : ℕ). take k (t .out)) m ∙ take-smaller (t .count) (t .out))) g }
+      record { number = refl; text = then-put s a (sink out z) (rowText line (cells (take (t .count) (t .out)))) 0x0A (f ∙ ap (λ (l : List ℕ). emit s (rowText line (cells l))) (take-smaller (t .out) (t .count) n m)) g }
 
   screen-refused : (at : ℕ) → (t .number ≢ 0) → PrintedTo (screenText line t) (sink out at) out (record { number = t .number; at = at })
   unfolding screenText
@@ -92,7 +89,7 @@ module _ (room columns : ℕ) (r : Answer) (conv list out : List ℕ) where
   drawnText = unless (r .number) (listText room columns conv (take (r .count) list))
 
   pub drawn-printed : (k : ℕ) (s : Sink) (q : RowPrinted) → r .number ≡ 0 → k ≡ smallerOf (r .count) (length list) → PrintedTo (listText room columns conv (take k list)) s out q → PrintedTo drawnText s out q
-  drawn-printed k s q e m p = let same : take k list ≡ take (r .count) list = ap (λ (j : ℕ). take j list) m ∙ take-smaller (r .count) list in rw (eq-eqb (r .number) 0 e, ← same) p
+  drawn-printed k s q e m p = let same : take k list ≡ take (r .count) list = take-smaller list (r .count) k m in rw (eq-eqb (r .number) 0 e, ← same) p
 
   pub drawn-refused : (at : ℕ) → (r .number ≢ 0) → PrintedTo drawnText (sink out at) out (record { number = r .number; at = at })
   drawn-refused at e = rw (ne-eqb (r .number) 0 e) record { number = refl; text = sym (emit-none (sink out at)) }

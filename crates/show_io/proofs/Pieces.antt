@@ -20,7 +20,8 @@ use Rattle.show_io.specs.Input.Laws.{length-within, length-some, pieces-
 use Rattle.show_io.specs.Input.Contracts.{Kept, stateOf, readOf, lastOf}
 use Rattle.show_io.specs.declared.lines.View.{View}
 use Rattle.show_io.specs.declared.input.Reading.{Reading}
-use Rattle.show_io.proofs.LineRows.{take-smaller, listOf}
+use Rattle.buffer.specs.Numbers.Parts.{take-smaller}
+use Rattle.show_io.proofs.LineRows.{listOf}
 
 -- ---- line_end
 
@@ -104,7 +105,7 @@ module _ (before piece : List ℕ) (kept from n : ℕ) (is : from ≡ smallerOf 
       let bytes : after ≡ front ++ drop (from + length xs) before = ap listOf all in
       let count : r ≡ from + length xs = ap countOf all in
       let same : front ≡ take kept before ++ take (length before - kept) piece =
-      ap₂ (λ (x y : List ℕ). x ++ y) (ap (λ (k : ℕ). take k before) is ∙ take-smaller kept before)
+      ap₂ (λ (x y : List ℕ). x ++ y) (take-smaller before kept from is)
       (ap (λ (k : ℕ). take k piece) size ∙ take-within (length before - from) piece ∙ ap (λ (k : ℕ). take k piece) (ap (λ (k : ℕ). length before - k) is ∙ rest kept (length before))) in
       record {
         line = ap₂ (λ (k : ℕ) (l : List ℕ). take k l) count bytes ∙ take-at front (drop (from + length xs) before) (from + length xs) long ∙ same;
@@ -254,5 +255,5 @@ module _ (name line out : List ℕ) (view : View) (st : Reading) where
   last-line kept number at out₁ z e f g h i =
       let t : State = stateOf st line out in
       let l : List ℕ = take (st .kept) line in
-      line-printed name view t l number (sink out₁ at) z g (h ∙ ap (λ (y : List ℕ). emit (sink out (st .at)) (lineText name number view y)) (ap (λ (k : ℕ). take k line) f ∙ take-smaller (st .kept) line)) i
+      line-printed name view t l number (sink out₁ at) z g (h ∙ ap (λ (y : List ℕ). emit (sink out (st .at)) (lineText name number view y)) (take-smaller line (st .kept) kept f)) i
       ∙ sym (ap (λ (x : Bool). cond x (sink out (st .at)) (withLine name view t l)) (ne-eqb (st .kept) 0 e))

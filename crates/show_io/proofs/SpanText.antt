@@ -33,7 +33,8 @@ use Rattle.show_io.specs.SpanText.{sequenceWord, kindWord, visibleByte, 
 use Rattle.show_io.specs.SpanText.Contracts.{numbersText}
 use Rattle.show_io.specs.Lines.{refusalText, readText, spansText}
 use Rattle.show_io.specs.Lines.Contracts.{answerText}
-use Rattle.show_io.proofs.LineRows.{take-smaller}
+use Rattle.buffer.specs.Numbers.Laws.{smaller-first, smaller-second}
+use Rattle.buffer.specs.Numbers.Parts.{take-smaller}
 
 -- ---- kinds
 
@@ -155,17 +156,17 @@ module _ (number : ℕ) (conv : List ℕ) where
 -- ---- how many numbers
 
 pub numbers-all : (n count : ℕ) → count ≤ n / 4 → 4 * count ≡ smallerOf (4 * count) n
-numbers-all n count h = rw (le-leb (4 * count) n (omega arith))
+numbers-all n count h = sym (smaller-first (4 * count) n (omega arith))
 
 pub numbers-few : (n count : ℕ) → n / 4 < count → n ≡ smallerOf (4 * count) n
-numbers-few n count h = cases (leb (4 * count) n) (λ e. let k = leb-true (4 * count) n e in rw e (omega arith)) (λ e. rw e refl)
+numbers-few n count h = sym (smaller-second (4 * count) n (omega arith))
 
 -- ---- an answer
 
 module _ (name : List ℕ) (number refusal count : ℕ) (conv ns : List ℕ) (s z : Sink) where
   pub answer-spans : (n : ℕ) → refusal ≡ 0 → n ≡ smallerOf (4 * count) (length ns) → z ≡ emit s (numbersText number conv (take n ns)) → z ≡ emit s (answerText name number refusal count conv ns)
   unfolding answerText
-  answer-spans n e f p = rw (eq-eqb refusal 0 e) (p ∙ ap (λ (l : List ℕ). emit s (numbersText number conv l)) (ap (λ (k : ℕ). take k ns) f ∙ take-smaller (4 * count) ns))
+  answer-spans n e f p = rw (eq-eqb refusal 0 e) (p ∙ ap (λ (l : List ℕ). emit s (numbersText number conv l)) (take-smaller ns (4 * count) n f))
 
   pub answer-refused : (refusal ≢ 0) → z ≡ emit s (refusalText name number refusal) → z ≡ emit s (answerText name number refusal count conv ns)
   unfolding answerText

@@ -8,12 +8,13 @@ use mathlib.Core.List.{List, [], _∷_}
 use lib.ListN.{length, take, drop, getD, length-drop, drop-of-length-le}
 use lib.Seq.{drop-cons, take-length, length-take-le}
 use lib.Dec.{eqb, leb}
-use borrow.Author.Tests.{eq-eqb, ne-eqb, leb-true, le-leb, lt-leb, lt-ltb, le-ltb}
+use borrow.Author.Tests.{eq-eqb, ne-eqb, le-leb, lt-leb, lt-ltb, le-ltb}
 use Rattle.io.specs.Counts.{Counts}
 use Rattle.bytes.specs.Bytes.{indexOf, slice}
 use Rattle.text.specs.Tests.{cases, in-range}
 use Rattle.buffer.specs.Sink.{Sink, sink, put, emit}
 use Rattle.buffer.specs.Numbers.{smallerOf}
+use Rattle.buffer.specs.Numbers.Laws.{smaller-first, smaller-second, smaller-right}
 use Rattle.vectors.specs.Fields.{startOf, fieldOf, digitOf, withDigit, decimal, listedFrom, listed, hexByte, hexBytes, clipped, Filled}
 use Rattle.vectors.specs.Recorded.{Lent}
 
@@ -117,24 +118,12 @@ number-end s field n i e h p = (rw (drop-of-length-le s h) at p) ∙ ap (decimal
 
 -- ---- what fits into lent memory
 
-pub smaller-first : (a b : ℕ) → a ≤ b → a ≡ smallerOf a b
-smaller-first a b h = rw (le-leb a b h)
-
-pub smaller-second : (a b : ℕ) → b < a → b ≡ smallerOf a b
-smaller-second a b h = rw (lt-leb a b h)
-
-smaller-low : (a b : ℕ) → smallerOf a b ≤ b
-smaller-low a b = cases (leb a b) (λ p. rw p (leb-true a b p)) (λ p. rw p (omega arith))
-
-pub smaller-inside : (a b r : ℕ) → r ≡ smallerOf a b → r ≤ b
-smaller-inside a b r e = omega (arith, smaller-low a b)
-
 pub counted : (n : ℕ) (l : List ℕ) → n ≤ length l → Counts n l
 counted n l h = (h, sym (length-take-le n l h))
 
 pub filled : (l l′ xs : List ℕ) (k r : ℕ) → sink l′ k ≡ emit (sink l 0) xs → r ≡ smallerOf k (length l′) → Filled l l′ xs r
 filled l l′ xs k r e h =
-    record { filled = ap (sink l′) h ∙ ap clipped e; inside = counted r l′ (omega (arith, h, smaller-low k (length l′))) }
+    record { filled = ap (sink l′) h ∙ ap clipped e; inside = counted r l′ (smaller-right k (length l′) r h) }
 
 pub counted-in : (n : ℕ) (l l₀ : List ℕ) → n ≤ length l₀ → length l ≡ length l₀ → Counts n l
 counted-in n l l₀ h e = counted n l (omega arith)
@@ -142,10 +131,10 @@ counted-in n l l₀ h e = counted n l (omega arith)
 -- a size of so many bytes or numbers, or of four numbers each
 module _ (n m : ℕ) (l : List ℕ) (e : n ≡ m) where
   pub lent-all : n ≤ length l → Lent m l n
-  lent-all h = record { exact = smaller-first n (length l) h ∙ ap (λ (k : ℕ). smallerOf k (length l)) e; inside = counted n l h }
+  lent-all h = record { exact = sym (smaller-first n (length l) h) ∙ ap (λ (k : ℕ). smallerOf k (length l)) e; inside = counted n l h }
 
   pub lent-past : length l < n → Lent m l (length l)
-  lent-past h = record { exact = smaller-second n (length l) h ∙ ap (λ (k : ℕ). smallerOf k (length l)) e; inside = counted (length l) l (omega arith) }
+  lent-past h = record { exact = sym (smaller-second n (length l) (omega arith)) ∙ ap (λ (k : ℕ). smallerOf k (length l)) e; inside = counted (length l) l (omega arith) }
 
 module _ (n m : ℕ) (l : List ℕ) (e : n ≡ m) where
   pub spans-all : n ≤ length l / 4 → Lent (4 * m) l (4 * n)
@@ -160,7 +149,7 @@ pub list-none : (l s : List ℕ) (b : ℕ) → b ≡ getD s 0 0 → b ≡ 0x2D �
 unfolding listed emit
 list-none l s b p q =
     let none : listed s ≡ [] = rw (eq-eqb (getD s 0 0) 0x2D (sym p ∙ q)) in
-    record { filled = ap (sink l) (smaller-first 0 (length l) (omega arith)) ∙ ap (λ (xs : List ℕ). clipped (emit (sink l 0) xs)) (sym none); inside = counted 0 l (omega arith) }
+    record { filled = ap (sink l) (sym (smaller-first 0 (length l) (omega arith))) ∙ ap (λ (xs : List ℕ). clipped (emit (sink l 0) xs)) (sym none); inside = counted 0 l (omega arith) }
 
 list-some : (s : List ℕ) (b : ℕ) → b ≡ getD s 0 0 → (b ≡ 0x2D → ⊥) → listedFrom 0 s ≡ listed s
 unfolding listed

@@ -6,7 +6,7 @@ use native.Mathlib.Omega.{arith}
 use Rattle.buffer.specs.Sink.{Sink, put, emit}
 use Rattle.buffer.specs.Numbers.{smallerOf}
 use Rattle.vectors.specs.Program.{partOf, inputLen}
-use Rattle.vectors.proofs.FieldText.{smaller-inside}
+use Rattle.buffer.specs.Numbers.Laws.{smaller-right}
 
 module _ (f : ℕ → ℕ) (k : Sink) (i end : ℕ) {e : Sink} (p : emit k (partOf f i (end - i)) ≡ e) where
   pub part-turn : (k′ : Sink) (b : ℕ) → i < end → b ≡ f i → k′ ≡ put k b → emit k′ (partOf f (i + 1) (end - (i + 1))) ≡ e
@@ -20,4 +20,4 @@ module _ (f : ℕ → ℕ) (k : Sink) (i end : ℕ) {e : Sink} (p : emit k (part
   part-end h = let z : end - i ≡ 0 = omega arith in rw z at p
 
 pub input-bound : (prefix times suffix r : ℕ) → r ≡ inputLen prefix times suffix → r ≤ 10000128
-input-bound prefix times suffix r e = omega (arith, smaller-inside prefix 64 (smallerOf prefix 64) refl, smaller-inside times 10000000 (smallerOf times 10000000) refl, smaller-inside suffix 64 (smallerOf suffix 64) refl)
+input-bound prefix times suffix r e = omega (arith, smaller-right prefix 64 (smallerOf prefix 64) refl, smaller-right times 10000000 (smallerOf times 10000000) refl, smaller-right suffix 64 (smallerOf suffix 64) refl)

@@ -6,7 +6,7 @@ use mathlib.Core.Logic.{_⊎_, inl, inr, ⊎-elim}
 use mathlib.Core.Path.{_≡_, refl}
 use lib.ListN.{length}
 use lib.Dec.{leb}
-use borrow.Author.Tests.{leb-true, leb-false}
+use borrow.Author.Tests.{le-leb, leb-true, leb-false}
 use Rattle.buffer.specs.Numbers.{smallerOf, le4}
 
 smaller-by : (a b r : ℕ) (t : Bool) → leb a b ≡ t → r ≡ cond t a b → ((a ≤ b) × (r ≡ a)) ⊎ ((b < a) × (r ≡ b))
@@ -26,6 +26,13 @@ module _ (a b r : ℕ) (e : r ≡ smallerOf a b) where
   -- it is no greater for a lesser number
   pub smaller-order : (d t : ℕ) → a ≤ d → t ≡ smallerOf d b → r ≤ t
   smaller-order d t h f = let l = smaller-left in let m = smaller-right in ⊎-elim (λ (p : (d ≤ b) × (t ≡ d)). omega arith) (λ (p : (b < d) × (t ≡ b)). omega arith) (smaller-by d b t (leb d b) refl f)
+
+-- where it is known which
+pub smaller-first : (a b : ℕ) → a ≤ b → smallerOf a b ≡ a
+smaller-first a b h = rw (le-leb a b h)
+
+pub smaller-second : (a b : ℕ) → b ≤ a → smallerOf a b ≡ b
+smaller-second a b h = ⊎-elim (λ (p : (a ≤ b) × (smallerOf a b ≡ a)). omega arith) (λ (p : (b < a) × (smallerOf a b ≡ b)). p .1) (smaller-is a b (smallerOf a b) refl)
 
 pub le4-length : (n : ℕ) → length (le4 n) ≡ 4
 unfolding le4

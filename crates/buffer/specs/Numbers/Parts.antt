@@ -1,5 +1,5 @@
 -- A part of a list, cut where the list ends.
-use mathlib.Core.Path.{_≡_, refl, sym, _∙_}
+use mathlib.Core.Path.{_≡_, refl, sym, ap, _∙_}
 use mathlib.Core.Logic.{_⊎_, inl, inr, ⊎-elim}
 use Prim.Native.Nat.{ℕ, _+_, _-_, _≤_, _<_}
 use native.Mathlib.Omega.{arith}
@@ -8,6 +8,12 @@ use lib.ListN.{length, take, drop, length-drop, drop-of-length-le}
 use lib.Seq.{take-all, take-nil}
 use Rattle.buffer.specs.Numbers.{smallerOf}
 use Rattle.buffer.specs.Numbers.Laws.{smaller-is, smaller-left, smaller-right}
+
+pub take-smaller : (s : List ℕ) (n k : ℕ) → k ≡ smallerOf n (length s) → take k s ≡ take n s
+take-smaller s n k is = ⊎-elim
+    (λ (p : (n ≤ length s) × (k ≡ n)). ap (λ (m : ℕ). take m s) (p .1))
+    (λ (p : (length s < n) × (k ≡ length s)). take-all k s (omega arith) ∙ sym (take-all n s (omega arith)))
+    (smaller-is n (length s) k is)
 
 module _ (s : List ℕ) (at from : ℕ) (is : from ≡ smallerOf at (length s)) where
   -- as many, or in both all that is left

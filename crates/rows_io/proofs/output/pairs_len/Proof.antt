@@ -1,4 +1,4 @@
-use Rattle.rows_io.proofs.Smaller.{pairs-all, pairs-past}
+use Rattle.rows_io.proofs.Pairs.{pairs-all, pairs-past}
 use borrow.Author.Needs.{needs}
 use Rattle.rows_io.proofs.output.pairs_len.Statement.{statement}
 use Rattle.rows_io.proofs.output.pairs_len.Tie as tie

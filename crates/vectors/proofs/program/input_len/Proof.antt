@@ -1,5 +1,5 @@
 use native.Mathlib.Omega.{arith}
-use Rattle.vectors.proofs.FieldText.{smaller-inside}
+use Rattle.buffer.specs.Numbers.Laws.{smaller-right}
 use borrow.Author.Needs.{needs}
 use Rattle.vectors.proofs.program.input_len.Statement.{statement}
 use Rattle.vectors.proofs.program.input_len.Tie as tie
@@ -13,7 +13,7 @@ smaller-requires-2 c κs = search needs
 add-result : tie.Need-add-result
 add-result c =
     let a = c .before .before .args in
-    omega (arith, smaller-inside (a .prefix) 64 (c .before .smaller .result) (c .before .smaller .ensures), smaller-inside (a .times) 10000000 (c .smaller2 .result) (c .smaller2 .ensures))
+    omega (arith, smaller-right (a .prefix) 64 (c .before .smaller .result) (c .before .smaller .ensures), smaller-right (a .times) 10000000 (c .smaller2 .result) (c .smaller2 .ensures))
 
 smaller-requires-3 : tie.Need-smaller-requires-3
 smaller-requires-3 c κs = search needs
@@ -21,7 +21,7 @@ smaller-requires-3 c κs = search needs
 add-result-2 : tie.Need-add-result-2
 add-result-2 c =
     let a = c .before .before .before .args in
-    omega (arith, smaller-inside (a .prefix) 64 (c .before .before .smaller .result) (c .before .before .smaller .ensures), smaller-inside (a .times) 10000000 (c .before .smaller2 .result) (c .before .smaller2 .ensures), smaller-inside (a .suffix) 64 (c .smaller3 .result) (c .smaller3 .ensures))
+    omega (arith, smaller-right (a .prefix) 64 (c .before .before .smaller .result) (c .before .before .smaller .ensures), smaller-right (a .times) 10000000 (c .before .smaller2 .result) (c .before .smaller2 .ensures), smaller-right (a .suffix) 64 (c .smaller3 .result) (c .smaller3 .ensures))
 
 returns : tie.Need-returns
 returns c = search needs

@@ -2,7 +2,7 @@ use native.Mathlib.Omega.{arith}
 use mathlib.Core.Path.{_≡_}
 use Prim.Native.Nat.{_+_, _-_, _≤_}
 use lib.ListN.{length}
-use Rattle.vectors.proofs.FieldText.{smaller-inside}
+use Rattle.buffer.specs.Numbers.Laws.{smaller-right}
 use Rattle.vectors.proofs.InputParts.{input-bound}
 use borrow.Author.Needs.{needs}
 use Rattle.vectors.proofs.program.print_rows.Statement.{statement}
@@ -60,7 +60,7 @@ smaller-requires-2 : tie.Need-smaller-requires-2 Inv-loop μ-loop
 smaller-requires-2 c κs = search needs
 
 add-end : tie.Need-add-end Inv-loop μ-loop
-add-end c = let total = c .before .before .before .before .before .before .before .before .before .before .before .before .before .before .input-len .result in let later = c .before .before .before .before .before .before .before .before .before .before .before .before .before .before .before .before .before .before .args .later in let l = c .before .before .before .before .loop in omega (arith, smaller-inside later (total - l .at) (c .smaller2 .result) (c .smaller2 .ensures), c .before .before .before .loop-test .taken, l .inv)
+add-end c = let total = c .before .before .before .before .before .before .before .before .before .before .before .before .before .before .input-len .result in let later = c .before .before .before .before .before .before .before .before .before .before .before .before .before .before .before .before .before .before .args .later in let l = c .before .before .before .before .loop in omega (arith, smaller-right later (total - l .at) (c .smaller2 .result) (c .smaller2 .ensures), c .before .before .before .loop-test .taken, l .inv)
 
 slice-aggregate-fill-2 : tie.Need-slice-aggregate-fill-2 Inv-loop μ-loop
 slice-aggregate-fill-2 c = search needs
