@@ -1,20 +1,21 @@
 -- Exchange: the proof.
 use mathlib.Core.Path.{_≡_, refl, sym, ap, ap₂, _∙_}
 use mathlib.Core.Logic.{_≢_}
-use Prim.Native.Nat.{ℕ, zero, suc, _+_, _-_}
+use Prim.Native.Nat.{ℕ, suc, _+_, _-_}
 use native.Mathlib.Omega.{arith}
 use mathlib.Core.Bool.{true, false, true≢false}
 use mathlib.Core.List.{List, [], _∷_, _++_}
-use lib.ListN.{length, getD, replicate}
+use lib.ListN.{length, getD}
 use lib.Dec.{T, eqb, leb, eqb→eq, eqb-refl}
 use Rattle.text.specs.Tests.{cases, is-true, true-T}
-use Rattle.text.specs.Each.{Each, nil, cons, each-same, each-append, each-length}
+use Rattle.text.specs.Each.{Each, nil, cons, each-length}
 use Rattle.text.specs.Utf8.{noise}
 use Rattle.text.specs.Utf8.Noise.{Byte, Twin}
 use Rattle.text.specs.Class.{Profile}
 use Rattle.text.specs.Overstrike.{convert}
 use Rattle.text.specs.Overstrike.Noise.{convert-twin}
 use Rattle.text.specs.Calls.{Question, ask, decide, lent, counted, question1, question2, convertCall}
+use Rattle.text.specs.Calls.Laws.{lent-each}
 use Rattle.spans.specs.Spans.{Span, spans, records}
 use Rattle.spans.specs.Spans.Noise.{TwinSpan, spans-twin, records-twin}
 use Rattle.spans.specs.Search as search
@@ -45,16 +46,6 @@ twin-of [] (b ∷ t) e f = absurd (let z : 0 ≡ suc (length t) = e in omega ari
 twin-of (a ∷ s) [] e f = absurd (let z : suc (length s) ≡ 0 = e in omega arith)
 twin-of (a ∷ s) (b ∷ t) e f = cons (byte-of a b (f 0)) (twin-of s t (omega arith) (λ i. f (suc i)))
 
--- ---- lent memory
-
-lent-twin : {A : Type 0} {R : A → A → Type 0} → ((a : A) → R a a) → (blank : A) (n : ℕ) {xs ys : List A} (q r : ℕ) → q ≡ r → Each R xs ys
-    → Each R (lent blank n xs q) (lent blank n ys r)
-unfolding lent
-lent-twin f blank n {xs} {ys} zero zero e d = rw (sym (each-length d)) (each-append d (each-same f (replicate (n - length xs) blank)))
-lent-twin f blank n zero (suc r) e d = absurd (omega arith)
-lent-twin f blank n (suc q) zero e d = absurd (omega arith)
-lent-twin f blank n (suc q) (suc r) e d = each-same f (replicate n blank)
-
 module _ (P : Profile) (H : PlainDigits P) {s t : List ℕ} (e : Twin s t) where
   abbrev l : List ℕ
   l = convert P s
@@ -72,7 +63,7 @@ module _ (P : Profile) (H : PlainDigits P) {s t : List ℕ} (e : Twin s t) where
   read = spans-twin P converted
 
   lent-conv : (n q r : ℕ) → q ≡ r → Twin (lent 0 n l q) (lent 0 n m r)
-  lent-conv n q r d = lent-twin (λ x. Byte.same) 0 n q r d converted
+  lent-conv n q r d = lent-each (λ x. Byte.same) 0 n q r d converted
 
   lent-spans : (n q r : ℕ) → q ≡ r → lent noRecord n (records (spans P l)) q ≡ lent noRecord n (records (spans P m)) r
   lent-spans n q r d = ap₂ (lent noRecord n) (records-twin read) d
@@ -93,7 +84,7 @@ module _ (P : Profile) (H : PlainDigits P) {s t : List ℕ} (e : Twin s t) where
       let d : decide (question18 v ∷ question1 s ∷ question2 b s ∷ question3 [] l ∷ question4 p (spans P l) ∷ qs ++ (ask 8 (whole (draw (spans P l))) ∷ ask 9 (leb (length (encode (draw (spans P l)))) r) ∷ []))
       ≡ decide (question18 v ∷ question1 t ∷ question2 b t ∷ question3 [] m ∷ question4 p (spans P m) ∷ qs ++ (ask 8 (whole (draw (spans P m))) ∷ ask 9 (leb (length (encode (draw (spans P m)))) r) ∷ [])) =
       rw (line, each-length read, whole-twin P H l m y, each-length z) in
-      record { number = d; count = ap₂ counted (each-length z) d; conv = lent-conv b _ _ d; spans = lent-spans p _ _ d; list = lent-twin (λ x. MarkByte.same) 0 r _ _ d z }
+      record { number = d; count = ap₂ counted (each-length z) d; conv = lent-conv b _ _ d; spans = lent-spans p _ _ d; list = lent-each (λ x. MarkByte.same) 0 r _ _ d z }
 
   alike : (c : Call) → T (withoutMatches c) → Alike P c s t
   unfolding withoutMatches noMatches answer changesOf convertCall readCall rowsCall heightCall windowCall rowCall search.read search.inOrder

@@ -3,7 +3,7 @@ use mathlib.Core.Path.{_≡_, refl, sym, ap, ap₂, _∙_}
 use Prim.Native.Nat.{ℕ, suc, _+_, _*_, _≤_}
 use native.Mathlib.Omega.{arith}
 use native.Mathlib.Nat.{not-suc-le-zero}
-use mathlib.Core.Bool.{Bool, true, false}
+use mathlib.Core.Bool.{Bool, true}
 use mathlib.Core.List.{List, [], _∷_, _++_, map}
 use mathlib.Core.Option.{some}
 use lib.ListN.{length, take, length-append, length-map}
@@ -13,6 +13,7 @@ use Rattle.text.specs.Tests.{is-true, true-T}
 use Rattle.text.specs.Utf8.{allNoise}
 use Rattle.text.specs.Class.{Profile}
 use Rattle.text.specs.Calls.{Question, ask, decide, lent, counted, question2}
+use Rattle.text.specs.Calls.Laws.{counted-accepted, decide-yes, first-yes, lent-accepted}
 use Rattle.text.specs.Overstrike.{convert}
 use Rattle.spans.specs.Spans.{Span, spans, Record, aRecord, recordOf, records, kindOf, matchOf}
 use Rattle.spans.specs.Spans.Laws.{shift, map-append, records-length}
@@ -39,23 +40,15 @@ records-damage p (n ∷ ns) = ap (λ (l : List Record). aRecord 4 p 1 0 ∷ l) (
 
 -- ---- acceptance
 
-accepted : (n : ℕ) (b : Bool) (qs : List Question) → decide (ask (suc n) b ∷ qs) ≡ 0 → (b ≡ true) × (decide qs ≡ 0)
-unfolding decide
-accepted n true qs e = (refl, e)
-accepted n false qs e = absurd (let z : suc n ≡ 0 = e in omega arith)
-
 accept : (n : ℕ) (b : Bool) (qs : List Question) → b ≡ true → decide qs ≡ 0 → decide (ask n b ∷ qs) ≡ 0
-unfolding decide
-accept n true qs e f = f
-accept n false qs e f = absurd (true-T e)
+accept n b qs e f = decide-yes (ask n b) qs e ∙ f
 
 leb-down : (m n k : ℕ) → leb n k ≡ true → m ≤ n → leb m k ≡ true
 leb-down m n k e h = let d : n ≤ k = leb→le n k (true-T e) in is-true _ (le→leb m k (omega arith))
 
 -- the records in front of the zeros
 front : (r n places : ℕ) (rs : List Record) → r ≡ 0 → n ≡ length rs → take (counted n r) (lent noRecord places rs r) ≡ rs
-unfolding lent counted
-front r n places rs e f = rw (e, f) (take-append-seam rs _)
+front r n places rs e f = rw (e, f, counted-accepted (length rs), lent-accepted noRecord places rs) (take-append-seam rs _)
 
 module _ (P : Profile) where
   -- the records of a line read without matches
@@ -73,9 +66,9 @@ module _ (P : Profile) where
   read-down conv places s t h k e =
       let c : List ℕ = convert P t in
       let d : List ℕ = convert P s in
-      let a₁ = accepted 0 (leb (length t) 4096) (question2 conv t ∷ question3 [] c ∷ question4 places (spans P c) ∷ []) e in
-      let a₂ = accepted 1 (leb (8 * length t) conv) (question3 [] c ∷ question4 places (spans P c) ∷ []) (a₁ .1) in
-      let a₃ = accepted 3 (leb (length (spans P c)) places) [] (a₂ .1) in
+      let a₁ = first-yes (ask 1 (leb (length t) 4096)) (question2 conv t ∷ question3 [] c ∷ question4 places (spans P c) ∷ []) tt e in
+      let a₂ = first-yes (ask 2 (leb (8 * length t) conv)) (question3 [] c ∷ question4 places (spans P c) ∷ []) tt (a₁ .1) in
+      let a₃ = first-yes (ask 4 (leb (length (spans P c)) places)) [] tt (a₂ .1) in
       accept 1 (leb (length s) 4096) (question2 conv s ∷ question3 [] d ∷ question4 places (spans P d) ∷ []) (leb-down _ (length t) 4096 (a₁ .0) h)
       (accept 2 (leb (8 * length s) conv) (question3 [] d ∷ question4 places (spans P d) ∷ []) (leb-down _ (8 * length t) conv (a₂ .0) (omega arith))
       (accept 4 (leb (length (spans P d)) places) [] (leb-down _ (length (spans P c)) places (a₃ .0) k) refl))

@@ -1,12 +1,13 @@
 -- Questions put one after the other, and what a call that was accepted or refused leaves.
 use mathlib.Core.Path.{_≡_, refl, sym, ap, _∙_}
-use Prim.Native.Nat.{ℕ, suc, _-_, _<_}
+use Prim.Native.Nat.{ℕ, zero, suc, _-_, _<_}
 use native.Mathlib.Omega.{arith}
 use mathlib.Core.Bool.{Bool, true, false, _&&_}
 use mathlib.Core.List.{List, [], _∷_, _++_}
 use lib.ListN.{length, replicate}
 use lib.Dec.{T, leb, ltb, ltb→lt}
 use Rattle.text.specs.Tests.{and-T, cases}
+use Rattle.text.specs.Each.{Each, each-append, each-length, each-same}
 use Rattle.text.specs.Class.{Profile}
 use Rattle.text.specs.Overstrike.{convert}
 use Rattle.text.specs.Cells.{areCells, overstruckCells}
@@ -60,6 +61,14 @@ lent-accepted blank n xs = refl
 pub lent-refused : {A : Type 0} (blank : A) (n : ℕ) (xs : List A) (r : ℕ) → lent blank n xs (suc r) ≡ replicate n blank
 unfolding lent
 lent-refused blank n xs r = refl
+
+-- what is related element by element is left related
+pub lent-each : {A : Type 0} {R : A → A → Type 0} → ((a : A) → R a a) → (blank : A) (n : ℕ) {xs ys : List A} (q r : ℕ) → q ≡ r → Each R xs ys → Each R (lent blank n xs q) (lent blank n ys r)
+unfolding lent
+lent-each f blank n {xs} {ys} zero zero e d = rw (sym (each-length d)) (each-append d (each-same f (replicate (n - length xs) blank)))
+lent-each f blank n zero (suc r) e d = absurd (omega arith)
+lent-each f blank n (suc q) zero e d = absurd (omega arith)
+lent-each f blank n (suc q) (suc r) e d = each-same f (replicate n blank)
 
 pub counted-accepted : (n : ℕ) → counted n 0 ≡ n
 unfolding counted
