@@ -1,5 +1,5 @@
 -- DEC line drawing: the table of replacements, the loop over a text, and the copy that is shown.
-use mathlib.Core.Path.{_≡_, refl, sym, ap, ap₂, _∙_, subst}
+use mathlib.Core.Path.{_≡_, refl, sym, ap, _∙_}
 use mathlib.Core.Logic.{_≢_}
 use Prim.Native.Nat.{ℕ, zero, suc, _+_, _-_, _*_, _/_, _%_, _≤_, _<_}
 use native.Mathlib.Numerals.{add-one}
@@ -8,11 +8,11 @@ use mathlib.Core.Bool.{Bool, true, false, cond, _&&_, and-false}
 use mathlib.Core.List.{List, [], _∷_, _++_, map, append-nil}
 use lib.ListN.{length, take, drop, getD, List·getD-map, length-append, drop-of-length-le, take-append-drop}
 use lib.Seq.{take-append-seam, length-take-le, drop-cons}
-use lib.Dec.{T, leb, ltb, leb→le}
-use borrow.Author.Tests.{le-leb, lt-leb, ltb-true, ltb-false, lt-ltb, le-ltb}
+use lib.Dec.{leb, ltb}
+use borrow.Author.Tests.{lt-leb, ltb-true, ltb-false, lt-ltb, le-ltb}
 use Rattle.buffer.specs.Sink.{Sink, sink, put, emit}
 use Rattle.buffer.specs.Sink.Laws.{emit-append, emit-none, fitted, emit-put, then-put}
-use Rattle.text.specs.Tests.{cases, and-T, in-range, is-true, or-false, true-T}
+use Rattle.text.specs.Tests.{cases, in-range, or-false, true-T}
 use Rattle.text.specs.Each.{All, all-nil, all-cons}
 use Rattle.text.specs.Utf8.{Scalar, scalar, to, within, decode, bytesOf}
 use Rattle.text.specs.Utf8.Valid.{Valid, run-text}
@@ -20,19 +20,19 @@ use Rattle.text.specs.Class.{Profile}
 use Rattle.text.specs.Width.{widthOf}
 use Rattle.text.specs.Cluster.Walk.{size-is}
 use Rattle.text.specs.Utf8.Code.{runOf, size, firstSequence}
-use Rattle.text.specs.Class.Code.{profileOf, printable}
+use Rattle.text.specs.Class.Code.{profileOf}
 use Rattle.text.specs.Utf8.Code.Laws.{scalar-at, none-at, none-past, run-valid, run-fits, front-bytes, size-cons, size-nil}
-use Rattle.text.specs.Width.Laws.{width-cons}
-use Rattle.text.specs.Class.Ascii.{printable-columns}
 use Rattle.text.specs.Class.Profile01.{ascii-classes}
 use Rattle.text.specs.Utf8.FirstByte.{high-code}
-use Rattle.text.specs.Width.Symbols.{symbol, symbol-columns}
+use Rattle.text.specs.Class.Symbols.{symbol-classes}
+use Rattle.text.specs.Width.Symbols.{symbol-columns}
 use Rattle.text.specs.TextParts.{textAt}
 use Rattle.text.specs.declared.class.Profile as code
 use Rattle.text.specs.declared.utf8.Sequence.{Sequence}
 use Rattle.text.specs.Utf8.Laws.{bytes-cons, bytes-nil, bytes-one, scalar-bytes}
 use Rattle.text.specs.Utf8.Ascii.{valid-low}
 use Rattle.drawing.specs.Marks.{replacements, lineDrawn}
+use Rattle.drawing.specs.Marks.LineDrawn.{alike-replaced, lineDrawn-valid, lineDrawn-width}
 use Rattle.drawing.specs.LineDrawing.{packedBytes, Replaceable, hasReplacements, CopyRoom, CopyOf}
 
 -- ---- the table
@@ -72,97 +72,13 @@ packed-three s s₁ s₂ s₃ n h p q r =
 pub replaced : (s s′ : Sink) (c i : ℕ) → Replaceable c → i ≡ c - 0x5F → s′ ≡ emit s (packedBytes (getD table i 0)) → s′ ≡ emit s (getD replacements (c - 0x5F) [])
 replaced s s′ c i r e p = p ∙ ap (emit s) (table-at i (omega (arith, r .low, r .high)) ∙ ap (λ (k : ℕ). getD replacements k []) e)
 
--- ---- every replacement is a scalar of one column, in at most three bytes
+-- ---- what is shown is as wide as the text, and at most three times as long
 
-unfoldable joined : List (List ℕ) → List ℕ
-joined [] = []
-joined (r ∷ rs) = r ++ joined rs
-
-decoded-all : runOf (decode (joined replacements)) ≡ map scalar replacements
-unfolding runOf decode joined replacements scalar
-decoded-all = refl
-
-valid-all : All Valid (map scalar replacements)
-valid-all = subst (All Valid) decoded-all (run-valid (joined replacements))
-
-all-at : {A : Type 0} {Q : A → Type 0} {l : List A} → All Q l → (i : ℕ) (d : A) → i < length l → Q (getD l i d)
-all-at all-nil i d h = absurd (omega arith)
-all-at (all-cons q a) zero d h = q
-all-at (all-cons q a) (suc i) d h = all-at a i d (omega arith)
-
-unfoldable fine : List ℕ → Bool
-unfolding scalar
-fine r = symbol (scalar r .code) && leb (length r) 3
-
-unfoldable allFine : List (List ℕ) → Bool
-unfolding fine
-allFine [] = true
-allFine (r ∷ rs) = fine r && allFine rs
-
-fine-all : T (allFine replacements)
-unfolding allFine replacements
-fine-all = tt
-
-fine-at : (l : List (List ℕ)) (i : ℕ) → T (allFine l) → i < length l → T (fine (getD l i []))
-unfolding allFine
-fine-at [] i t h = absurd (omega arith)
-fine-at (r ∷ l) zero t h = and-T (fine r) (allFine l) t .0
-fine-at (r ∷ l) (suc i) t h = fine-at l i (and-T (fine r) (allFine l) t .1) (omega arith)
-
-mapped : length (map scalar replacements) ≡ 32
-unfolding replacements
-mapped = refl
-
-module _ (i : ℕ) (h : i < 32) where
-  abbrev new : Scalar
-  new = scalar (getD replacements i [])
-
-  new-valid : Valid new
-  new-valid = subst Valid (List·getD-map scalar replacements i []) (all-at valid-all i (scalar []) (omega (arith, mapped)))
-
-  new-fine : T (symbol (new .code)) × T (leb (length (getD replacements i [])) 3)
-  unfolding fine
-  new-fine = and-T (symbol (new .code)) (leb (length (getD replacements i [])) 3) (fine-at replacements i fine-all (omega (arith, replacements-length)))
-
-  new-symbol : symbol (new .code) ≡ true
-  new-symbol = is-true (symbol (new .code)) (new-fine .0)
-
-  new-length : length (getD replacements i []) ≤ 3
-  new-length = leb→le (length (getD replacements i [])) 3 (new-fine .1)
-
--- ---- what is shown is valid text, as wide as the text, and at most three times as long
-
-lineDrawn-valid : {x : List Scalar} → All Valid x → All Valid (lineDrawn x)
-unfolding lineDrawn
-lineDrawn-valid all-nil = all-nil
-lineDrawn-valid (all-cons {a = c} {s = s} v a) =
-    cases (within (to 0x5F 0x7E) (c .code))
-    (λ e. let r = in-range 0x5F 0x7E (c .code) e in rw e (all-cons (new-valid (c .code - 0x5F) (omega (arith, r .0, r .1))) (lineDrawn-valid a)))
-    (λ e. rw e (all-cons v (lineDrawn-valid a)))
-
-pub lineDrawn-width : (f : code.Profile) (x : List Scalar) → widthOf (profileOf f) (lineDrawn x) ≡ widthOf (profileOf f) x
-unfolding lineDrawn
-lineDrawn-width f [] = refl
-lineDrawn-width f (c ∷ s) =
-    width-cons (profileOf f) _ (lineDrawn s) ∙ ap₂ (λ (a b : ℕ). a + b) first (lineDrawn-width f s) ∙ sym (width-cons (profileOf f) c s)
-  where
-    first : profileOf f .width (cond (within (to 0x5F 0x7E) (c .code)) (scalar (getD replacements (c .code - 0x5F) [])) c .code) ≡ profileOf f .width (c .code)
-    first =
-        cases (within (to 0x5F 0x7E) (c .code))
-        (λ e. let r = in-range 0x5F 0x7E (c .code) e in
-        let p : printable (c .code) ≡ true = rw (le-leb 0x20 (c .code) (omega (arith, r .0)), le-leb (c .code) 0x7E (r .1)) refl in
-        rw e (symbol-columns f .one _ (new-symbol (c .code - 0x5F) (omega (arith, r .0, r .1))) ∙ sym (printable-columns (profileOf f) (ascii-classes f) (c .code) p)))
-        (λ e. rw e refl)
+pub lineDrawn-columns : (f : code.Profile) (x : List Scalar) → widthOf (profileOf f) (lineDrawn x) ≡ widthOf (profileOf f) x
+lineDrawn-columns f = lineDrawn-width (profileOf f) (alike-replaced (profileOf f) (ascii-classes f) (symbol-classes f) (symbol-columns f))
 
 lineDrawn-size : {x : List Scalar} → All Valid x → size (lineDrawn x) ≤ 3 * size x
-unfolding lineDrawn
-lineDrawn-size all-nil = omega (arith, size-nil)
-lineDrawn-size (all-cons {a = c} {s = s} v a) =
-    cases (within (to 0x5F 0x7E) (c .code))
-    (λ e. let r = in-range 0x5F 0x7E (c .code) e in
-    rw (e, size-cons c s, size-cons (scalar (getD replacements (c .code - 0x5F) [])) (lineDrawn s), scalar-bytes (getD replacements (c .code - 0x5F) []))
-    (omega (arith, new-length (c .code - 0x5F) (omega (arith, r .0, r .1)), lineDrawn-size a, v .some)))
-    (λ e. rw (e, size-cons c s, size-cons c (lineDrawn s)) (omega (arith, lineDrawn-size a)))
+lineDrawn-size {x} v = rw (size-is (lineDrawn x), size-is x) (lineDrawn-valid v .1)
 
 -- ---- the loop
 
@@ -278,7 +194,7 @@ copy-made s copy copy′ d n room on e =
     let f : size t + size [] ≤ length s = run-fits s t [] (sym (append-nil t)) in
     let w = fitted copy xs copy′ n e (omega (arith, size-is (lineDrawn t), lineDrawn-size v, room on)) in
     let b : take n copy′ ≡ xs = rw (w .0, w .1) (take-append-seam xs (drop (length xs) copy)) in
-    record { fits = rw (w .1, length-append xs (drop (length xs) copy)) (omega (arith, w .0)); same = λ h. ap (λ (l : List ℕ). runOf (decode l)) b ∙ run-text (lineDrawn-valid v) }
+    record { fits = rw (w .1, length-append xs (drop (length xs) copy)) (omega (arith, w .0)); same = λ h. ap (λ (l : List ℕ). runOf (decode l)) b ∙ run-text (lineDrawn-valid v .0) }
 
 pub copy-none : (s copy : List ℕ) (d : Bool) → d ≡ false → CopyOf copy s d 0
 copy-none s copy d off = record { fits = omega arith; same = λ h. absurd (true-T (sym off ∙ h)) }

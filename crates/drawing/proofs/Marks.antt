@@ -8,14 +8,14 @@ use mathlib.Core.List.{List, [], _∷_, _++_, append-assoc, append-nil}
 use lib.ListN.{length, take, drop, replicate, length-drop, length-replicate, drop-of-length-le}
 use lib.Seq.{length-take-le, take-nil, take-all}
 use lib.Dec.{eqb, leb, ltb}
-use borrow.Author.Tests.{eq-eqb, ne-eqb, ltb-true, le-leb, lt-leb, leb-true, leb-false}
+use borrow.Author.Tests.{eq-eqb, ne-eqb, lt-leb, leb-true, leb-false}
 use Rattle.buffer.specs.Numbers as numbers
 use Rattle.buffer.specs.Numbers.{smallerOf, le2, le4}
 use Rattle.buffer.specs.Numbers.Laws.{smaller-right}
 use Rattle.buffer.specs.Sink.{Sink, sink, put, emit}
 use Rattle.buffer.specs.Sink.Laws.{emit-none, then-emit}
-use Rattle.text.specs.Tests.{cases, both}
-use Rattle.text.specs.Utf8.{asciis, bytesOf, decode}
+use Rattle.text.specs.Tests.{cases, both, every}
+use Rattle.text.specs.Utf8.{Scalar, asciis, bytesOf, decode}
 use Rattle.text.specs.Utf8.AsciiTexts.{asciis-bytes, asciis-cons, asciis-nil, asciis-replicate}
 use Rattle.text.specs.Cluster.Printable.{printable-width, run-printable}
 use Rattle.text.specs.Class.Profile01.{ascii-classes}
@@ -28,6 +28,7 @@ use Rattle.text.specs.declared.utf8.Sequence.{Sequence}
 use Rattle.drawing.specs.Clip.{spaces}
 use Rattle.drawing.specs.Marks.{byteMark, upperDigits, scalarMark}
 use Rattle.drawing.specs.Marks.Laws.{digit-is}
+use Rattle.drawing.specs.Marks.Scalars.{digit-code}
 use Rattle.drawing.specs.Attributes.{file, control}
 use Rattle.drawing.specs.Change as change
 use Rattle.drawing.specs.Change.{text, clipped, kindOf, body, encodeOne}
@@ -49,11 +50,8 @@ use Rattle.drawing.proofs.WindowTexts.{wrote-then, wrote-none, written-
 -- ---- digits
 
 digit-printable : (n : ℕ) → n < 16 → printable (numbers.hexDigit n) ≡ true
-unfolding numbers.hexDigit
-digit-printable n h =
-    cases (ltb n 10)
-    (λ e. let l = ltb-true n 10 e in rw (e, le-leb 0x20 (0x30 + n) (omega arith), le-leb (0x30 + n) 0x7E (omega arith)) refl)
-    (λ e. rw (e, le-leb 0x20 (0x37 + n) (omega arith), le-leb (0x37 + n) 0x7E (omega arith)) refl)
+unfolding every
+digit-printable n h = sym (ap (λ (c : Scalar). printable (c .code)) (digit-is n)) ∙ digit-code printable tt tt n h
 
 small-digit : (v k : ℕ) → digitOf v k < 16
 small-digit v k = both (λ (n : ℕ). n < 16) (eqb k 0) (omega arith) (both (λ (n : ℕ). n < 16) (eqb k 1) (omega arith) (both (λ (n : ℕ). n < 16) (eqb k 2) (omega arith) (both (λ (n : ℕ). n < 16) (eqb k 3) (omega arith) (both (λ (n : ℕ). n < 16) (eqb k 4) (omega arith) (omega arith)))))

@@ -31,7 +31,7 @@ use Rattle.drawing.specs.declared.attributes.Style as code
 use Rattle.drawing.specs.declared.state.AttributeState.{AttributeState}
 use Rattle.drawing.specs.declared.state.Stepped.{Stepped}
 use Rattle.drawing.specs.declared.render.Rendering.{Rendering}
-use Rattle.drawing.proofs.LineDrawing.{lineDrawn-width}
+use Rattle.drawing.proofs.LineDrawing.{lineDrawn-columns}
 use Rattle.drawing.proofs.Sequences.{sequence-position}
 use Rattle.drawing.proofs.WindowTexts.{wrote-none, written-position}
 
@@ -39,7 +39,7 @@ shown-width : (f : profile.Profile) (s : List ℕ) (d : Bool) → widthOf (profi
 shown-width f s d =
     let t : List Scalar = textAt s 0 in
     let h : widthOf (profileOf f) t ≤ 2 * length s = omega (arith, width-size f (run-valid s), run-fits s t [] (sym (append-nil t))) in
-    cases d (λ e. rw (e, lineDrawn-width f t) h) (λ e. rw e h)
+    cases d (λ e. rw (e, lineDrawn-columns f t) h) (λ e. rw e h)
 
 module _ (d : Rendering) (buffer l : List ℕ) (t : Stepped) (r : Record) (ready : SpanReady buffer d t) where
   abbrev line : List ℕ

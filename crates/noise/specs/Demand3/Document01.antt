@@ -1,10 +1,9 @@
 -- Demand 3 for document 01's profile.
 use mathlib.Core.Path.{_≡_, subst}
 use Prim.Native.Nat.{ℕ, _<_}
-use native.Mathlib.Omega.{arith}
 use mathlib.Core.Bool.{true}
 use mathlib.Core.List.{List}
-use Rattle.text.specs.Tests.{every, every-one}
+use Rattle.text.specs.Tests.{every}
 use Rattle.text.specs.Class.{Profile}
 use Rattle.text.specs.Class.Ascii.{AsciiClasses, printable-class, printable-columns}
 use Rattle.text.specs.Class.Code.{printable}
@@ -12,14 +11,15 @@ use Rattle.text.specs.Class.Laws.{number-other}
 use Rattle.text.specs.Class.Profile01.{ascii-classes, profile-is}
 use Rattle.text.specs.Width.{profile01}
 use Rattle.drawing.specs.Marks.{hexDigit}
+use Rattle.drawing.specs.Marks.Scalars.{digit-code}
 use Rattle.drawing.specs.Draw.Noise.{PlainDigits}
 use Rattle.noise.specs.Demand3.{Separation, Exchange}
 use Rattle.noise.specs.Demand3.SeparationProof.{separation-of}
 use Rattle.noise.specs.Demand3.ExchangeProof.{exchange-of}
 
 digit-printable : (d : ℕ) → d < 16 → printable (hexDigit d .code) ≡ true
-unfolding every hexDigit
-digit-printable d h = every-one (λ d. printable (hexDigit d .code)) 16 0 d tt (omega arith) (omega arith)
+unfolding every
+digit-printable = digit-code printable tt tt
 
 plain-digits : (P : Profile) → AsciiClasses P → PlainDigits P
 plain-digits P a = record {

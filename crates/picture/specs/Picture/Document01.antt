@@ -5,11 +5,11 @@ use native.Mathlib.Omega.{arith}
 use mathlib.Core.Bool.{true}
 use mathlib.Core.List.{List, []}
 use lib.Dec.{T}
-use borrow.Author.Tests.{eqb-true, le-leb}
-use Rattle.text.specs.Tests.{cases, in-range, every, every-one}
+use borrow.Author.Tests.{eqb-true}
+use Rattle.text.specs.Tests.{cases}
 use Rattle.text.specs.Each.{All, all-every, all-map}
 use Rattle.text.specs.Utf8 as utf8
-use Rattle.text.specs.Utf8.{Scalar, scalar, Piece, runs, decode}
+use Rattle.text.specs.Utf8.{Scalar, Piece, runs, decode}
 use Rattle.text.specs.Class.{Profile, whitespace}
 use Rattle.text.specs.Class.Ascii.{AsciiClasses, printable-class, printable-columns}
 use Rattle.text.specs.Class.Code.{printable, profileOf}
@@ -18,7 +18,7 @@ use Rattle.text.specs.Class.Profile01.{profile-is, ascii-classes, zero-width-cl
 use Rattle.text.specs.Class.Ranges.{eachIn, each-in}
 use Rattle.text.specs.Class.Symbols.{SymbolClasses, symbol-classes}
 use Rattle.text.specs.Width.Laws.{width-two}
-use Rattle.text.specs.Width.Symbols.{symbol, SymbolColumns, symbol-columns}
+use Rattle.text.specs.Width.Symbols.{SymbolColumns, symbol-columns}
 use Rattle.text.specs.Cluster.{clusters}
 use Rattle.text.specs.Cluster.Spaces.{space-numbers}
 use Rattle.text.specs.Cluster.Unshared.{clusters-unshared}
@@ -28,8 +28,8 @@ use Rattle.text.specs.Segmentation.Boundaries.{ascii-numbers}
 use Rattle.text.specs.declared.class.Profile as code
 use Rattle.spans.specs.Spans.{spans}
 use Rattle.spans.specs.Calls.{readCall}
-use Rattle.drawing.specs.Marks.{replacements}
-use Rattle.picture.specs.Conditions.{Plain, composed, replacement, PlainComposed, WordBreakClasses, Unshared, UnsharedPiece}
+use Rattle.drawing.specs.Marks.LineDrawn.{replacement-symbol, replaced-printable}
+use Rattle.picture.specs.Conditions.{Plain, composed, PlainComposed, WordBreakClasses, Unshared, UnsharedPiece}
 use Rattle.picture.specs.Picture.{RowsShow, RowsShowTheLine}
 use Rattle.picture.specs.Picture.Lines.{rowsShowLines}
 
@@ -39,18 +39,11 @@ composed-printable : T (eachIn composed printable)
 unfolding composed eachIn
 composed-printable = tt
 
-replacements-symbols : T (every (λ v. symbol (replacement v .code)) 0x5F 32)
-unfolding scalar replacements every
-replacements-symbols = tt
-
 plain-composed : (P : Profile) → AsciiClasses P → SymbolClasses P → SymbolColumns P → PlainComposed P
 plain-composed P a c w =
     record {
       composed = λ v e. printed v (each-in composed v printable composed-printable e);
-      replaced = λ v e.
-          let r = in-range 0x5F 0x7E v e in
-          let s = every-one (λ v. symbol (replacement v .code)) 32 0x5F v replacements-symbols (r .0) (omega (arith, r .1)) in
-          (printed v (rw (le-leb 0x20 v (omega (arith, r .0)), le-leb v 0x7E (r .1))), record { class = c .other _ s ∙ sym other-number; width = w .one _ s });
+      replaced = λ v e. let s = replacement-symbol v e in (printed v (replaced-printable v e), record { class = c .other _ s ∙ sym other-number; width = w .one _ s });
     }
   where
     printed : (v : ℕ) → printable v ≡ true → Plain P v

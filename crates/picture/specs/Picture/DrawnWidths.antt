@@ -1,34 +1,34 @@
 -- What spans draw: clusters of width above 0, and as many columns as modes 3 and 4 count.
 use mathlib.Core.Path.{_≡_, refl, sym, ap, ap₂, _∙_}
-use Prim.Native.Nat.{ℕ, zero, suc, _+_, _-_, _/_, _%_, _≤_, _<_}
+use Prim.Native.Nat.{ℕ, zero, suc, _+_, _-_, _%_, _≤_, _<_}
 use native.Mathlib.Omega.{arith}
 use mathlib.Core.Bool.{Bool, true, false, cond}
 use mathlib.Core.List.{List, [], _∷_, _++_, map}
 use mathlib.Core.Option.{Option}
 use lib.ListN.{length, length-replicate}
-use lib.Dec.{ltb}
-use Rattle.text.specs.Tests.{cases, every, every-one}
+use Rattle.text.specs.Tests.{every}
 use Rattle.text.specs.Each.{Each, nil, cons, All, all-nil, all-cons, all-append}
-use Rattle.text.specs.Utf8.{Scalar, to, within, ascii}
-use Rattle.text.specs.Class.{Profile, number, inAny}
+use Rattle.text.specs.Utf8.{Scalar, ascii}
+use Rattle.text.specs.Class.{Profile, inAny}
 use Rattle.text.specs.Class.Laws.{other-number}
 use Rattle.text.specs.Width.{widthOf}
 use Rattle.text.specs.Width.Laws.{width-cons, width-nil}
 use Rattle.text.specs.Cluster.{clusters}
 use Rattle.text.specs.Cluster.Laws.{clusters-nil}
 use Rattle.text.specs.Cluster.Parts.{Wide, other-wide}
-use Rattle.text.specs.Cluster.Same.{clusters-each, widthOf-each}
 use Rattle.spans.specs.Spans as spans
 use Rattle.spans.specs.Spans.Laws.{map-append}
 use Rattle.spans.specs.Spans.{Content, text, invalid, unprintable, escape, tab, crlf, lf, Span}
-use Rattle.rows.specs.Marks.{markColumns, drawnColumns}
+use Rattle.rows.specs.Marks.{drawnColumns}
 use Rattle.drawing.specs.declared.attributes.Attributes.{Attributes}
 use Rattle.drawing.specs.Attributes.{Style, control, styled}
 use Rattle.drawing.specs.Clip.{spaces}
-use Rattle.drawing.specs.Marks.{hexDigit, byteMark, upperDigits, scalarMark, lineDrawn}
+use Rattle.drawing.specs.Marks.{hexDigit, byteMark, scalarMark, lineDrawn}
+use Rattle.drawing.specs.Marks.LineDrawn.{AlikeReplaced, lineDrawn-widths}
+use Rattle.drawing.specs.Marks.Scalars.{digit-code, byte-scalars, scalar-scalars, scalar-length}
 use Rattle.columns.specs.Columns.{spanColumns, lastColumnFrom}
 use Rattle.columns.specs.Columns.Wrapping.{total, widths, widths-total}
-use Rattle.picture.specs.Conditions.{composed, replacement, PlainComposed, Drawable}
+use Rattle.picture.specs.Conditions.{composed, PlainComposed, Drawable}
 use Rattle.picture.specs.Picture.{Cell}
 use Rattle.picture.specs.Picture.Window.{SomeWidth, total-append, columns, columns-append}
 use Rattle.picture.specs.Picture.LineCells.{Rendition, renditionAfter, cellWidth, textCells, markCells, spanCells, lineCells, cells-widths}
@@ -39,8 +39,8 @@ abbrev Composed : List Scalar → Type 0
 Composed s = All (λ (c : Scalar). inAny composed (c .code) ≡ true) s
 
 digit : (d : ℕ) → d < 16 → inAny composed (hexDigit d .code) ≡ true
-unfolding hexDigit composed inAny every
-digit d h = every-one (λ d. inAny composed (hexDigit d .code)) 16 0 d tt (omega arith) (omega arith)
+unfolding composed inAny every
+digit = digit-code (inAny composed) tt tt
 
 spaces-composed : (n : ℕ) → Composed (spaces n)
 unfolding composed inAny
@@ -48,25 +48,12 @@ spaces-composed zero = all-nil
 spaces-composed (suc n) = all-cons refl (spaces-composed n)
 
 byte-composed : (b : ℕ) → b ≤ 0xFF → Composed (byteMark b)
-unfolding composed inAny byteMark
-byte-composed b h = all-cons refl (all-cons (digit (b / 16) (omega arith)) (all-cons (digit (b % 16) (omega arith)) (all-cons refl all-nil)))
-
-upper-composed : (v : ℕ) → Composed (upperDigits v)
-unfolding upperDigits
-upper-composed v =
-    let low = digit (v / 0x10000 % 16) (omega arith) in
-    cases (ltb v 0x10000) (λ e. rw e all-nil)
-    (λ e. cases (ltb v 0x100000) (λ f. rw (e, f) (all-cons low all-nil)) (λ f. rw (e, f) (all-cons (digit (v / 0x100000 % 16) (omega arith)) (all-cons low all-nil))))
+unfolding composed inAny
+byte-composed = byte-scalars (λ (c : Scalar). inAny composed (c .code) ≡ true) digit refl refl
 
 scalar-composed : (v : ℕ) → Composed (scalarMark v)
-unfolding composed inAny scalarMark
-scalar-composed v =
-    all-cons refl (all-cons refl (all-cons refl (all-append (upper-composed v)
-    (all-cons (digit (v / 0x1000 % 16) (omega arith)) (all-cons (digit (v / 0x100 % 16) (omega arith)) (all-cons (digit (v / 0x10 % 16) (omega arith)) (all-cons (digit (v % 16) (omega arith)) (all-cons refl all-nil))))))))
-
-scalar-length : (v : ℕ) → length (scalarMark v) ≡ markColumns v
-unfolding markColumns scalarMark
-scalar-length v = cases (ltb v 0x10000) (λ e. rw e) (λ e. cases (ltb v 0x100000) (λ f. rw (e, f)) (λ f. rw (e, f)))
+unfolding composed inAny
+scalar-composed = scalar-scalars (λ (c : Scalar). inAny composed (c .code) ≡ true) digit refl refl refl refl
 
 -- widths above 0, n in all
 record Takes (n : ℕ) (ws : List ℕ) : Type 0 where
@@ -98,25 +85,16 @@ module _ (P : Profile) where
 
     -- ---- line drawing
 
-    -- what a scalar is drawn as
-    abbrev Drawn : Scalar → Scalar → Type 0
-    Drawn c d = d ≡ cond (within (to 0x5F 0x7E) (c .code)) (replacement (c .code)) c
+    alike : AlikeReplaced P
+    alike = record { class = λ v e. let h = H .replaced v e in h .0 .class ∙ sym (h .1 .class); width = λ v e. let h = H .replaced v e in h .0 .width ∙ sym (h .1 .width) }
 
-    each-drawn : (s : List Scalar) → Each Drawn s (lineDrawn s)
-    unfolding lineDrawn
-    each-drawn [] = nil
-    each-drawn (c ∷ s) = cons refl (each-drawn s)
-
-    drawn-same : (f : ℕ → ℕ) → ((v : ℕ) → within (to 0x5F 0x7E) v ≡ true → f v ≡ f (replacement v .code)) → (c d : Scalar) → Drawn c d → f (c .code) ≡ f (d .code)
-    drawn-same f h c d e = rw e (cases (within (to 0x5F 0x7E) (c .code)) (λ t. rw t (h (c .code) t)) (λ t. rw t))
-
-    each-widths : {gs hs : List (List Scalar)} → Each (Each Drawn) gs hs → widths P gs ≡ widths P hs
+    each-widths : {gs hs : List (List Scalar)} → Each (λ (g h : List Scalar). widthOf P g ≡ widthOf P h) gs hs → widths P gs ≡ widths P hs
     each-widths nil = refl
-    each-widths (cons r e) = ap₂ (λ (n : ℕ) (ns : List ℕ). n ∷ ns) (widthOf-each P Drawn (drawn-same (P .width) (λ v t. let h = H .replaced v t in h .0 .width ∙ sym (h .1 .width))) r) (each-widths e)
+    each-widths (cons r e) = ap₂ (λ (n : ℕ) (ns : List ℕ). n ∷ ns) r (each-widths e)
 
     -- line-drawn text has the columns of the text
     pub text-widths : (b : Bool) (s : List Scalar) → widths P (clusters P s) ≡ widths P (clusters P (cond b (lineDrawn s) s))
-    text-widths true s = each-widths (clusters-each P Drawn (drawn-same (λ v. number (P .class v)) (λ v t. let h = H .replaced v t in h .0 .class ∙ sym (h .1 .class))) (each-drawn s))
+    text-widths true s = each-widths (lineDrawn-widths P alike s)
     text-widths false s = refl
 
     -- ---- cells

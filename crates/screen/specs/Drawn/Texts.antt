@@ -1,12 +1,11 @@
 -- Texts that drawings write: spaces and marks are valid, and each of their clusters has a width.
 use mathlib.Core.Path.{_≡_, refl, subst, _∙_}
-use Prim.Native.Nat.{ℕ, zero, suc, _/_, _%_, _≤_, _<_}
+use Prim.Native.Nat.{ℕ, zero, suc, _≤_, _<_}
 use native.Mathlib.Omega.{arith}
 use mathlib.Core.Bool.{true}
 use mathlib.Core.List.{List, [], _∷_, _++_, append-nil}
-use lib.ListN.{length, replicate, length-append, length-map, length-replicate}
-use lib.Dec.{ltb}
-use Rattle.text.specs.Tests.{cases, every, every-one}
+use lib.ListN.{length, replicate, length-map, length-replicate}
+use Rattle.text.specs.Tests.{every}
 use Rattle.text.specs.Each.{All, all-nil, all-cons, all-append}
 use Rattle.text.specs.Utf8.{Scalar, ascii, asciis, bytesOf}
 use Rattle.text.specs.Utf8.AsciiTexts.{asciis-bytes, asciis-replicate}
@@ -19,7 +18,9 @@ use Rattle.text.specs.Cluster.{clusters}
 use Rattle.text.specs.Cluster.Laws.{clusters-nil}
 use Rattle.text.specs.Cluster.Printable.{Printable, PrintableScalar, codes, codes-same, codes-printable, printable-valid, printable-wide, printable-width, spaces-printable}
 use Rattle.drawing.specs.Clip.{spaces}
-use Rattle.drawing.specs.Marks.{hexDigit, byteMark, upperDigits, scalarMark}
+use Rattle.rows.specs.Marks.Laws.{mark-small}
+use Rattle.drawing.specs.Marks.{hexDigit, byteMark, scalarMark}
+use Rattle.drawing.specs.Marks.Scalars.{digit-code, digit-ascii, byte-scalars, scalar-scalars, byte-length, scalar-length}
 use Rattle.text.specs.Cluster.Parts.{Wide, Ends, ends-none, ends-other}
 use Rattle.screen.specs.Drawn.{ProfileLaws}
 
@@ -77,29 +78,15 @@ module _ (P : Profile) (H : ProfileLaws P) where
   byte b e = (refl, e)
 
   digit : (d : ℕ) → d < 16 → PrintableScalar (hexDigit d)
-  unfolding every hexDigit
-  digit d h = (cases (ltb d 10) (λ e. rw e) (λ e. rw e), every-one (λ d. printable (hexDigit d .code)) 16 0 d tt (omega arith) (omega arith))
+  unfolding every
+  digit d h = (digit-ascii d, digit-code printable tt tt d h)
 
   pub byteMark-drawable : (b : ℕ) → b ≤ 0xFF → Drawable P (byteMark b)
-  unfolding byteMark
-  byteMark-drawable b h = mark-drawable (all-cons (byte 0x3C refl) (all-cons (digit (b / 16) (omega arith)) (all-cons (digit (b % 16) (omega arith)) (all-cons (byte 0x3E refl) all-nil)))) (omega arith)
-
-  -- the digits above the lowest four
-  upper : (v : ℕ) → All PrintableScalar (upperDigits v) × (length (upperDigits v) ≤ 2)
-  unfolding upperDigits
-  upper v =
-      let low = digit (v / 0x10000 % 16) (omega arith) in
-      cases (ltb v 0x10000) (λ e. rw e (all-nil, omega arith))
-      (λ e. cases (ltb v 0x100000) (λ f. rw (e, f) (all-cons low all-nil, omega arith)) (λ f. rw (e, f) (all-cons (digit (v / 0x100000 % 16) (omega arith)) (all-cons low all-nil), omega arith)))
+  byteMark-drawable b h = mark-drawable (byte-scalars PrintableScalar digit (byte 0x3C refl) (byte 0x3E refl) b h) (omega (arith, byte-length b))
 
   pub scalarMark-drawable : (v : ℕ) → Drawable P (scalarMark v)
-  unfolding scalarMark
   scalarMark-drawable v =
-      mark-drawable
-      (all-append (all-append (all-cons (byte 0x3C refl) (all-cons (byte 0x55 refl) (all-cons (byte 0x2B refl) all-nil))) (upper v .0))
-      (all-cons (digit (v / 0x1000 % 16) (omega arith)) (all-cons (digit (v / 0x100 % 16) (omega arith)) (all-cons (digit (v / 0x10 % 16) (omega arith))
-      (all-cons (digit (v % 16) (omega arith)) (all-cons (byte 0x3E refl) all-nil))))))
-      (simp length-append (omega (arith, upper v .1)))
+      mark-drawable (scalar-scalars PrintableScalar digit (byte 0x3C refl) (byte 0x3E refl) (byte 0x55 refl) (byte 0x2B refl) v) (omega (arith, scalar-length v, mark-small v))
 
   -- a scalar by itself, as arrows are
   pub printable-one : (b : ℕ) → printable b ≡ true → Drawable P (ascii b ∷ [])
