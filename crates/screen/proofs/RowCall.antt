@@ -11,6 +11,10 @@ use lib.Dec.{leb}
 use borrow.Author.Tests.{eq-eqb, ne-eqb, le-leb}
 use Rattle.text.specs.Tests.{in-range}
 use Rattle.text.specs.Class.{Profile}
+use Rattle.text.specs.Class.Code.{profileOf}
+use Rattle.text.specs.Class.Profile01.{profile-is}
+use Rattle.text.specs.Width.{profile01}
+use Rattle.text.specs.declared.class.Profile as profile
 use Rattle.text.specs.Calls.Code as text
 use Rattle.text.specs.Calls.Code.{converted, written}
 use Rattle.text.specs.declared.Answer.{Answer}
@@ -57,9 +61,11 @@ module _ (row : List ℕ) (width : ℕ) where
     pub wide-within : width ≤ 4096
     wide-within = in-range 1 4096 width e .1
 
-module _ (P : Profile) (list : List ℕ) (width room : ℕ) where
-  pub row-shown : (before row : List ℕ) (t : code.Screen) (s : Written) → DrawReady width before → width ≤ 4096 → Drawn P list width row t → s ≡ shownOf (screenOf list width row t) room → s ≡ screenCall P width room list
-  row-shown before row t s w h d e = e ∙ ap (λ (o : Option Screen). shownOf o room) (d .same) ∙ screen-shown P width room list (rw (le-leb 1 width (w .some), le-leb width 4096 h) refl)
+module _ (list : List ℕ) (width room : ℕ) where
+  pub row-shown : (p : profile.Profile) (before row : List ℕ) (t : code.Screen) (s : Written) → DrawReady width before → width ≤ 4096 → Drawn (profileOf p) list width row t → s ≡ shownOf (screenOf list width row t) room → s ≡ screenCall profile01 width room list
+  row-shown p before row t s w h d e =
+      e ∙ ap (λ (o : Option Screen). shownOf o room) (d .same) ∙ screen-shown (profileOf p) width room list (rw (le-leb 1 width (w .some), le-leb width 4096 h) refl) ∙ ap (λ (P : Profile). screenCall P width room list) (profile-is p)
 
+module _ (P : Profile) (list : List ℕ) (width room : ℕ) where
   pub row-refused : (r : Answer) (l : List ℕ) → (leb 1 width && leb width 4096) ≡ false → converted r l ≡ text.refusal 5 room → written r l ≡ screenCall P width room list
   row-refused r l w e = refused r l 5 room e ∙ width-refused P width room list w

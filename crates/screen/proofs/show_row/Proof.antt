@@ -1,5 +1,4 @@
 use Rattle.screen.proofs.RowCall.{row-shown}
-use Rattle.text.specs.Class.Code.{profileOf}
 use borrow.Author.Needs.{needs}
 use Rattle.screen.proofs.show_row.Statement.{statement}
 use Rattle.screen.proofs.show_row.Tie as tie
@@ -17,7 +16,6 @@ same-length-2 : tie.Need-same-length-2
 same-length-2 c = search needs
 
 returns : tie.Need-returns
-unfolding profileOf
 returns c = search row-shown
 
 pub show-row-spec : {M : Type 1} → statement M

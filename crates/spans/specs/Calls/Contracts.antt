@@ -47,7 +47,7 @@ Holds conv matches r = r .number ≡ 0 → HeldIn conv matches r
 
 -- the records that it has before it
 unfoldable pub recordsOf : List ℕ → List ℕ → Reading → List Record
-unfolding remaining profile01
+unfolding remaining
 recordsOf conv matches r = cond (eqb (r .number) 0) (remaining profile01 (take (r .len) conv) matches (r .cursor)) []
 
 -- one more record can be counted
