@@ -1,11 +1,10 @@
--- Columns: where the spans of a line end, and rows that run end to end.
-use Prim.Native.Nat.{ℕ, _+_, _-_, _%_, _≤_}
+-- Columns: where the spans of a line end.
+use Prim.Native.Nat.{ℕ, _+_, _-_, _%_}
 use mathlib.Core.List.{List, [], _∷_}
 use Rattle.text.specs.Utf8.{Scalar}
 use Rattle.text.specs.Class.{Profile}
 use Rattle.text.specs.Width.{widthOf}
 use Rattle.spans.specs.Spans.{Content, text, control, invalid, unprintable, escape, tab, crlf, lf, Span}
-use Rattle.rows.specs.Rows.{Row, row}
 pub mod Wrapping
 pub mod OneRow
 
@@ -31,8 +30,3 @@ module _ (P : Profile) (count : List Scalar → ℕ) where
   -- the line's last column
   abbrev pub lastColumn : List Span → ℕ
   lastColumn ss = lastColumnFrom 0 ss
-
--- one or more rows that run end to end from column a to column z
-pub data EndToEnd : ℕ → ℕ → List Row → Type 0 where
-  last : {a z : ℕ} → a ≤ z → EndToEnd a z (row a z ∷ [])
-  next : {a b z : ℕ} {rs : List Row} → a ≤ b → EndToEnd b z rs → EndToEnd a z (row a b ∷ rs)

@@ -8,8 +8,7 @@ use Rattle.text.specs.Utf8.{Scalar}
 use Rattle.text.specs.Class.{Profile}
 use Rattle.text.specs.Cluster.{clusters}
 use Rattle.spans.specs.Spans.{Content, text, control, invalid, unprintable, escape, tab, crlf, lf, Span}
-use Rattle.rows.specs.Rows.{Row, graphemeBoundary, eight, rows}
-use Rattle.columns.specs.Columns.{EndToEnd}
+use Rattle.rows.specs.Rows.{Row, graphemeBoundary, eight, rows, EndToEnd}
 use Rattle.columns.specs.Columns.Wrapping.{total, widths}
 pub mod Greedy
 pub mod Proof

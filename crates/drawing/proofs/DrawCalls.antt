@@ -27,9 +27,9 @@ use Rattle.rows.specs.Calls.Reading as reading
 use Rattle.drawing.specs.Change.{Change, encode}
 use Rattle.drawing.specs.Change as change
 use Rattle.drawing.specs.Calls as calls
-use Rattle.drawing.specs.Calls.{drawing, windowQuestions, rowQuestions, windowCall, rowCall}
-use Rattle.drawing.specs.Calls.Laws.{further, drawing-unknown, drawing-unread, drawing-refused, drawing-accepted}
-use Rattle.drawing.specs.Rendering.{largest}
+use Rattle.drawing.specs.Calls.{drawing, windowQuestions, rowQuestions}
+use Rattle.drawing.specs.Calls.Laws.{further, drawing-unknown, drawing-unread, drawing-refused, drawing-accepted, noneTorn, window-torn, row-torn}
+use Rattle.drawing.specs.Rendering.{largest, currentOf}
 use Rattle.drawing.specs.Requests.{windowRequest, rowRequest, askedOf, InLimits, drawableOf, boundsOf, windowRendering, rowsRendering, firstSpans, RenderWrappedRoom, changesOf, Drew, decided, outcomeOf, answerOf, drawnAs, Called}
 use Rattle.drawing.specs.declared.Request.{Request}
 use Rattle.drawing.specs.declared.Outcome.{Outcome}
@@ -168,7 +168,7 @@ module _ (size places : ℕ) (matches line : List ℕ) (a : Answer) (cs : List �
 
     -- the call by its definition
     abbrev call : calls.Drawn
-    call = drawing profile01 (q .reader) size places (length l) matches (questionsOf q) (changesOf q) line
+    call = drawing profile01 (q .reader) size places (length l) matches (questionsOf q) (noneTorn (changesOf q)) (changesOf q) line
 
     abbrev number : ℕ
     number = decided (q .reader) (askedOf q) (a .number) r (length l)
@@ -187,7 +187,7 @@ module _ (size places : ℕ) (matches line : List ℕ) (a : Answer) (cs : List �
 
     unknown : leb (q .reader) 1 ≡ false → Done o
     unfolding decided
-    unknown e = refused 17 (rw (lt-ltb 1 (q .reader) (leb-false (q .reader) 1 e))) (drawing-unknown profile01 (q .reader) size places (length l) matches (questionsOf q) (changesOf q) line e)
+    unknown e = refused 17 (rw (lt-ltb 1 (q .reader) (leb-false (q .reader) 1 e))) (drawing-unknown profile01 (q .reader) size places (length l) matches (questionsOf q) (noneTorn (changesOf q)) (changesOf q) line e)
 
     -- a line that `read` accepts
     module _ (known : leb (q .reader) 1 ≡ true) (fine : a .number ≡ 0) where
@@ -199,14 +199,14 @@ module _ (size places : ℕ) (matches line : List ℕ) (a : Answer) (cs : List �
       number-fine = rw (le-ltb 1 (q .reader) (leb-true (q .reader) 1 known), fine)
 
       abbrev later : ℕ
-      later = further profile01 (q .reader) size places (length l) matches (questionsOf q) (changesOf q) line
+      later = further profile01 (q .reader) size places (length l) matches (questionsOf q) (noneTorn (changesOf q)) (changesOf q) line
 
       later-is : later ≡ cond (ltb 0 (askedOf q)) (askedOf q) (cond (change.whole changes) (cond (leb (length bytes) (length l)) 0 9) 8)
       unfolding decide
       later-is = asked-first q _
 
       refused-by : (n : ℕ) → number ≡ suc n → later ≡ suc n → Done o
-      refused-by n e f = refused n e (drawing-refused profile01 (q .reader) size places (length l) matches (questionsOf q) (changesOf q) line known accepted-read n f)
+      refused-by n e f = refused n e (drawing-refused profile01 (q .reader) size places (length l) matches (questionsOf q) (noneTorn (changesOf q)) (changesOf q) line known accepted-read n f)
 
       accepted : number ≡ 0 → later ≡ 0 → r .at ≡ length bytes → l′ ≡ bytes ++ drop (length bytes) l → Done o
       unfolding outcomeOf
@@ -214,7 +214,7 @@ module _ (size places : ℕ) (matches line : List ℕ) (a : Answer) (cs : List �
           let c : cleared 0 largest cs ≡ readCall profile01 size places matches line .conv = cleared-all 0 cs largest (omega arith) ∙ ap (λ (x : Read). x .conv) read in
           let s : cleared noRecord largest rs ≡ readCall profile01 size places matches line .spans = cleared-all noRecord rs largest (omega arith) ∙ ap (λ (x : Read). x .spans) read in
           let k : cleared 0 (length bytes) l′ ≡ bytes ++ replicate (length l - length bytes) 0 = cleared-behind 0 l′ bytes (drop (length bytes) l) (length l) (length bytes) h refl l-length in
-          rw (outcome-at 0 e, c, s, g, k) (sym (drawing-accepted profile01 (q .reader) size places (length l) matches (questionsOf q) (changesOf q) line known accepted-read f))
+          rw (outcome-at 0 e, c, s, g, k) (sym (drawing-accepted profile01 (q .reader) size places (length l) matches (questionsOf q) (noneTorn (changesOf q)) (changesOf q) line known accepted-read f))
 
       -- questions 8 and 9 of a request that passes 5 and 7
       module _ (asked : askedOf q ≡ 0) where
@@ -254,15 +254,19 @@ module _ (size places : ℕ) (matches line : List ℕ) (a : Answer) (cs : List �
     by-number k zero e = by-asked k e (askedOf q) refl
     by-number k (suc n) e =
         refused n (rw (le-ltb 1 (q .reader) (leb-true (q .reader) 1 k), e, lt-ltb 0 (suc n) (omega arith)))
-        (drawing-unread profile01 (q .reader) size places (length l) matches (questionsOf q) (changesOf q) line k n (reading.number-is size places matches line a cs rs read ∙ e))
+        (drawing-unread profile01 (q .reader) size places (length l) matches (questionsOf q) (noneTorn (changesOf q)) (changesOf q) line k n (reading.number-is size places matches line a cs rs read ∙ e))
 
     by-reader : Done o
     by-reader = cases (leb (q .reader) 1) (λ e. by-number e (a .number) refl) unknown
 
     -- what the call leaves once what is not kept is cleared
     pub called : Called q size places (length l) matches line (answerOf o) (cleared 0 (o .kept) cs) (cleared noRecord (o .kept) rs) (cleared 0 (o .listed) l′)
-    unfolding windowCall rowCall drawing changesOf
-    called = record { window = λ h. by-reader ∙ rw h; rows = λ h. by-reader ∙ rw h }
+    unfolding changesOf
+    called =
+        record {
+          window = λ h. by-reader ∙ rw h (sym (window-torn profile01 (q .reader) size places (length l) (q .start) (q .end) (currentOf (q .current)) matches line));
+          rows = λ h. by-reader ∙ rw h (sym (row-torn profile01 (q .reader) size places (length l) (q .first) (q .count) (q .width) (q .mode) (currentOf (q .current)) matches line));
+        }
 
 -- the same of lists that hold just that
 pub called-cleared : (q : Request) (size places room : ℕ) (matches line : List ℕ) (o : Outcome) (cs : List ℕ) (rs : List Record) (l : List ℕ)

@@ -27,7 +27,8 @@ use Rattle.rows.specs.declared.wrap.Wrapping.{Wrapping}
 use Rattle.rows.specs.Calls.Reading.{line-room}
 use Rattle.drawing.specs.Change.{Change, encode}
 use Rattle.drawing.specs.Change as change
-use Rattle.drawing.specs.Draw.{State, Sent, renderSpans, initial, leftArrow, rightArrow, closeWindow, render, endOf, startOf, closeRows, renderWrapped}
+use Rattle.drawing.specs.Draw.{State, Sent, renderSpans, initial, leftArrow, closeWindow, render, endOf, startOf, wrapBounds, closeRows, renderWrapped}
+use Rattle.drawing.specs.Straddled.Laws.{arrow-whole, window-whole, rows-whole}
 use Rattle.drawing.specs.Reader.HiddenUris.{hidden, seen-append, arrow-seen, window-seen, rows-seen}
 use Rattle.drawing.specs.State.{stateOf, newState}
 use Rattle.drawing.specs.Attributes.Code.{styleOf}
@@ -38,24 +39,21 @@ use Rattle.drawing.specs.declared.state.Drawn.{Drawn}
 use Rattle.drawing.specs.declared.state.Stepped.{Stepped}
 use Rattle.drawing.specs.declared.render.Rendering.{Rendering}
 use Rattle.drawing.proofs.Contents.{records-drawn}
-use Rattle.drawing.proofs.WindowTexts.{encode-append, whole-append}
+use Rattle.drawing.specs.Change.Laws.{whole-append}
+use Rattle.drawing.proofs.WindowTexts.{encode-append}
 
 column-cond : (b : Bool) (x y : Column) → cond b x y .0 ≡ cond b (x .0) (y .0)
 column-cond true x y = refl
 column-cond false x y = refl
 
--- ---- what is drawn before and behind the spans is whole
+-- ---- what is drawn before and after the spans is whole
 
 opening-whole : (d : Rendering) → change.whole (opening d) ≡ true
-unfolding change.whole leftArrow
-opening-whole d = cases (d .arrow) (λ e. rw e refl) (λ e. rw e refl)
+unfolding change.whole
+opening-whole d = cases (d .arrow) (λ e. rw e arrow-whole) (λ e. rw e refl)
 
 closing-whole : (d : Rendering) (t : State) → change.whole (closing d t) ≡ true
-unfolding change.whole closeRows closeWindow rightArrow
-closing-whole d t =
-    cases (d .wrapped)
-    (λ e. cases (d .room) (λ f. rw (e, f) refl) (λ f. rw (e, f) refl))
-    (λ e. cases (ltb (d .window .end .0) (t .position)) (λ f. rw (e, f) refl) (λ f. cases (ltb (t .position) (d .window .end .0)) (λ g. rw (e, f, g) refl) (λ g. rw (e, f, g) refl)))
+closing-whole d t = cases (d .wrapped) (λ e. rw e (rows-whole (d .room) t)) (λ e. rw e (window-whole (d .window .end .0) t))
 
 new-is : stateOf newState ≡ initial
 unfolding stateOf styleOf initial

@@ -16,13 +16,13 @@ use Rattle.text.specs.Overstrike.Bytes.{Byte}
 use Rattle.spans.specs.Spans.{Span, spans}
 use Rattle.spans.specs.Calls.{readCall}
 use Rattle.rows.specs.Marks.{drawnColumns}
-use Rattle.rows.specs.Rows.{Mode, unwrapped, rows}
+use Rattle.rows.specs.Rows.{Mode, unwrapped, rows, EndToEnd}
 use Rattle.drawing.specs.declared.attributes.Attributes.{Attributes}
 use Rattle.drawing.specs.Attributes.{plain}
 use Rattle.drawing.specs.Change as change
 use Rattle.drawing.specs.Change.{Change, torn, allAttributes, clearToEnd, cursorRight}
 use Rattle.drawing.specs.Draw.{renderWrapped}
-use Rattle.columns.specs.Columns.{lastColumn, EndToEnd}
+use Rattle.columns.specs.Columns.{lastColumn}
 use Rattle.picture.specs.Conditions.{PlainComposed, WordBreakClasses, UnsharedLine, Drawable, SingleMarks}
 pub mod Window
 pub mod Clipping

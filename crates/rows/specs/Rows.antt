@@ -1,5 +1,5 @@
 -- Rows: src/line.rs, Span::split and make_wrap. All numbers are columns.
-use Prim.Native.Nat.{ℕ, _+_, _-_, _%_}
+use Prim.Native.Nat.{ℕ, _+_, _-_, _%_, _≤_}
 use mathlib.Core.Bool.{Bool, true, false, cond}
 use mathlib.Core.List.{List, [], _∷_, reverse}
 use lib.Dec.{eqb, leb, ltb}
@@ -11,6 +11,7 @@ use Rattle.spans.specs.Spans.{Content, text, control, invalid, unprintable, esc
 use Rattle.rows.specs.Marks.{drawnColumns}
 use Rattle.rows.specs.Words.{Word, words}
 pub mod Laws
+pub mod InOrder
 pub mod Noise
 
 pub record Row : Type 0 where
@@ -128,3 +129,8 @@ rows P width graphemeBoundary ss = wrapped P eight width false ss
 rows P width wordBoundary ss = wrapped P eight width true ss
 rows P width drawnGraphemeBoundary ss = wrapped P drawnColumns width false ss
 rows P width drawnWordBoundary ss = wrapped P drawnColumns width true ss
+
+-- one or more rows that run end to end from column a to column z
+pub data EndToEnd : ℕ → ℕ → List Row → Type 0 where
+  last : {a z : ℕ} → a ≤ z → EndToEnd a z (row a z ∷ [])
+  next : {a b z : ℕ} {rs : List Row} → a ≤ b → EndToEnd b z rs → EndToEnd a z (row a b ∷ rs)

@@ -18,8 +18,8 @@ use Rattle.text.specs.Cluster.Laws.{clusters-all, join-cons, join-nil}
 use Rattle.spans.specs.Spans.{Content, text, control, invalid, unprintable, escape, tab, crlf, lf, Span}
 use Rattle.rows.specs.Words.{Word, words}
 use Rattle.rows.specs.Words.Laws.{firstWord, restWords, first-word-all, words-first}
-use Rattle.rows.specs.Rows.{Row, row, Wrap, wrap, fitsRow, unbroken, tabbed, pushed, byClusters, wordEnd, longWord, oneWord, byWords, splitText, split, splits, lastRow, wrapped}
-use Rattle.columns.specs.Columns.{spanColumns, lastColumnFrom, lastColumn, EndToEnd}
+use Rattle.rows.specs.Rows.{Row, row, Wrap, wrap, fitsRow, unbroken, tabbed, pushed, byClusters, wordEnd, longWord, oneWord, byWords, splitText, split, splits, lastRow, wrapped, EndToEnd}
+use Rattle.columns.specs.Columns.{spanColumns, lastColumnFrom, lastColumn}
 
 -- ---- widths side by side
 

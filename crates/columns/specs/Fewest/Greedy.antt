@@ -8,8 +8,7 @@ use lib.Dec.{leb, ltb}
 use borrow.Author.Tests.{leb-true, leb-false}
 use Rattle.text.specs.Tests.{cases, both}
 use Rattle.text.specs.Each.{All, all-cons, all-map}
-use Rattle.rows.specs.Rows.{Row, row, Wrap, wrap, unbroken, lastRow}
-use Rattle.columns.specs.Columns.{EndToEnd, last, next}
+use Rattle.rows.specs.Rows.{Row, row, Wrap, wrap, unbroken, lastRow, EndToEnd, last, next}
 use Rattle.columns.specs.Columns.Wrapping.{total}
 use Rattle.columns.specs.Fewest.{Between, front, behind}
 

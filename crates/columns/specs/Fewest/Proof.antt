@@ -15,8 +15,8 @@ use Rattle.text.specs.Class.{Profile}
 use Rattle.text.specs.Width.{widthOf, profile01}
 use Rattle.text.specs.Cluster.{clusters}
 use Rattle.spans.specs.Spans.{Content, text, control, invalid, unprintable, escape, tab, crlf, lf, Span}
-use Rattle.rows.specs.Rows.{Row, row, Wrap, wrap, unbroken, byClusters, splitText, split, splits, lastRow, wrapped, eight, rows}
-use Rattle.columns.specs.Columns.{spanColumns, lastColumnFrom, EndToEnd}
+use Rattle.rows.specs.Rows.{Row, row, Wrap, wrap, unbroken, byClusters, splitText, split, splits, lastRow, wrapped, eight, rows, EndToEnd}
+use Rattle.columns.specs.Columns.{spanColumns, lastColumnFrom}
 use Rattle.columns.specs.Columns.Wrapping.{total, widths, widths-total, EachEnd, TextEnds, Stops, Run, last, next, run-ends, wrapped-run}
 use Rattle.columns.specs.Fewest.{unitsOf, units, Between, front, behind, Cutting, Fewest, FewestRows}
 use Rattle.columns.specs.Fewest.Greedy.{Cuts, finished, taken, Narrow, taking, greedy}

@@ -1,10 +1,12 @@
--- A drawing by what the call `read` answers: behind question 18 the same refusals first, then its own questions.
+-- A drawing by what the call `read` answers: after question 18 the same refusals first, then its own questions. Question 8 asked of the changes.
 use mathlib.Core.Path.{_≡_, refl, sym, ap, _∙_}
-use Prim.Native.Nat.{ℕ, suc, _-_}
-use mathlib.Core.Bool.{true, false}
+use Prim.Native.Nat.{ℕ, suc, _+_, _-_}
+use mathlib.Core.Bool.{Bool, true, false, not, _&&_, _||_}
 use mathlib.Core.List.{List, [], _∷_, _++_}
+use mathlib.Core.Option.{Option}
 use lib.ListN.{length, replicate}
-use lib.Dec.{leb}
+use lib.Dec.{eqb, leb}
+use Rattle.text.specs.Tests.{cases}
 use Rattle.text.specs.Class.{Profile}
 use Rattle.text.specs.Overstrike.{convert}
 use Rattle.text.specs.Calls.{Question, ask, decide, lent, counted}
@@ -13,10 +15,17 @@ use Rattle.spans.specs.Spans.{Span, records}
 use Rattle.spans.specs.Search.{read}
 use Rattle.spans.specs.Calls.{noRecord, readCall}
 use Rattle.spans.specs.Calls.Laws.{read-accepted, read-number, readQuestions}
+use Rattle.rows.specs.Rows.{Row, rows}
+use Rattle.rows.specs.Calls.{modeOf}
 use Rattle.drawing.specs.Change.{Change, whole, encode}
-use Rattle.drawing.specs.Calls.{Drawn, question18, drawing}
+use Rattle.drawing.specs.Draw.{windowStart, render, wrapBounds, renderWrapped}
+use Rattle.drawing.specs.Straddled.{straddled}
+use Rattle.drawing.specs.Straddled.Laws.{render-whole, wrapped-whole}
+use Rattle.drawing.specs.Reader.{seenBy}
+use Rattle.drawing.specs.Reader.Laws.{seen-whole}
+use Rattle.drawing.specs.Calls.{Drawn, question18, drawing, windowQuestions, rowQuestions, windowCall, rowCall}
 
-module _ (P : Profile) (reader conv places room : ℕ) (matches : List ℕ) (qs : List Question) (draw : List Span → List Change) (line : List ℕ) where
+module _ (P : Profile) (reader conv places room : ℕ) (matches : List ℕ) (qs : List Question) (eight : List Span → Question) (draw : List Span → List Change) (line : List ℕ) where
   abbrev found : List Span
   found = read P matches (convert P line)
 
@@ -25,7 +34,7 @@ module _ (P : Profile) (reader conv places room : ℕ) (matches : List ℕ) (qs 
 
   -- the questions after the fourth, and what they decide
   abbrev others : List Question
-  others = qs ++ (ask 8 (whole (draw found)) ∷ ask 9 (leb (length list) room) ∷ [])
+  others = qs ++ (eight found ∷ ask 9 (leb (length list) room) ∷ [])
 
   abbrev pub further : ℕ
   further = decide others
@@ -34,7 +43,7 @@ module _ (P : Profile) (reader conv places room : ℕ) (matches : List ℕ) (qs 
   abbrev drawnBy : ℕ → Drawn
   drawnBy r = record { number = r; count = counted (length list) r; conv = lent 0 conv (convert P line) r; spans = lent noRecord places (records found) r; list = lent 0 room list r }
 
-  drawing-by : drawing P reader conv places room matches qs draw line ≡ drawnBy (decide (question18 reader ∷ readQuestions P conv places matches line ++ others))
+  drawing-by : drawing P reader conv places room matches qs eight draw line ≡ drawnBy (decide (question18 reader ∷ readQuestions P conv places matches line ++ others))
   unfolding drawing
   drawing-by = refl
 
@@ -45,23 +54,63 @@ module _ (P : Profile) (reader conv places room : ℕ) (matches : List ℕ) (qs 
   no-drawing : (r : ℕ) → drawnBy (suc r) ≡ undrawn (suc r)
   no-drawing r = simp (lent-refused, counted-refused)
 
-  pub drawing-unknown : leb reader 1 ≡ false → drawing P reader conv places room matches qs draw line ≡ undrawn 18
+  pub drawing-unknown : leb reader 1 ≡ false → drawing P reader conv places room matches qs eight draw line ≡ undrawn 18
   drawing-unknown e = drawing-by ∙ ap drawnBy (decide-no (question18 reader) _ e) ∙ no-drawing 17
 
   module _ (known : leb reader 1 ≡ true) where
-    drawing-known : drawing P reader conv places room matches qs draw line ≡ drawnBy (decide (readQuestions P conv places matches line ++ others))
+    drawing-known : drawing P reader conv places room matches qs eight draw line ≡ drawnBy (decide (readQuestions P conv places matches line ++ others))
     drawing-known = drawing-by ∙ ap drawnBy (decide-yes (question18 reader) _ known)
 
-    pub drawing-unread : (r : ℕ) → readCall P conv places matches line .number ≡ suc r → drawing P reader conv places room matches qs draw line ≡ undrawn (suc r)
+    pub drawing-unread : (r : ℕ) → readCall P conv places matches line .number ≡ suc r → drawing P reader conv places room matches qs eight draw line ≡ undrawn (suc r)
     drawing-unread r e = drawing-known ∙ ap drawnBy (decided-before (readQuestions P conv places matches line) others r (sym (read-number P conv places matches line) ∙ e)) ∙ no-drawing r
 
     module _ (fine : readCall P conv places matches line .number ≡ 0) where
       accepting : decide (readQuestions P conv places matches line ++ others) ≡ further
       accepting = decided-behind (readQuestions P conv places matches line) others tt (sym (read-number P conv places matches line) ∙ fine)
 
-      pub drawing-refused : (r : ℕ) → further ≡ suc r → drawing P reader conv places room matches qs draw line ≡ undrawn (suc r)
+      pub drawing-refused : (r : ℕ) → further ≡ suc r → drawing P reader conv places room matches qs eight draw line ≡ undrawn (suc r)
       drawing-refused r e = drawing-known ∙ ap drawnBy (accepting ∙ e) ∙ no-drawing r
 
       pub drawing-accepted : further ≡ 0
-          → drawing P reader conv places room matches qs draw line ≡ record { number = 0; count = length list; conv = readCall P conv places matches line .conv; spans = readCall P conv places matches line .spans; list = list ++ replicate (room - length list) 0 }
+          → drawing P reader conv places room matches qs eight draw line ≡ record { number = 0; count = length list; conv = readCall P conv places matches line .conv; spans = readCall P conv places matches line .spans; list = list ++ replicate (room - length list) 0 }
       drawing-accepted e = rw (read-accepted P conv places matches line fine) (drawing-known ∙ ap drawnBy (accepting ∙ e) ∙ simp (lent-accepted, counted-accepted))
+
+-- ---- question 8 asked of the changes: no text of them is torn
+
+abbrev pub noneTorn : (List Span → List Change) → List Span → Question
+noneTorn draw ss = ask 8 (whole (draw ss))
+
+module _ (P : Profile) (reader conv places room : ℕ) (matches : List ℕ) (qs : List Question) (draw : List Span → List Change) (line : List ℕ) where
+  asked-alike : (a b : List Span → Bool) → ((ss : List Span) (others : List Question) → decide (qs ++ (ask 8 (a ss) ∷ others)) ≡ decide (qs ++ (ask 8 (b ss) ∷ others)))
+      → drawing P reader conv places room matches qs (λ ss. ask 8 (a ss)) draw line ≡ drawing P reader conv places room matches qs (λ ss. ask 8 (b ss)) draw line
+  unfolding drawing decide
+  asked-alike a b e = rw (e (read P matches (convert P line)) (ask 9 (leb (length (encode (draw (read P matches (convert P line))))) room) ∷ []))
+
+-- where question 7 says no, it decides whatever 8 says
+seven-first : (a b c d : Bool) (others : List Question) → (b ≡ true → c ≡ d) → decide (ask 5 a ∷ ask 7 b ∷ ask 8 c ∷ others) ≡ decide (ask 5 a ∷ ask 7 b ∷ ask 8 d ∷ others)
+unfolding decide
+seven-first a b c d others f = cases b (λ e. rw (f e)) (λ e. rw e)
+
+module _ (P : Profile) (reader conv places room : ℕ) where
+  module _ (start end : ℕ) (current : Option ℕ) (matches line : List ℕ) where
+    abbrev pub windowChanges : List Span → List Change
+    windowChanges ss = seenBy reader (render P start end current ss)
+
+    pub window-torn : windowCall P reader conv places room start end current matches line ≡ drawing P reader conv places room matches (windowQuestions start end) (noneTorn windowChanges) windowChanges line
+    unfolding windowCall
+    window-torn =
+        asked-alike P reader conv places room matches (windowQuestions start end) windowChanges line (λ ss. not (straddled P (windowStart start) end ss)) (λ ss. whole (windowChanges ss))
+        (λ ss others. seven-first (leb start 1048576 && leb end 1048576) (eqb start 0 || leb (start + 1) end) _ _ others (λ e. sym (seen-whole reader (render P start end current ss) ∙ render-whole P start end current ss e)))
+
+  module _ (first count width mode : ℕ) (current : Option ℕ) (matches line : List ℕ) where
+    abbrev pub rowChanges : List Span → List Change
+    rowChanges ss = seenBy reader (renderWrapped P first count width (modeOf mode) current ss)
+
+    abbrev bounds : List Span → Row
+    bounds ss = wrapBounds first count (rows P width (modeOf mode) ss)
+
+    pub row-torn : rowCall P reader conv places room first count width mode current matches line ≡ drawing P reader conv places room matches (rowQuestions first count width mode) (noneTorn rowChanges) rowChanges line
+    unfolding rowCall
+    row-torn =
+        asked-alike P reader conv places room matches (rowQuestions first count width mode) rowChanges line (λ ss. not (straddled P (bounds ss .start) (bounds ss .end) ss)) (λ ss. whole (rowChanges ss))
+        (λ ss others. ap (λ (b : Bool). decide (rowQuestions first count width mode ++ (ask 8 b ∷ others))) (sym (seen-whole reader (renderWrapped P first count width (modeOf mode) current ss) ∙ wrapped-whole P first count width (modeOf mode) current ss)))

@@ -1,9 +1,9 @@
--- The bytes of attributes: their parts and sizes; a flag byte, read back.
+-- Changes of which no text is torn. The bytes of attributes: their parts and sizes; a flag byte, read back.
 use mathlib.Core.Path.{_≡_, refl}
 use Prim.Native.Nat.{ℕ, _/_, _%_, _≤_}
 use native.Mathlib.Omega.{arith}
-use mathlib.Core.Bool.{Bool, true, false}
-use mathlib.Core.List.{[], _∷_, _++_}
+use mathlib.Core.Bool.{Bool, true, false, _&&_}
+use mathlib.Core.List.{List, [], _∷_, _++_}
 use lib.ListN.{length, length-append}
 use lib.Dec.{T, eqb}
 use borrow.Author.Tests.{eqb-true}
@@ -15,8 +15,17 @@ use Rattle.spans.specs.declared.sgr.Color.the-variants.{Default, Palette, Rgb}
 use Rattle.drawing.specs.declared.attributes.Attributes.{Attributes}
 use Rattle.drawing.specs.declared.attributes.Flags.{Flags}
 use Rattle.drawing.specs.Attributes.{flags}
-use Rattle.drawing.specs.Change.{colorBytes, flag, flagByte, attributeBytes}
+use Rattle.drawing.specs.Change.{Change, text, torn, allAttributes, clearToEnd, cursorRight, whole, colorBytes, flag, flagByte, attributeBytes}
 use Rattle.drawing.specs.Change.Contracts.{flagsByte}
+
+pub whole-append : (cs ds : List Change) → whole (cs ++ ds) ≡ (whole cs && whole ds)
+unfolding whole
+whole-append [] ds = refl
+whole-append (text s ∷ cs) ds = whole-append cs ds
+whole-append (torn ∷ cs) ds = refl
+whole-append (allAttributes a ∷ cs) ds = whole-append cs ds
+whole-append (clearToEnd c ∷ cs) ds = whole-append cs ds
+whole-append (cursorRight ∷ cs) ds = whole-append cs ds
 
 pub color-length : (c : Color) → length (colorBytes c) ≡ 4
 unfolding colorBytes
