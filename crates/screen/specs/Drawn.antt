@@ -12,7 +12,7 @@ use Rattle.text.specs.Width.{widthOf}
 use Rattle.text.specs.Width.Symbols.{SymbolColumns}
 use Rattle.spans.specs.Spans.{Span}
 use Rattle.rows.specs.Rows.{Row, Mode, rows}
-use Rattle.drawing.specs.Draw.{endOf, startOf}
+use Rattle.drawing.specs.Draw.{wrapBounds}
 use Rattle.drawing.specs.Change.{Change, text, torn, allAttributes, clearToEnd, cursorRight}
 use Rattle.text.specs.Class.Symbols.{SymbolClasses}
 use Rattle.text.specs.Overstrike.Bytes.{Byte}
@@ -51,6 +51,5 @@ columns P (cursorRight ∷ cs) = 0
 -- the columns from the start of a row drawing's first row to the end of its last
 unfoldable pub rowColumns : Profile → (first count width : ℕ) → Mode → List Span → ℕ
 rowColumns P first count width mode ss =
-    let rs : List Row = rows P width mode ss in
-    let end : ℕ = endOf 0 (first + count - 1) rs in
-    end - startOf end first rs
+    let bounds : Row = wrapBounds first count (rows P width mode ss) in
+    bounds .end - bounds .start

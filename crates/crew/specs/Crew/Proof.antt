@@ -19,10 +19,10 @@ use Rattle.spans.specs.Spans.{Span, spans, records}
 use Rattle.spans.specs.Search as search
 use Rattle.spans.specs.Calls.{question3, question4, noRecord}
 use Rattle.rows.specs.Calls.{modeOf}
-use Rattle.drawing.specs.Change.{Change, whole, encode}
+use Rattle.drawing.specs.Change.{Change, encode}
 use Rattle.drawing.specs.Draw.{render, renderWrapped}
 use Rattle.drawing.specs.Reader.{seenBy}
-use Rattle.drawing.specs.Calls.{question18, drawing, windowQuestions, rowQuestions, windowCall, rowCall}
+use Rattle.drawing.specs.Calls.{question18, drawing, windowQuestions, rowQuestions, windowQuestion8, rowQuestion8, windowCall, rowCall}
 use Rattle.crew.specs.Crew.{AnotherUri, SameDrawn, SameView, Unseen}
 use Rattle.crew.specs.Crew.Hyperlinks.{Linked, Form}
 use Rattle.crew.specs.Crew.SameSpans.{same-spans}
@@ -31,10 +31,11 @@ use Rattle.crew.specs.Crew.ReadForm.{linked-form}
 -- ---- lines with the same spans
 
 module _ (P : Profile) (l m : List ℕ) (size : length l ≡ length m) (same : spans P (convert P l) ≡ spans P (convert P m)) where
-  same-drawn : (reader conv places room : ℕ) (qs : List Question) (draw : List Span → List Change) → SameDrawn (drawing P reader conv places room [] qs draw l) (drawing P reader conv places room [] qs draw m)
+  same-drawn : (reader conv places room : ℕ) (qs : List Question) (eight : List Span → Question) (draw : List Span → List Change)
+      → SameDrawn (drawing P reader conv places room [] qs eight draw l) (drawing P reader conv places room [] qs eight draw m)
   unfolding drawing search.read search.inOrder
-  same-drawn reader conv places room qs draw =
-      let f : List Span → List Question = λ ss. ask 8 (whole (draw ss)) ∷ ask 9 (leb (length (encode (draw ss))) room) ∷ [] in
+  same-drawn reader conv places room qs eight draw =
+      let f : List Span → List Question = λ ss. eight ss ∷ ask 9 (leb (length (encode (draw ss))) room) ∷ [] in
       let d : decide (question18 reader ∷ question1 l ∷ question2 conv l ∷ question3 [] (convert P l) ∷ question4 places (spans P (convert P l)) ∷ qs ++ f (spans P (convert P l)))
       ≡ decide (question18 reader ∷ question1 m ∷ question2 conv m ∷ question3 [] (convert P m) ∷ question4 places (spans P (convert P m)) ∷ qs ++ f (spans P (convert P m))) = rw (size, same) in
       record {
@@ -47,8 +48,8 @@ module _ (P : Profile) (l m : List ℕ) (size : length l ≡ length m) (same : s
   same-view : SameView P l m
   unfolding windowCall rowCall
   same-view = record {
-    window = λ reader conv places room start end current. same-drawn reader conv places room (windowQuestions start end) (λ ss. seenBy reader (render P start end current ss));
-    row = λ reader conv places room first count width mode current. same-drawn reader conv places room (rowQuestions first count width mode) (λ ss. seenBy reader (renderWrapped P first count width (modeOf mode) current ss));
+    window = λ reader conv places room start end current. same-drawn reader conv places room (windowQuestions start end) (windowQuestion8 P start end) (λ ss. seenBy reader (render P start end current ss));
+    row = λ reader conv places room first count width mode current. same-drawn reader conv places room (rowQuestions first count width mode) (rowQuestion8 P first count width mode) (λ ss. seenBy reader (renderWrapped P first count width (modeOf mode) current ss));
   }
 
 -- ---- the exchange

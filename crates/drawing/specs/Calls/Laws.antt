@@ -1,7 +1,7 @@
 -- A drawing by what the call `read` answers: after question 18 the same refusals first, then its own questions. Question 8 asked of the changes.
 use mathlib.Core.Path.{_≡_, refl, sym, ap, _∙_}
 use Prim.Native.Nat.{ℕ, suc, _+_, _-_}
-use mathlib.Core.Bool.{Bool, true, false, not, _&&_, _||_}
+use mathlib.Core.Bool.{Bool, true, false, _&&_, _||_}
 use mathlib.Core.List.{List, [], _∷_, _++_}
 use mathlib.Core.Option.{Option}
 use lib.ListN.{length, replicate}
@@ -15,15 +15,13 @@ use Rattle.spans.specs.Spans.{Span, records}
 use Rattle.spans.specs.Search.{read}
 use Rattle.spans.specs.Calls.{noRecord, readCall}
 use Rattle.spans.specs.Calls.Laws.{read-accepted, read-number, readQuestions}
-use Rattle.rows.specs.Rows.{Row, rows}
 use Rattle.rows.specs.Calls.{modeOf}
 use Rattle.drawing.specs.Change.{Change, whole, encode}
-use Rattle.drawing.specs.Draw.{windowStart, render, wrapBounds, renderWrapped}
-use Rattle.drawing.specs.Straddled.{straddled}
+use Rattle.drawing.specs.Draw.{render, renderWrapped}
 use Rattle.drawing.specs.Straddled.Laws.{render-whole, wrapped-whole}
 use Rattle.drawing.specs.Reader.{seenBy}
 use Rattle.drawing.specs.Reader.Laws.{seen-whole}
-use Rattle.drawing.specs.Calls.{Drawn, question18, drawing, windowQuestions, rowQuestions, windowCall, rowCall}
+use Rattle.drawing.specs.Calls.{Drawn, question18, drawing, windowQuestions, rowQuestions, windowQuestion8, rowQuestion8, windowCall, rowCall}
 
 module _ (P : Profile) (reader conv places room : ℕ) (matches : List ℕ) (qs : List Question) (eight : List Span → Question) (draw : List Span → List Change) (line : List ℕ) where
   abbrev found : List Span
@@ -81,10 +79,10 @@ abbrev pub noneTorn : (List Span → List Change) → List Span → Question
 noneTorn draw ss = ask 8 (whole (draw ss))
 
 module _ (P : Profile) (reader conv places room : ℕ) (matches : List ℕ) (qs : List Question) (draw : List Span → List Change) (line : List ℕ) where
-  asked-alike : (a b : List Span → Bool) → ((ss : List Span) (others : List Question) → decide (qs ++ (ask 8 (a ss) ∷ others)) ≡ decide (qs ++ (ask 8 (b ss) ∷ others)))
-      → drawing P reader conv places room matches qs (λ ss. ask 8 (a ss)) draw line ≡ drawing P reader conv places room matches qs (λ ss. ask 8 (b ss)) draw line
+  asked-alike : (eight torn : List Span → Question) → ((ss : List Span) (others : List Question) → decide (qs ++ (eight ss ∷ others)) ≡ decide (qs ++ (torn ss ∷ others)))
+      → drawing P reader conv places room matches qs eight draw line ≡ drawing P reader conv places room matches qs torn draw line
   unfolding drawing decide
-  asked-alike a b e = rw (e (read P matches (convert P line)) (ask 9 (leb (length (encode (draw (read P matches (convert P line))))) room) ∷ []))
+  asked-alike eight torn e = rw (e (read P matches (convert P line)) (ask 9 (leb (length (encode (draw (read P matches (convert P line))))) room) ∷ []))
 
 -- where question 7 says no, it decides whatever 8 says
 seven-first : (a b c d : Bool) (others : List Question) → (b ≡ true → c ≡ d) → decide (ask 5 a ∷ ask 7 b ∷ ask 8 c ∷ others) ≡ decide (ask 5 a ∷ ask 7 b ∷ ask 8 d ∷ others)
@@ -99,18 +97,15 @@ module _ (P : Profile) (reader conv places room : ℕ) where
     pub window-torn : windowCall P reader conv places room start end current matches line ≡ drawing P reader conv places room matches (windowQuestions start end) (noneTorn windowChanges) windowChanges line
     unfolding windowCall
     window-torn =
-        asked-alike P reader conv places room matches (windowQuestions start end) windowChanges line (λ ss. not (straddled P (windowStart start) end ss)) (λ ss. whole (windowChanges ss))
+        asked-alike P reader conv places room matches (windowQuestions start end) windowChanges line (windowQuestion8 P start end) (noneTorn windowChanges)
         (λ ss others. seven-first (leb start 1048576 && leb end 1048576) (eqb start 0 || leb (start + 1) end) _ _ others (λ e. sym (seen-whole reader (render P start end current ss) ∙ render-whole P start end current ss e)))
 
   module _ (first count width mode : ℕ) (current : Option ℕ) (matches line : List ℕ) where
     abbrev pub rowChanges : List Span → List Change
     rowChanges ss = seenBy reader (renderWrapped P first count width (modeOf mode) current ss)
 
-    abbrev bounds : List Span → Row
-    bounds ss = wrapBounds first count (rows P width (modeOf mode) ss)
-
     pub row-torn : rowCall P reader conv places room first count width mode current matches line ≡ drawing P reader conv places room matches (rowQuestions first count width mode) (noneTorn rowChanges) rowChanges line
     unfolding rowCall
     row-torn =
-        asked-alike P reader conv places room matches (rowQuestions first count width mode) rowChanges line (λ ss. not (straddled P (bounds ss .start) (bounds ss .end) ss)) (λ ss. whole (rowChanges ss))
+        asked-alike P reader conv places room matches (rowQuestions first count width mode) rowChanges line (rowQuestion8 P first count width mode) (noneTorn rowChanges)
         (λ ss others. ap (λ (b : Bool). decide (rowQuestions first count width mode ++ (ask 8 b ∷ others))) (sym (seen-whole reader (renderWrapped P first count width (modeOf mode) current ss) ∙ wrapped-whole P first count width (modeOf mode) current ss)))

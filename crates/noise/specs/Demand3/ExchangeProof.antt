@@ -28,6 +28,7 @@ use Rattle.drawing.specs.Draw.{render, renderWrapped}
 use Rattle.drawing.specs.Draw.Noise.{PlainDigits, TwinChange, MarkByte, render-twin, renderWrapped-twin, seen-twin, whole-twin, encode-twin}
 use Rattle.drawing.specs.Reader.{seenBy}
 use Rattle.drawing.specs.Calls.{Drawn, question18, drawing, windowQuestions, rowQuestions, windowCall, rowCall}
+use Rattle.drawing.specs.Calls.Laws.{noneTorn, window-torn, row-torn}
 use Rattle.noise.specs.Calls.{Call, answer, noMatches, withoutMatches, changesOf}
 use Rattle.noise.specs.Calls as calls
 use Rattle.noise.specs.Demand3.{Alike, Exchange}
@@ -75,9 +76,9 @@ module _ (P : Profile) (H : PlainDigits P) {s t : List ℕ} (e : Twin s t) where
     spans : a .spans ≡ b .spans
     list : Each (MarkByte l m) (a .list) (b .list)
 
-  -- both kinds of drawing, with the questions qs between 4 and 8
+  -- both kinds of drawing, with the questions qs between 4 and 8, and 8 asked of the changes
   drawn : (v b p r : ℕ) (qs : List Question) (draw : List Span → List Change) → Each (TwinChange P l m) (draw (spans P l)) (draw (spans P m))
-      → TwinDrawn (drawing P v b p r [] qs draw s) (drawing P v b p r [] qs draw t)
+      → TwinDrawn (drawing P v b p r [] qs (noneTorn draw) draw s) (drawing P v b p r [] qs (noneTorn draw) draw t)
   unfolding drawing search.read search.inOrder
   drawn v b p r qs draw y =
       let z = encode-twin P H l m y in
@@ -87,7 +88,7 @@ module _ (P : Profile) (H : PlainDigits P) {s t : List ℕ} (e : Twin s t) where
       record { number = d; count = ap₂ counted (each-length z) d; conv = lent-conv b _ _ d; spans = lent-spans p _ _ d; list = lent-each (λ x. MarkByte.same) 0 r _ _ d z }
 
   alike : (c : Call) → T (withoutMatches c) → Alike P c s t
-  unfolding withoutMatches noMatches answer changesOf convertCall readCall rowsCall heightCall windowCall rowCall search.read search.inOrder
+  unfolding withoutMatches noMatches answer changesOf convertCall readCall rowsCall heightCall search.read search.inOrder
   alike (calls.convert b) h =
       let d : decide (question1 s ∷ question2 b s ∷ []) ≡ decide (question1 t ∷ question2 b t ∷ []) = rw line in
       record { number = d; count = ap₂ counted (each-length converted) d; spans = refl; rows = refl; conv = lent-conv b _ _ d; changes = nil; list = nil }
@@ -106,12 +107,14 @@ module _ (P : Profile) (H : PlainDigits P) {s t : List ℕ} (e : Twin s t) where
       record { number = d; count = ap₂ counted (ap length g) d; spans = lent-spans p _ _ d; rows = refl; conv = lent-conv b _ _ d; changes = nil; list = nil }
   alike (calls.drawWindow v b p r x y now []) h =
       let c = seen-twin P H l m v (render-twin P H l m x y now read) in
-      let f = drawn v b p r (windowQuestions x y) (λ ss. seenBy v (render P x y now ss)) c in
+      let f : TwinDrawn (windowCall P v b p r x y now [] s) (windowCall P v b p r x y now [] t) =
+      rw (window-torn P v b p r x y now [] s, window-torn P v b p r x y now [] t) (drawn v b p r (windowQuestions x y) (λ ss. seenBy v (render P x y now ss)) c) in
       record { number = f .number; count = f .count; spans = f .spans; rows = refl; conv = f .conv; changes = c; list = f .list }
   alike (calls.drawWindow v b p r x y now (k ∷ ks)) h = absurd h
   alike (calls.drawRow v b p r x n w k now []) h =
       let c = seen-twin P H l m v (renderWrapped-twin P H l m x n w (modeOf k) now read) in
-      let f = drawn v b p r (rowQuestions x n w k) (λ ss. seenBy v (renderWrapped P x n w (modeOf k) now ss)) c in
+      let f : TwinDrawn (rowCall P v b p r x n w k now [] s) (rowCall P v b p r x n w k now [] t) =
+      rw (row-torn P v b p r x n w k now [] s, row-torn P v b p r x n w k now [] t) (drawn v b p r (rowQuestions x n w k) (λ ss. seenBy v (renderWrapped P x n w (modeOf k) now ss)) c) in
       record { number = f .number; count = f .count; spans = f .spans; rows = refl; conv = f .conv; changes = c; list = f .list }
   alike (calls.drawRow v b p r x n w k now (y ∷ ys)) h = absurd h
 

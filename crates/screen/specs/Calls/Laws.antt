@@ -31,7 +31,7 @@ use Rattle.rows.specs.Rows.{Mode}
 use Rattle.rows.specs.Calls.{modeOf}
 use Rattle.drawing.specs.Change.{Change, encode}
 use Rattle.drawing.specs.Draw.{render, renderWrapped}
-use Rattle.drawing.specs.Calls.{Drawn, drawing, windowQuestions, rowQuestions, windowCall, rowCall}
+use Rattle.drawing.specs.Calls.{Drawn, drawing, windowQuestions, rowQuestions, windowQuestion8, rowQuestion8, windowCall, rowCall}
 use Rattle.drawing.specs.Calls.Laws.{drawing-unknown, drawing-unread}
 use Rattle.drawing.specs.Reader.{seenBy}
 use Rattle.screen.specs.Records.{records}
@@ -143,9 +143,9 @@ module _ (P : Profile) (H : ProfileLaws P) where
 left-list : (r room : ℕ) (list : List ℕ) → r ≡ 0 → take (counted (length list) r) (lent 0 room list r) ≡ list
 left-list r room list e = rw (e, counted-accepted (length list), lent-accepted 0 room list) (take-append-seam list (replicate (room - length list) 0))
 
-module _ (P : Profile) (reader conv places room : ℕ) (matches : List ℕ) (qs : List Question) (draw : List Span → List Change) (line : List ℕ) where
+module _ (P : Profile) (reader conv places room : ℕ) (matches : List ℕ) (qs : List Question) (eight : List Span → Question) (draw : List Span → List Change) (line : List ℕ) where
   abbrev called : Drawn
-  called = drawing P reader conv places room matches qs draw line
+  called = drawing P reader conv places room matches qs eight draw line
 
   called-list : called .number ≡ 0 → listOf called ≡ encode (draw (read P matches (convert P line)))
   unfolding drawing
@@ -153,14 +153,14 @@ module _ (P : Profile) (reader conv places room : ℕ) (matches : List ℕ) (qs 
 
   -- the reader is known, and reading was accepted
   called-known : called .number ≡ 0 → leb reader 1 ≡ true
-  called-known e = cases (leb reader 1) (λ k. k) (λ k. absurd (omega (arith, sym (ap (λ (d : Drawn). d .number) (drawing-unknown P reader conv places room matches qs draw line k)) ∙ e)))
+  called-known e = cases (leb reader 1) (λ k. k) (λ k. absurd (omega (arith, sym (ap (λ (d : Drawn). d .number) (drawing-unknown P reader conv places room matches qs eight draw line k)) ∙ e)))
 
   called-read : called .number ≡ 0 → readCall P conv places matches line .number ≡ 0
   called-read e = go (readCall P conv places matches line .number) refl
     where
       go : (n : ℕ) → readCall P conv places matches line .number ≡ n → readCall P conv places matches line .number ≡ 0
       go zero q = q
-      go (suc r) q = absurd (omega (arith, sym (ap (λ (d : Drawn). d .number) (drawing-unread P reader conv places room matches qs draw line (called-known e) r q)) ∙ e))
+      go (suc r) q = absurd (omega (arith, sym (ap (λ (d : Drawn). d .number) (drawing-unread P reader conv places room matches qs eight draw line (called-known e) r q)) ∙ e))
 
   called-line : called .number ≡ 0 → All Byte line → Line (convert P line)
   called-line e a = record { bytes = converted-bytes P line a; short = omega (arith, convert-size P line, read-passed P conv places matches line (called-read e) .short) }
@@ -170,17 +170,19 @@ module _ (P : Profile) (H : ProfileLaws P) where
   unfolding windowCall
   window-call-in-row line bytes reader conv places room start end current matches e =
       let qs : List Question = windowQuestions start end in
+      let eight : List Span → Question = windowQuestion8 P start end in
       let draw : List Span → List Change = λ ss. seenBy reader (render P start end current ss) in
-      subst (InRow P (end - start) (columns P (render P start end current (read P matches (convert P line))))) (sym (called-list P reader conv places room matches qs draw line e))
-      (window-in-row P H (convert P line) (called-line P reader conv places room matches qs draw line e bytes) reader start end current matches)
+      subst (InRow P (end - start) (columns P (render P start end current (read P matches (convert P line))))) (sym (called-list P reader conv places room matches qs eight draw line e))
+      (window-in-row P H (convert P line) (called-line P reader conv places room matches qs eight draw line e bytes) reader start end current matches)
 
   pub row-call-in-row : RowCallInRow P
   unfolding rowCall
   row-call-in-row line bytes reader conv places room first count width mode current matches e =
       let qs : List Question = rowQuestions first count width mode in
+      let eight : List Span → Question = rowQuestion8 P first count width mode in
       let draw : List Span → List Change = λ ss. seenBy reader (renderWrapped P first count width (modeOf mode) current ss) in
-      subst (InRow P _ (columns P (renderWrapped P first count width (modeOf mode) current (read P matches (convert P line))))) (sym (called-list P reader conv places room matches qs draw line e))
-      (rows-in-row P H (convert P line) (called-line P reader conv places room matches qs draw line e bytes) reader first count width (modeOf mode) current matches)
+      subst (InRow P _ (columns P (renderWrapped P first count width (modeOf mode) current (read P matches (convert P line))))) (sym (called-list P reader conv places room matches qs eight draw line e))
+      (rows-in-row P H (convert P line) (called-line P reader conv places room matches qs eight draw line e bytes) reader first count width (modeOf mode) current matches)
 
 -- ---- document 01's profile
 

@@ -24,7 +24,7 @@ use Rattle.drawing.specs.Attributes.{Style, number}
 use Rattle.drawing.specs.Marks.{scalarMark}
 use Rattle.drawing.specs.Change.{Change, allAttributes, clearToEnd, clipped}
 use Rattle.drawing.specs.Draw as draw
-use Rattle.drawing.specs.Draw.{State, Sent, sent, move, meets, windowed, writeTruncated, writeMarks, renderSequence, textStyle, renderSpan, renderSpans, initial, leftArrow, rightArrow, closeWindow, render, endOf, startOf, closeRows, renderWrapped}
+use Rattle.drawing.specs.Draw.{State, Sent, sent, move, meets, windowed, writeTruncated, writeMarks, renderSequence, textStyle, renderSpan, renderSpans, initial, leftArrow, rightArrow, closeWindow, render, wrapBounds, closeRows, renderWrapped}
 use Rattle.screen.specs.Drawn.{ProfileLaws, columns, rowColumns}
 use Rattle.screen.specs.Drawn.Texts.{Drawable, spaces-drawable, byteMark-drawable, scalarMark-drawable}
 use Rattle.screen.specs.Drawn.LineDrawing.{text-drawable}
@@ -193,9 +193,7 @@ module _ (P : Profile) (H : ProfileLaws P) where
   pub rows-list : (first count width : ℕ) (mode : Mode) (current : Option ℕ) {ss : List Span} → FitSpans P ss → ListOf P (rowColumns P first count width mode ss) (renderWrapped P first count width mode current ss)
   unfolding renderWrapped initial rowColumns
   rows-list first count width mode current {ss} a =
-      let rs : List Row = rows P width mode ss in
-      let end : ℕ = endOf 0 (first + count - 1) rs in
-      let start : ℕ = startOf end first rs in
-      let room : Bool = ltb (end - start) (width * count) in
-      let r = spans-list start end current (closeRows room) (close-rows room) initial plain-limits a in
+      let bounds : Row = wrapBounds first count (rows P width mode ss) in
+      let room : Bool = ltb (bounds .end - bounds .start) (width * count) in
+      let r = spans-list (bounds .start) (bounds .end) current (closeRows room) (close-rows room) initial plain-limits a in
       record { list = r .0; few = omega (arith, r .1) }
