@@ -27,7 +27,7 @@ use Rattle.rows.specs.declared.wrap.Wrapping.{Wrapping}
 use Rattle.rows.specs.Calls.Reading.{line-room}
 use Rattle.drawing.specs.Change.{Change, encode}
 use Rattle.drawing.specs.Change as change
-use Rattle.drawing.specs.Draw.{State, Sent, renderSpans, initial, leftArrow, closeWindow, render, endOf, startOf, wrapBounds, closeRows, renderWrapped}
+use Rattle.drawing.specs.Draw.{State, Sent, renderSpans, initial, leftArrow, closeWindow, render, endOf, startOf, renderWrapped}
 use Rattle.drawing.specs.Straddled.Laws.{arrow-whole, window-whole, rows-whole}
 use Rattle.drawing.specs.Reader.HiddenUris.{hidden, seen-append, arrow-seen, window-seen, rows-seen}
 use Rattle.drawing.specs.State.{stateOf, newState}

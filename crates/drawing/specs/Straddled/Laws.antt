@@ -7,7 +7,7 @@ use mathlib.Core.Bool.{Bool, true, false, not, cond, _&&_, _||_, or-assoc}
 use mathlib.Core.List.{List, [], _∷_, _++_}
 use mathlib.Core.Option.{Option, none, some}
 use lib.Dec.{eqb, leb, ltb, ltb→lt, lt→ltb}
-use borrow.Author.Tests.{ne-eqb, leb-true, leb-false, ltb-true, lt-ltb}
+use borrow.Author.Tests.{ne-eqb, leb-true, leb-false, lt-ltb}
 use Rattle.text.specs.Tests.{cases, and-T, or-T, is-true, is-false, true-T, iff, by-case}
 use Rattle.text.specs.Utf8.{Scalar}
 use Rattle.text.specs.Class.{Profile}
