@@ -220,8 +220,8 @@ console_answer console_read(const uint8_t *line, size_t line_len,
 
 /* The rows of the line at a width in columns, 0 to 65,535, and a mode.
  * Count: the rows, at least 1. Leaves conv, spans and, in rows, the first column of each row
- * and the column behind its last. A row is wider than the width where one cluster, tab or
- * mark is.
+ * and the column after its last. A row is wider than the width where one cluster or mark is,
+ * and where a tab that does not fit ends it, after the tab's own columns, 8 at most.
  * Lend rows: CONSOLE_ROWS_SIZE(line_len); rows_len is the numbers, two for each row.
  * Questions: CONSOLE_LINE_TOO_LONG, CONSOLE_CONV_TOO_SHORT, CONSOLE_SPANS_TOO_FEW,
  * CONSOLE_OUT_OF_RANGE (mode above 4, width above 65,535), CONSOLE_ROWS_TOO_FEW. */
@@ -350,8 +350,10 @@ console_answer console_draw_row(size_t reader,
  * Questions: CONSOLE_OUT_OF_RANGE (width), CONSOLE_LIST_MALFORMED (also: a text that is not
  * UTF-8, or has a cluster of width 0 other than 08; attributes of 24 bytes),
  * CONSOLE_TEXT_PASSES_LAST_COLUMN, CONSOLE_OUTPUT_TOO_SHORT. The list of a drawing is never
- * refused as malformed, and passes no column in as many as it was drawn into (docs/SCOPE.md,
- * "A printed row"). */
+ * refused as malformed, and passes no column in as many as were drawn, up to 4,096. The row
+ * shows all of a window in end - start columns, and all of drawn rows in the larger of their
+ * columns and width times count (where that is above 4,096, in any width above their columns):
+ * in fewer, a clear may blank the last column (docs/SCOPE.md, "A printed row"). */
 console_answer console_screen_row(const uint8_t *list, size_t list_len,
                                   size_t width,
                                   uint8_t *out, size_t out_len);

@@ -389,7 +389,9 @@ pub fn draw_row(
 }
 
 /// Prints the changes of a list into a blank screen row of 1 to 4,096 columns. The list may be
-/// any bytes.
+/// any bytes. A window is shown whole in as many columns as it has, drawn rows in the larger of
+/// their columns and the width times their number (where that is above 4,096, in any width above
+/// their columns): in fewer, a clear may blank the last column.
 ///
 /// ```
 /// use console_lines::{draw_window, screen_row, View};
@@ -402,8 +404,8 @@ pub fn draw_row(
 ///
 /// # Errors
 ///
-/// Questions 5, 10 and 11. A drawing's list is never refused by 10, and never by 11 in the
-/// columns that it was drawn into.
+/// Questions 5, 10 and 11. A drawing's list is never refused by 10, and never by 11 in as many
+/// columns as were drawn, up to 4,096.
 pub fn screen_row(list: &[u8], width: usize) -> Result<ScreenRow, Refusal> {
     let mut bytes = vec![0; enough::cells(list.len(), width)];
     let count = screen_row_into(list, width, &mut bytes)?.as_bytes().len();
