@@ -3,13 +3,13 @@
 use mathlib.Core.Path.{_≡_}
 use mathlib.Core.Logic.{_≢_}
 use Prim.Native.Nat.{ℕ, suc, _+_, _≤_}
+use mathlib.Core.Bool.{cond}
 use mathlib.Core.List.{List, [], _∷_, _++_, map}
 use mathlib.Core.Option.{some}
 use lib.ListN.{length, getD, take}
-use lib.Dec.{T}
+use lib.Dec.{T, eqb}
 use Rattle.text.specs.Each.{Each}
-use Rattle.text.specs.Utf8.{noise, allNoise}
-use Rattle.text.specs.Utf8.Noise.{Twin}
+use Rattle.text.specs.Utf8.{noise, allNoise, noisesOf}
 use Rattle.text.specs.Class.{Profile}
 use Rattle.text.specs.Calls.{lent}
 use Rattle.text.specs.Overstrike as overstrike
@@ -65,14 +65,26 @@ pub record Exchanged (s t : List ℕ) : Type 0 where
   pub length : length s ≡ length t
   pub differ : (i : ℕ) → getD s i 0 ≢ getD t i 0 → T (noise (getD s i 0)) × T (noise (getD t i 0))
 
+-- a byte of each converted line: the same, or the noise bytes that the lines s and t hold at one place
+pub data ExchangedByte (s t : List ℕ) : ℕ → ℕ → Type 0 where
+  same : {b : ℕ} → ExchangedByte s t b b
+  exchanged : (i : ℕ) → T (noise (getD s i 0)) → T (noise (getD t i 0)) → ExchangedByte s t (getD s i 0) (getD t i 0)
+
+-- a call leaves the noise bytes of its line, all of them in order, in the conversion buffer; none where it is refused
+abbrev pub OwnNoises : Profile → Call → List ℕ → Type 0
+OwnNoises P c s = noisesOf (answer P c s .conv) ≡ cond (eqb (answer P c s .number) 0) (noisesOf s) []
+
 -- what the call c answers to the lines s and t
 pub record Alike (P : Profile) (c : Call) (s t : List ℕ) : Type 0 where
   pub number : answer P c s .number ≡ answer P c t .number
   pub count : answer P c s .count ≡ answer P c t .count
   pub spans : answer P c s .spans ≡ answer P c t .spans
   pub rows : answer P c s .rows ≡ answer P c t .rows
-  -- converted lines, byte by byte: the same, or both noise
-  pub conv : Twin (answer P c s .conv) (answer P c t .conv)
+  -- converted lines differ at most in the noise bytes exchanged: byte by byte the same, or the pair at one place of the lines
+  pub conv : Each (ExchangedByte s t) (answer P c s .conv) (answer P c t .conv)
+  -- and each holds the noise bytes of its own line
+  pub first-noises : OwnNoises P c s
+  pub second-noises : OwnNoises P c t
   -- changes, one by one: the same, or the same clipping of the marks of the noise bytes at one place of the two converted lines
   pub changes : Each (TwinChange P (overstrike.convert P s) (overstrike.convert P t)) (changesOf P c s) (changesOf P c t)
   -- change lists, byte by byte: the same, or the same hexadecimal digit of those marks, each list showing its own line's
