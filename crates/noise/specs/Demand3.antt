@@ -16,7 +16,7 @@ use Rattle.text.specs.Overstrike as overstrike
 use Rattle.spans.specs.Spans.{Record, aRecord}
 use Rattle.spans.specs.Calls.{noRecord}
 use Rattle.drawing.specs.Draw.Noise.{TwinChange, MarkByte}
-use Rattle.noise.specs.Calls.{Call, read, Outcome, answer, withoutMatches, placesOf, changesOf}
+use Rattle.noise.specs.Calls.{Call, read, Outcome, answer, withoutMatches, convOf, placesOf, changesOf}
 pub mod SeparationProof
 pub mod ExchangeProof
 pub mod Document01
@@ -46,18 +46,30 @@ module _ (P : Profile) (first noises second : List ℕ) where
   abbrev pub line : List ℕ
   line = first ++ (noises ++ second)
 
-  -- reading, lent conv bytes and `places` records
+  -- what reading lists of each part, lent conv bytes and `places` records, put together
+  abbrev pub ofBoth : (conv places : ℕ) → List Record
+  ofBoth conv places = together (listed (answer P (read conv places []) first)) (listed (answer P (read conv places []) second))
+
+  -- reading each part is accepted, and the line's spans are those of both
   pub record Separated (conv places : ℕ) : Type 0 where
     pub first-accepted : answer P (read conv places []) first .number ≡ 0
     pub second-accepted : answer P (read conv places []) second .number ≡ 0
-    pub spans : listed (answer P (read conv places []) line) ≡ together (listed (answer P (read conv places []) first)) (listed (answer P (read conv places []) second))
-    -- every other accepted call without matches, conversion apart, leaves these same records, and zeros after them
-    pub others : (c : Call) (n : ℕ) → placesOf c ≡ some n → T (withoutMatches c) → answer P c line .number ≡ 0
-        → answer P c line .spans ≡ lent noRecord n (listed (answer P (read conv places []) line)) 0
+    pub spans : listed (answer P (read conv places []) line) ≡ ofBoth conv places
 
-  -- where reading the line is accepted, it is separated
+  -- the call c with n places for spans: reading the line with its sizes is accepted and separated, and c leaves these same records, and zeros after them
+  pub record SeparatedCall (c : Call) (n : ℕ) : Type 0 where
+    pub read-accepted : answer P (read (convOf c) n []) line .number ≡ 0
+    pub separated : Separated (convOf c) n
+    pub spans : answer P c line .spans ≡ lent noRecord n (ofBoth (convOf c) n) 0
+
+  pub record SeparatedLine : Type 0 where
+    -- where reading the line is accepted, it is separated
+    pub reading : (conv places : ℕ) → answer P (read conv places []) line .number ≡ 0 → Separated conv places
+    -- and every other accepted call on this line without matches, conversion apart
+    pub others : (c : Call) (n : ℕ) → placesOf c ≡ some n → T (withoutMatches c) → answer P c line .number ≡ 0 → SeparatedCall c n
+
   abbrev pub Separation : Type 0
-  Separation = 1 ≤ length noises → T (allNoise noises) → (conv places : ℕ) → answer P (read conv places []) line .number ≡ 0 → Separated conv places
+  Separation = 1 ≤ length noises → T (allNoise noises) → SeparatedLine
 
 -- ---- exchange: two lines of equal length that differ only at places where both hold a noise byte
 
