@@ -1,10 +1,10 @@
--- What kept wraps remember (document 02, U6), of any calls on one line, none kept at first and nothing else writing them.
+-- What kept wraps remember (document 02, U6), of any calls on one line, starting with none kept and nothing else writing them.
 -- The statement; its proof is in Remembers/.
 use Prim.Native.Nat.{ℕ}
 use mathlib.Core.Bool.{Bool, false, cond, not, _&&_}
 use mathlib.Core.List.{List, [], _∷_, map}
 use mathlib.Core.Path.{_≡_}
-use lib.ListN.{take, replicate}
+use lib.ListN.{length, take}
 use lib.Dec.{eqb, leb}
 use Rattle.text.specs.Class.{Profile}
 use Rattle.spans.specs.Calls.{Read}
@@ -41,8 +41,10 @@ different (k ∷ ks) = k ∷ withoutKey k (different ks)
 abbrev fromRead : Read → Wrapped
 fromRead a = record { number = a .number; count = a .count; conv = a .conv; spans = a .spans; rows = [] }
 
-abbrev pub noneKept : List ℕ
-noneKept = replicate 8212 0
+-- an array that keeps none, whatever its numbers
+pub record NoneKept (wraps : List ℕ) : Type 0 where
+  pub size : length wraps ≡ 8212
+  pub none : kept wraps ≡ []
 
 module _ (P : Profile) (line : List ℕ) where
   -- the answer of a line never asked before
@@ -75,7 +77,8 @@ module _ (P : Profile) (line : List ℕ) where
   wrapsFrom wraps [] = wraps
   wrapsFrom wraps (c ∷ cs) = wrapsFrom (cached wraps c .wraps) cs
 
--- after any calls, the next one is answered as by a line never asked before, and those kept are the last four different keys used, in order of use
-pub record Remembers (P : Profile) (line : List ℕ) (cs : List Call) : Type 0 where
-  pub answers : (c : Call) → cached P line (wrapsFrom P line noneKept cs) c .answer ≡ answer P line c
-  pub keys : map keyOf (kept (wrapsFrom P line noneKept cs)) ≡ take 4 (different (usedFrom P line [] cs))
+-- from an array that keeps none, after any calls: the next one is answered as by a line never asked before, and those kept are the last four
+-- different keys used, in order of use
+pub record Remembers (P : Profile) (line wraps : List ℕ) (cs : List Call) : Type 0 where
+  pub answers : (c : Call) → cached P line (wrapsFrom P line wraps cs) c .answer ≡ answer P line c
+  pub keys : map keyOf (kept (wrapsFrom P line wraps cs)) ≡ take 4 (different (usedFrom P line [] cs))

@@ -68,6 +68,15 @@ withoutMatches (height conv places width mode) = true
 withoutMatches (drawWindow reader conv places room start end current ms) = noMatches ms
 withoutMatches (drawRow reader conv places room first count width mode current ms) = noMatches ms
 
+-- the bytes of the conversion buffer
+unfoldable pub convOf : Call → ℕ
+convOf (convert conv) = conv
+convOf (read conv places ms) = conv
+convOf (rows conv places numbers width mode) = conv
+convOf (height conv places width mode) = conv
+convOf (drawWindow reader conv places room start end current ms) = conv
+convOf (drawRow reader conv places room first count width mode current ms) = conv
+
 -- the places of the span list; conversion is lent none
 unfoldable pub placesOf : Call → Option ℕ
 placesOf (convert conv) = none

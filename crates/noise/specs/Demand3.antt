@@ -3,20 +3,20 @@
 use mathlib.Core.Path.{_≡_}
 use mathlib.Core.Logic.{_≢_}
 use Prim.Native.Nat.{ℕ, suc, _+_, _≤_}
+use mathlib.Core.Bool.{cond}
 use mathlib.Core.List.{List, [], _∷_, _++_, map}
 use mathlib.Core.Option.{some}
 use lib.ListN.{length, getD, take}
-use lib.Dec.{T}
+use lib.Dec.{T, eqb}
 use Rattle.text.specs.Each.{Each}
-use Rattle.text.specs.Utf8.{noise, allNoise}
-use Rattle.text.specs.Utf8.Noise.{Twin}
+use Rattle.text.specs.Utf8.{noise, allNoise, noisesOf}
 use Rattle.text.specs.Class.{Profile}
 use Rattle.text.specs.Calls.{lent}
 use Rattle.text.specs.Overstrike as overstrike
 use Rattle.spans.specs.Spans.{Record, aRecord}
 use Rattle.spans.specs.Calls.{noRecord}
 use Rattle.drawing.specs.Draw.Noise.{TwinChange, MarkByte}
-use Rattle.noise.specs.Calls.{Call, read, Outcome, answer, withoutMatches, placesOf, changesOf}
+use Rattle.noise.specs.Calls.{Call, read, Outcome, answer, withoutMatches, convOf, placesOf, changesOf}
 pub mod SeparationProof
 pub mod ExchangeProof
 pub mod Document01
@@ -46,18 +46,30 @@ module _ (P : Profile) (first noises second : List ℕ) where
   abbrev pub line : List ℕ
   line = first ++ (noises ++ second)
 
-  -- reading, lent conv bytes and `places` records
+  -- what reading lists of each part, lent conv bytes and `places` records, put together
+  abbrev pub ofBoth : (conv places : ℕ) → List Record
+  ofBoth conv places = together (listed (answer P (read conv places []) first)) (listed (answer P (read conv places []) second))
+
+  -- reading each part is accepted, and the line's spans are those of both
   pub record Separated (conv places : ℕ) : Type 0 where
     pub first-accepted : answer P (read conv places []) first .number ≡ 0
     pub second-accepted : answer P (read conv places []) second .number ≡ 0
-    pub spans : listed (answer P (read conv places []) line) ≡ together (listed (answer P (read conv places []) first)) (listed (answer P (read conv places []) second))
-    -- every other accepted call without matches, conversion apart, leaves these same records, and zeros after them
-    pub others : (c : Call) (n : ℕ) → placesOf c ≡ some n → T (withoutMatches c) → answer P c line .number ≡ 0
-        → answer P c line .spans ≡ lent noRecord n (listed (answer P (read conv places []) line)) 0
+    pub spans : listed (answer P (read conv places []) line) ≡ ofBoth conv places
 
-  -- where reading the line is accepted, it is separated
+  -- the call c with n places for spans: reading the line with its sizes is accepted and separated, and c leaves these same records, and zeros after them
+  pub record SeparatedCall (c : Call) (n : ℕ) : Type 0 where
+    pub read-accepted : answer P (read (convOf c) n []) line .number ≡ 0
+    pub separated : Separated (convOf c) n
+    pub spans : answer P c line .spans ≡ lent noRecord n (ofBoth (convOf c) n) 0
+
+  pub record SeparatedLine : Type 0 where
+    -- where reading the line is accepted, it is separated
+    pub reading : (conv places : ℕ) → answer P (read conv places []) line .number ≡ 0 → Separated conv places
+    -- and every other accepted call on this line without matches, conversion apart
+    pub others : (c : Call) (n : ℕ) → placesOf c ≡ some n → T (withoutMatches c) → answer P c line .number ≡ 0 → SeparatedCall c n
+
   abbrev pub Separation : Type 0
-  Separation = 1 ≤ length noises → T (allNoise noises) → (conv places : ℕ) → answer P (read conv places []) line .number ≡ 0 → Separated conv places
+  Separation = 1 ≤ length noises → T (allNoise noises) → SeparatedLine
 
 -- ---- exchange: two lines of equal length that differ only at places where both hold a noise byte
 
@@ -65,14 +77,26 @@ pub record Exchanged (s t : List ℕ) : Type 0 where
   pub length : length s ≡ length t
   pub differ : (i : ℕ) → getD s i 0 ≢ getD t i 0 → T (noise (getD s i 0)) × T (noise (getD t i 0))
 
+-- a byte of each converted line: the same, or the noise bytes that the lines s and t hold at one place
+pub data ExchangedByte (s t : List ℕ) : ℕ → ℕ → Type 0 where
+  same : {b : ℕ} → ExchangedByte s t b b
+  exchanged : (i : ℕ) → T (noise (getD s i 0)) → T (noise (getD t i 0)) → ExchangedByte s t (getD s i 0) (getD t i 0)
+
+-- a call leaves the noise bytes of its line, all of them in order, in the conversion buffer; none where it is refused
+abbrev pub OwnNoises : Profile → Call → List ℕ → Type 0
+OwnNoises P c s = noisesOf (answer P c s .conv) ≡ cond (eqb (answer P c s .number) 0) (noisesOf s) []
+
 -- what the call c answers to the lines s and t
 pub record Alike (P : Profile) (c : Call) (s t : List ℕ) : Type 0 where
   pub number : answer P c s .number ≡ answer P c t .number
   pub count : answer P c s .count ≡ answer P c t .count
   pub spans : answer P c s .spans ≡ answer P c t .spans
   pub rows : answer P c s .rows ≡ answer P c t .rows
-  -- converted lines, byte by byte: the same, or both noise
-  pub conv : Twin (answer P c s .conv) (answer P c t .conv)
+  -- converted lines differ at most in the noise bytes exchanged: byte by byte the same, or the pair at one place of the lines
+  pub conv : Each (ExchangedByte s t) (answer P c s .conv) (answer P c t .conv)
+  -- and each holds the noise bytes of its own line
+  pub first-noises : OwnNoises P c s
+  pub second-noises : OwnNoises P c t
   -- changes, one by one: the same, or the same clipping of the marks of the noise bytes at one place of the two converted lines
   pub changes : Each (TwinChange P (overstrike.convert P s) (overstrike.convert P t)) (changesOf P c s) (changesOf P c t)
   -- change lists, byte by byte: the same, or the same hexadecimal digit of those marks, each list showing its own line's

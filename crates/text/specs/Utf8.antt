@@ -163,3 +163,9 @@ unfoldable pub allNoise : List ℕ → Bool
 unfolding noise
 allNoise [] = true
 allNoise (n ∷ ns) = noise n && allNoise ns
+
+-- the noise bytes of a line, in order
+unfoldable pub noisesOf : List ℕ → List ℕ
+unfolding noise
+noisesOf [] = []
+noisesOf (b ∷ s) = let further : List ℕ = noisesOf s in cond (noise b) (b ∷ further) further

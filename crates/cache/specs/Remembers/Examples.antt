@@ -1,11 +1,26 @@
--- Calls in turn, and what is kept after them, computed.
+-- Arrays that keep none; calls in turn, and what is kept after them, computed.
 use Prim.Native.Nat.{ℕ}
 use mathlib.Core.List.{List, [], _∷_, map}
 use mathlib.Core.Path.{_≡_, refl}
-use lib.ListN.{replicate, take}
+use lib.ListN.{replicate, take, length-replicate}
 use Rattle.text.specs.Width.{profile01}
 use Rattle.cache.specs.Wraps.{Key, key, keyOf, kept}
-use Rattle.cache.specs.Remembers.{Call, rows, height, noneKept, cached, wrapsFrom}
+use Rattle.cache.specs.Remembers.{Call, rows, height, NoneKept, cached, wrapsFrom}
+
+abbrev zeros : List ℕ
+zeros = replicate 8212 0
+
+-- the largest numbers, bytes FF throughout
+abbrev largest : List ℕ
+largest = replicate 8212 18446744073709551615
+
+pub zeros-none : NoneKept zeros
+unfolding kept
+zeros-none = record { size = length-replicate {A = ℕ} 8212 0; none = refl }
+
+pub largest-none : NoneKept largest
+unfolding kept
+largest-none = record { size = length-replicate {A = ℕ} 8212 18446744073709551615; none = refl }
 
 unfoldable abcdef : List ℕ
 abcdef = 0x61 ∷ 0x62 ∷ 0x63 ∷ 0x64 ∷ 0x65 ∷ 0x66 ∷ []
@@ -19,14 +34,23 @@ h width mode = height 48 1 width mode
 abbrev k : (width mode : ℕ) → Key
 k width mode = key 0 width mode
 
-unfoldable keysAfter : List ℕ → List Call → List Key
+unfoldable keysFrom : (wraps line : List ℕ) → List Call → List Key
 unfolding wrapsFrom kept profile01
-keysAfter line cs = map keyOf (kept (wrapsFrom profile01 line noneKept cs))
+keysFrom wraps line cs = map keyOf (kept (wrapsFrom profile01 line wraps cs))
+
+unfoldable keysAfter : List ℕ → List Call → List Key
+unfolding keysFrom
+keysAfter line cs = keysFrom zeros line cs
 
 -- a use moves its key to the front
 moved : keysAfter abcdef (r 1 1 ∷ r 2 1 ∷ r 3 1 ∷ r 4 1 ∷ h 1 1 ∷ r 5 1 ∷ []) ≡ k 5 1 ∷ k 1 1 ∷ k 4 1 ∷ k 3 1 ∷ []
 unfolding keysAfter abcdef
 moved = refl
+
+-- over whatever stood there
+over-largest : keysFrom largest abcdef (r 1 1 ∷ r 2 1 ∷ h 1 1 ∷ []) ≡ k 1 1 ∷ k 2 1 ∷ []
+unfolding keysFrom abcdef
+over-largest = refl
 
 -- calls refused 5 and, of a kept key, 6: no uses
 refused : keysAfter abcdef (r 1 1 ∷ r 2 1 ∷ r 3 1 ∷ r 4 1 ∷ r 65536 1 ∷ rows 48 1 10 1 1 ∷ r 5 1 ∷ []) ≡ k 5 1 ∷ k 4 1 ∷ k 3 1 ∷ k 2 1 ∷ []
@@ -53,6 +77,6 @@ unfolding keysAfter
 enough = refl
 
 -- a kept key is answered from what is kept, whatever the line
-another : take 4 (cached profile01 [] (wrapsFrom profile01 abcdef noneKept (r 4 1 ∷ [])) (r 4 1) .answer .rows) ≡ 0 ∷ 4 ∷ 4 ∷ 6 ∷ []
+another : take 4 (cached profile01 [] (wrapsFrom profile01 abcdef zeros (r 4 1 ∷ [])) (r 4 1) .answer .rows) ≡ 0 ∷ 4 ∷ 4 ∷ 6 ∷ []
 unfolding cached wrapsFrom profile01 abcdef
 another = refl

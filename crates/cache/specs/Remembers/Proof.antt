@@ -5,7 +5,7 @@ use mathlib.Core.Bool.{cond, _&&_}
 use mathlib.Core.List.{List, [], _∷_, map}
 use mathlib.Core.Option.{Option, none, some}
 use mathlib.Core.Path.{_≡_, refl, sym, ap, _∙_}
-use lib.ListN.{length, take, length-take, length-replicate}
+use lib.ListN.{length, take, length-take}
 use lib.Dec.{eqb, leb, eqb·suc-zero}
 use borrow.Author.Tests.{leb-true, le-leb}
 use Rattle.buffer.specs.Sink.{written}
@@ -25,7 +25,7 @@ use Rattle.cache.specs.Wraps.Laws.{kept-well, new-block-low}
 use Rattle.cache.specs.Wraps.Blocks.{block-length, block-here, block-other, heads-length, heads-blocks}
 use Rattle.cache.specs.Wraps.Use.{found-has, Free, behind, part-behind, kept-after, free-found, free-new}
 use Rattle.cache.specs.Calls.{Wrap, wrapFor, wrapsAfter, unlessRefused, cachedRowsCall, cachedHeightCall}
-use Rattle.cache.specs.Remembers.{Call, different, keyUsed, unwrappedHeight, noneKept, answer, cached, isUse, usedFrom, wrapsFrom, Remembers}
+use Rattle.cache.specs.Remembers.{Call, different, keyUsed, unwrappedHeight, NoneKept, answer, cached, isUse, usedFrom, wrapsFrom, Remembers}
 use Rattle.rows.specs.Rows.Laws.{rows-some}
 use Rattle.cache.specs.Remembers.Keys.{last-four, keys-without, keys-take, heads-apart}
 
@@ -147,11 +147,11 @@ module _ (P : Profile) (line : List ℕ) where
   invariant-calls wraps us [] g = g
   invariant-calls wraps us (c ∷ cs) g = invariant-calls (cached P line wraps c .wraps) (cond (isUse P line c) (keyUsed c ∷ us) us) cs (invariant-call wraps us g c)
 
-  invariant-none : Invariant noneKept []
-  unfolding kept different
-  invariant-none = record { size = length-replicate {A = ℕ} 8212 0; keys = refl; right = all-nil }
+  invariant-none : (wraps : List ℕ) → NoneKept wraps → Invariant wraps []
+  unfolding different
+  invariant-none wraps n = record { size = n .size; keys = rw (n .none); right = rw (n .none) all-nil }
 
-pub remembers : (P : Profile) (line : List ℕ) (cs : List Call) → Remembers P line cs
-remembers P line cs =
-    let g = invariant-calls P line noneKept [] cs (invariant-none P line) in
-    record { answers = same-answer P line (wrapsFrom P line noneKept cs) (usedFrom P line [] cs) g; keys = g .keys }
+pub remembers : (P : Profile) (line wraps : List ℕ) → NoneKept wraps → (cs : List Call) → Remembers P line wraps cs
+remembers P line wraps n cs =
+    let g = invariant-calls P line wraps [] cs (invariant-none P line wraps n) in
+    record { answers = same-answer P line (wrapsFrom P line wraps cs) (usedFrom P line [] cs) g; keys = g .keys }

@@ -1,17 +1,34 @@
--- Conversion: noise bytes separate, and lines that differ only in which noise bytes they hold have converted lines that do so too.
-use mathlib.Core.Path.{_≡_, refl, ap, ap₂, _∙_}
+-- Conversion: noise bytes stay, each in its turn; they separate; and lines that differ only in which noise bytes they hold have converted lines that do so too.
+use mathlib.Core.Path.{_≡_, refl, sym, ap, ap₂, _∙_}
 use Prim.Native.Nat.{ℕ}
+use mathlib.Core.Bool.{cond}
 use mathlib.Core.List.{List, [], _∷_, _++_}
 use lib.Dec.{T}
-use Rattle.text.specs.Each.{Each, nil, cons, each-same, each-append}
-use Rattle.text.specs.Utf8.{decode, Piece, run, damaged, runs, bytesOf, noise, allNoise}
+use Rattle.text.specs.Each.{Each, nil, cons, each-same, each-append, All, all-nil, all-cons}
+use Rattle.text.specs.Utf8.{decode, Piece, run, damaged, runs, bytesOf, noise, allNoise, noisesOf}
+use Rattle.text.specs.Utf8.Laws.{decodedBytes-decode, pieceBytes, pieceBytes-runs}
+use Rattle.text.specs.Utf8.Valid.{ValidPiece, runs-valid}
 use Rattle.text.specs.Utf8.Runs.{runs-nil}
-use Rattle.text.specs.Utf8.Noise.{noise-cons, same, exchanged, Twin, TwinPiece, runs-noise, runs-twin}
+use Rattle.text.specs.Utf8.Noise.{NoNoise, text-none, low-none, noises-append, noises-none, noise-cons, same, exchanged, Twin, TwinPiece, runs-noise, runs-twin}
 use Rattle.text.specs.Class.{Profile}
 use Rattle.text.specs.Overstrike.{convertRun, convertPieces, convert}
 use Rattle.text.specs.Overstrike.Laws.{convert-pieces, convertPieces-append}
+use Rattle.text.specs.Overstrike.Bytes.{run-bytes}
 
 module _ (P : Profile) where
+  noises-pieces : {ps : List Piece} → All ValidPiece ps → noisesOf (convertPieces P ps) ≡ noisesOf (pieceBytes ps)
+  unfolding convertPieces pieceBytes noisesOf
+  noises-pieces all-nil = refl
+  noises-pieces (all-cons (ValidPiece.valid {s = s} v) e) =
+      noises-append (bytesOf (convertRun P s)) _
+      ∙ ap₂ (λ (x y : List ℕ). x ++ y) (noises-none (run-bytes NoNoise low-none P s (text-none v)) ∙ sym (noises-none (text-none v))) (noises-pieces e)
+      ∙ sym (noises-append (bytesOf s) _)
+  noises-pieces (all-cons (ValidPiece.ill {b = b}) e) = ap (λ (l : List ℕ). cond (noise b) (b ∷ l) l) (noises-pieces e)
+
+  -- the noise bytes of a converted line are, in order, those of its line
+  pub convert-noises : (s : List ℕ) → noisesOf (convert P s) ≡ noisesOf s
+  convert-noises s = rw (convert-pieces P s) (noises-pieces (runs-valid s) ∙ ap noisesOf (pieceBytes-runs (decode s) ∙ decodedBytes-decode s))
+
   pub convert-noise : (a : List ℕ) (n : ℕ) (t : List ℕ) → T (noise n) → convert P (a ++ n ∷ t) ≡ convert P a ++ n ∷ convert P t
   unfolding convertPieces
   convert-noise a n t h =

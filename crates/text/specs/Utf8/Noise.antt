@@ -4,13 +4,15 @@ use Prim.Native.Nat.{ℕ, zero, suc, _≤_, _<_}
 use native.Mathlib.Omega.{arith}
 use mathlib.Core.Bool.{Bool, true, false, cond, _&&_, _||_}
 use mathlib.Core.List.{List, [], _∷_, _++_}
-use lib.ListN.{length, take}
+use lib.ListN.{length, take, replicate}
+use lib.Seq.{take-length}
 use lib.Dec.{T, leb, ltb, eqb, leb→le, ltb→lt, eqb→eq}
 use Rattle.text.specs.Tests.{and-T, or-T, is-false, true-T, cases}
-use Rattle.text.specs.Each.{Each, nil, cons}
-use Rattle.text.specs.Utf8.{Range, within, table, fits, lengthIn, sequence, decodedAs, decodeFrom, decode, Decoded, wellFormed, illFormed, scalar, Scalar, Piece, run, damaged, addToRun, runs, noise, allNoise}
+use Rattle.text.specs.Each.{Each, nil, cons, All, all-nil, all-cons, all-append}
+use Rattle.text.specs.Utf8.{Range, within, table, fits, lengthIn, sequence, decodedAs, decodeFrom, decode, Decoded, wellFormed, illFormed, scalar, Scalar, Piece, run, damaged, addToRun, runs, bytesOf, noise, allNoise, noisesOf}
 use Rattle.text.specs.Utf8.Laws.{decode-bad}
 use Rattle.text.specs.Utf8.Separation.{decode-apart}
+use Rattle.text.specs.Utf8.Valid.{Valid, valid-sequence}
 
 -- ---- ranges in which no noise byte lies
 
@@ -111,6 +113,59 @@ runs-bad (illFormed b ∷ us) n vs = ap (λ (l : List Piece). damaged b ∷ l) (
 -- the runs of the parts, and the noise byte between them
 pub runs-noise : (a : List ℕ) (n : ℕ) (t : List ℕ) → T (noise n) → runs (decode (a ++ n ∷ t)) ≡ runs (decode a) ++ damaged n ∷ runs (decode t)
 runs-noise a n t h = ap runs (decode-noise a n t h) ∙ runs-bad (decode a) n (decode t)
+
+-- ---- a valid text holds no noise byte
+
+abbrev pub NoNoise : ℕ → Type 0
+NoNoise b = noise b ≡ false
+
+within-none : (r : Range) (b : ℕ) → T (clean r) → T (within r b) → NoNoise b
+within-none r b c w = is-false (noise b) (λ t. absurd (rw (within-noise r b c t) at w))
+
+fits-none : (row : List Range) (s : List ℕ) → T (cleanRow row) → T (fits row s) → All NoNoise (take (length row) s)
+unfolding fits cleanRow
+fits-none [] s c w = all-nil
+fits-none (r ∷ rs) [] c w = absurd w
+fits-none (r ∷ rs) (b ∷ s) c w =
+    let p = and-T (clean r) (cleanRow rs) c in
+    let q = and-T (within r b) (fits rs s) w in
+    all-cons (within-none r b (p .0) (q .0)) (fits-none rs s (p .1) (q .1))
+
+lengthIn-none : (rows : List (List Range)) (s : List ℕ) → T (cleanTable rows) → All NoNoise (take (lengthIn rows s) s)
+unfolding lengthIn cleanTable
+lengthIn-none [] s c = all-nil
+lengthIn-none (row ∷ rows) s c =
+    let p = and-T (cleanRow row) (cleanTable rows) c in
+    cases (fits row s) (λ k. rw k (fits-none row s (p .0) (true-T k))) (λ k. rw k (lengthIn-none rows s (p .1)))
+
+scalar-none : (c : Scalar) → Valid c → All NoNoise (c .bytes)
+unfolding sequence
+scalar-none c v = rw (valid-sequence c v .length, take-length (c .bytes)) at (lengthIn-none table (c .bytes) table-clean)
+
+pub text-none : {s : List Scalar} → All Valid s → All NoNoise (bytesOf s)
+unfolding bytesOf
+text-none all-nil = all-nil
+text-none (all-cons {a = c} v e) = all-append (scalar-none c v) (text-none e)
+
+pub low-none : (b : ℕ) → b ≤ 0x7F → NoNoise b
+low-none b h = is-false (noise b) (λ t. let r = noise-range b t in omega arith)
+
+-- ---- the noise bytes of a line
+
+pub noises-append : (s t : List ℕ) → noisesOf (s ++ t) ≡ noisesOf s ++ noisesOf t
+unfolding noisesOf
+noises-append [] t = refl
+noises-append (b ∷ s) t = cases (noise b) (λ e. rw e (ap (λ (l : List ℕ). b ∷ l) (noises-append s t))) (λ e. rw e (noises-append s t))
+
+pub noises-none : {s : List ℕ} → All NoNoise s → noisesOf s ≡ []
+unfolding noisesOf
+noises-none all-nil = refl
+noises-none (all-cons h e) = rw h (noises-none e)
+
+pub noises-zeros : (n : ℕ) → noisesOf (replicate n 0) ≡ []
+unfolding noisesOf noise
+noises-zeros zero = refl
+noises-zeros (suc n) = noises-zeros n
 
 -- ---- exchange
 
