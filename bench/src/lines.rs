@@ -63,6 +63,22 @@ const NOISY: &[u8] =
     b"rx-03 \xFF\xFEsweep 11\xC08204: g\xF5in 41.5 dB\xE6\xBC tune\x80 94\xF8\xF810 \
     MHz \x00\x01 noise\x7F floor\xED\xA0\x80\n";
 
+/// A family of four, joined.
+const FAMILY: &str = "\u{1F468}\u{200D}\u{1F469}\u{200D}\u{1F467}\u{200D}\u{1F466}";
+
+/// A letter with 1,022 marks and a ZWJ: no picture after them joins (GB11), which a look back over
+/// all the marks tells.
+const MARKED: [u8; 2048] = {
+    let (mark, joiner) = ("\u{301}".as_bytes(), "\u{200D}".as_bytes());
+    let mut line = [b'a'; 2048];
+    let mut i = 1;
+    while i < 2048 {
+        line[i] = if i < 2045 { mark[(i - 1) % 2] } else { joiner[i - 2045] };
+        i += 1;
+    }
+    line
+};
+
 /// 16 regional indicators and the 8 backspaces that erase them.
 const CYCLE: [u8; 72] = {
     let indicator = "\u{1F1E6}".as_bytes();
@@ -75,7 +91,7 @@ const CYCLE: [u8; 72] = {
     cycle
 };
 
-pub static KINDS: [Kind; 28] = [
+pub static KINDS: [Kind; 30] = [
     common("plain log line", 3.0, &[LOG]),
     common("coloured, with a link", 3.0, &[COLOURED]),
     common("man page", 2.0, &[MAN_PAGE]),
@@ -107,6 +123,11 @@ pub static KINDS: [Kind; 28] = [
         &["\u{1F1E6}".as_bytes(), "\u{1F1E6}x\u{8}\u{8}".as_bytes()],
     ),
     hostile("indicators, cycles", &["\u{1F1E6}".as_bytes(), &CYCLE]),
+    hostile("joined emoji", &[FAMILY.as_bytes()]),
+    hostile(
+        "marks, ZWJ, pictures erased",
+        &[&MARKED, "\u{1F469}x\u{8}\u{8}".as_bytes()],
+    ),
     hostile("ESC", &[b"\x1B"]),
     hostile("ESC [ 1 ;", &[b"\x1B[1;1;1;1;1;1;1"]),
     hostile("ESC ] 8 ; ; u", &[b"\x1B]8;;u"]),

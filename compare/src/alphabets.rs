@@ -85,4 +85,11 @@ pub const SHIFTED: Alphabet = &[
 pub const CLASSES: Alphabet = &[
     b"a", b"\x08", b"\xCC\x81", b"\xE2\x80\x8D", b"\xE1\x84\x80", b"\xE1\x85\xA1",
     b"\xE1\x86\xA8", b"\xEA\xB0\x80", b"\xEA\xB0\x81", b"\xF0\x9F\x87\xA6", b"\xE2\x80\x8B",
+    b"\xF0\x9F\x91\xA9",
+];
+
+/// What GB11 asks for, and what comes between.
+#[rustfmt::skip]
+pub const JOINED: Alphabet = &[
+    b"\xF0\x9F\x91\xA9", b"\xE2\x80\x8D", b"\xCC\x81", b"a", b"\x08", b"\xFF",
 ];

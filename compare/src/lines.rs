@@ -173,7 +173,7 @@ fn repeating(random: &mut Random, alphabet: Alphabet, len: usize) -> Vec<u8> {
         let stretch_len = random.between(1, 3);
         let mut stretch = of_symbols(random, alphabet, stretch_len);
         if random.percent(20) {
-            stretch = generate::utf8(random.pick(&[0x1F1E6, 0x301, 0x1100, 0x200D, 0x6F22]));
+            stretch = generate::utf8(random.pick(&[0x1F1E6, 0x301, 0x1100, 0x200D, 0x6F22, 0x1F469]));
         }
         let times = random.between(1, len.min(1_500));
         line.extend(stretch.repeat(times));

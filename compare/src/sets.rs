@@ -194,20 +194,22 @@ impl CallSet {
 }
 
 fn convert() -> Vec<CallSet> {
-    use alphabets::{CLASSES, STRUCK as CLUSTERS, STRUCK_BYTES};
+    use alphabets::{CLASSES, JOINED, STRUCK as CLUSTERS, STRUCK_BYTES};
     let call = |_: &mut Random, _: &[u8]| Call::Convert;
     vec![
         CallSet::every("short lines of bytes", short(STRUCK_BYTES, 6), call),
         CallSet::every("short lines of clusters", short(CLUSTERS, 7), call),
         CallSet::every("short lines of classes", short(CLASSES, 6), call),
+        CallSet::every("joined pictures", short(JOINED, 8), call),
         CallSet::every("every scalar", scalars(STRUCK), call),
         CallSet::longest(CLUSTERS, call),
         CallSet::random("random lines", CLUSTERS, call),
+        CallSet::random("random joined pictures", JOINED, call),
     ]
 }
 
 fn read() -> Vec<CallSet> {
-    use alphabets::{CLASSES, LEFT_OUT, LINKS, PARAMETERS, TELLING_BYTES};
+    use alphabets::{CLASSES, JOINED, LEFT_OUT, LINKS, PARAMETERS, TELLING_BYTES};
     let plain = |_: &mut Random, _: &[u8]| calls::reading(Vec::new());
     let matched =
         |random: &mut Random, line: &[u8]| calls::reading(calls::any_matches(random, line));
@@ -220,6 +222,7 @@ fn read() -> Vec<CallSet> {
         CallSet::every("short style orders", short(PARAMETERS, 6), plain),
         CallSet::every("short hyperlinks", short(LINKS, 6), plain),
         CallSet::every("short lines of classes", short(CLASSES, 5), plain),
+        CallSet::every("joined pictures", short(JOINED, 7), plain),
         CallSet::every("every scalar", scalars(READ), plain),
         CallSet::every("sequences of bytes", sequences(), plain),
         CallSet::every("sequences at ESC", orders(), plain),
@@ -235,7 +238,7 @@ fn read() -> Vec<CallSet> {
 
 /// Rows and height.
 fn wrapped(call: &str) -> Vec<CallSet> {
-    use alphabets::{WIDTHS_OF_SPANS, WORDS};
+    use alphabets::{JOINED, WIDTHS_OF_SPANS, WORDS};
     let any = match call {
         "rows" => calls::any_rows,
         _ => calls::any_height,
@@ -247,6 +250,7 @@ fn wrapped(call: &str) -> Vec<CallSet> {
         CallSet::each("short words, each width and mode", words, each.clone()),
         CallSet::each("short spans, each width and mode", spans, each),
         CallSet::every("short words", short(WORDS, 7), any),
+        CallSet::every("joined pictures", short(JOINED, 7), any),
         CallSet::each("every scalar", scalars(WRAPPED), narrow.to_vec()),
         CallSet::longest(WORDS, any),
         CallSet::random("random lines", WORDS, any),
@@ -285,6 +289,7 @@ fn drawn(call: &str, any: AnyCall) -> Vec<CallSet> {
         CallSet::every("short lines", short(SPANS, 5), any),
         CallSet::every("short lines of attributes", short(ATTRIBUTES, 5), any),
         CallSet::every("shifted columns", short(SHIFTED, 6), any),
+        CallSet::every("joined pictures", short(JOINED, 6), any),
         CallSet::each("short lines, one match", short(SEARCHED, 3), one),
         CallSet::each("short lines, two matches", short(SEARCHED, 2), two),
         CallSet::each("line drawing of each byte", line_drawn(), searched),

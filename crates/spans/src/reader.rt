@@ -4,6 +4,7 @@ use super::sequence::Sequence;
 use super::sequence::sequence_at;
 use buffer::byte_at;
 use text::BytePlace;
+use text::class::EXTENDED_PICTOGRAPHIC;
 use text::class::LV;
 use text::class::LVT;
 use text::class::OTHER;
@@ -78,11 +79,11 @@ fn printable_end(profile: Profile, t: &[u8], at: usize) -> usize
     at
 }
 
-// Is it class LV, LVT or other? No rule joins two scalars of these classes, and none of them is without width.
+// Is it class LV, LVT, other or Extended_Pictographic? No rule joins two scalars of these classes, and none of them is without width.
 fn is_syllable_or_other(class: u8) -> bool
     ensures { λ r. ⌜ r ≡ syllableOrOther class ⌝ }
 {
-    (class == LV) | ((class == LVT) | (class == OTHER))
+    (class == LV) | ((class == LVT) | ((class == OTHER) | (class == EXTENDED_PICTOGRAPHIC)))
 }
 
 // Past scalars of these classes, in the same way.

@@ -75,3 +75,16 @@ back-end s q i e h = sym (e ∙ back-zero s i h)
 
 pub back-inside : (s : List ℕ) (q j : ℕ) → q < length s → (q ≢ 0) → j ≡ back s q → j < length s
 back-inside s q j h z e = omega (arith, h, e, back-lt s q (omega (arith, z)))
+
+module _ (s : List ℕ) (i j : ℕ) (h : 0 < i) (b : j ≡ back s i) where
+  pub back-less : j < i
+  back-less = rw b (back-lt s i h)
+
+  pub back-room : i ≤ length s → j < length s
+  back-room l = let k : j < i = back-less in omega (arith, l, k)
+
+  pub back-fits : i ≤ length s → j ≤ length s
+  back-fits l = let k : j < i = back-less in omega (arith, l, k)
+
+pub back-within : (s : List ℕ) (q j : ℕ) → q < length s → j ≡ back s q → j ≤ length s
+back-within s q j h b = let k = back-le s q in omega (arith, h, b, k)

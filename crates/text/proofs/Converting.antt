@@ -29,7 +29,7 @@ use Rattle.text.specs.declared.utf8.Sequence.{Sequence}
 use Rattle.text.specs.declared.overstrike.Conversion.{Conversion}
 use Rattle.text.specs.declared.overstrike.Progress.{Progress}
 use Rattle.text.specs.declared.class.Profile as code
-use Rattle.text.proofs.RegionalIndicators.{parity-zero}
+use Rattle.text.proofs.RegionalIndicators.{known-zero}
 use Rattle.text.proofs.Runs.{Head, no-head, part-slice, run-drop, run-head, size-reverse}
 use Rattle.text.proofs.OverstrikeSteps.{front-size, front-text, part-none}
 use Rattle.text.proofs.Texts.{run-prefix}
@@ -105,7 +105,7 @@ no-cluster P line p e i n = first-none P (laws.run-valid (drop p line)) (omega (
 
 -- before the cluster at p: what is left to do leads to the run's last state
 pub record Running (P : Profile) (line l : List ℕ) (p : ℕ) (st : Conversion) : Type 0 where
-  pub sound : Sound line l st
+  pub sound : Sound P line l st
   pub here : p ≤ length line
   pub run : p + size (runOf (decode (drop p line))) ≡ size (runOf (decode line))
   pub work : steps P (stateOf line l st) (clusters P (runOf (decode (drop p line)))) ≡ steps P (state [] none normal normal) (clusters P (runOf (decode line)))
@@ -119,7 +119,7 @@ start-state line l = refl
 pub running-begin : (P : Profile) (line l : List ℕ) → 8 * length line ≤ length l → Running P line l 0 (conversion 0 0 0 0 plain plain 0)
 unfolding runOf decode decodeFrom bytesOf
 running-begin P line l h = record {
-  sound = record { inside = omega arith; valid = refl; part = part-none line; parity = parity-zero [] };
+  sound = record { inside = omega arith; valid = refl; part = part-none line; known = known-zero P [] };
   here = omega arith;
   run = omega arith;
   work = ap (λ (t : State). steps P t (clusters P (runOf (decode line)))) (start-state line l);
@@ -131,13 +131,13 @@ module _ (P : Profile) (line l : List ℕ) (p e : ℕ) (st : Conversion) (w : Ru
   cluster : ClusterAt P line p e
   cluster = cluster-at P line p e h i n
 
-  pub running-ready : StepReady line l st p e
+  pub running-ready : StepReady P line l st p e
   running-ready = record { sound = w .sound; upper = cluster .part; room = omega (arith, w .small, w .room) }
 
   pub running-less : length line - e < length line - p
   running-less = omega (arith, cluster .ends, cluster .full)
 
-  module _ (l′ : List ℕ) (r : Conversion) (long : length l′ ≡ length l) (s : Stepped line l′ r (step P (stateOf line l st) (partOf line p e))) where
+  module _ (l′ : List ℕ) (r : Conversion) (long : length l′ ≡ length l) (s : Stepped P line l′ r (step P (stateOf line l st) (partOf line p e))) where
     pub running-turn : Running P line l′ e r
     unfolding steps
     running-turn =
@@ -156,7 +156,7 @@ module _ (P : Profile) (line l : List ℕ) (p e : ℕ) (st : Conversion) (w : Ru
 -- the run's end: of the line, or at a damaged byte
 module _ (P : Profile) (line l : List ℕ) (p : ℕ) (st : Conversion) (w : Running P line l p st) where
   pub running-finish : FinishReady line l st
-  running-finish = record { sound = w .sound; room = omega (arith, w .small, w .here, w .room) }
+  running-finish = record { profile = P; sound = w .sound; room = omega (arith, w .small, w .here, w .room) }
 
   module _ (past : runOf (decode (drop p line)) ≡ []) where
     last-state : stateOf line l st ≡ steps P (state [] none normal normal) (clusters P (runOf (decode line)))

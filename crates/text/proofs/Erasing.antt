@@ -1,30 +1,31 @@
 -- A backspace on the result so far.
-use Prim.Native.Nat.{_+_, _-_, _<_, _≤_, ℕ}
+use Prim.Native.Nat.{_%_, _+_, _-_, _/_, _<_, _≤_, ℕ}
 use native.Mathlib.Numerals.{add-one}
 use native.Mathlib.Omega.{arith}
-use mathlib.Core.Bool.{Bool, cond, false, true}
+use mathlib.Core.Bool.{Bool, _&&_, cond, false, true}
 use mathlib.Core.List.{List, [], _++_, _∷_, reverse, reverse-reverse, reverseAux, reverseAux-append, reverseAux-eq}
 use mathlib.Core.Logic.{_≢_}
 use mathlib.Core.Path.{_∙_, _≡_, ap, refl, sym}
 use lib.Dec.{eqb, leb, ltb}
 use lib.ListN.{drop, getD, length, length-set, set, take}
 use lib.Seq.{length-take-le, take-all, take-length, take-suc-set, take-take}
-use borrow.Author.Tests.{eq-eqb, eqb-true, le-ltb, lt-ltb, ltb-false, ne-eqb}
-use Rattle.text.specs.Backward.{Erased, ParityPlace, ErasedTo, back, backward, betweenIndicators, endsInPair, parityAfter, parityBefore, indicatorAt, withoutLast}
+use borrow.Author.Tests.{eq-eqb, eqb-false, eqb-true, le-ltb, lt-ltb, ltb-false, ne-eqb}
+use Rattle.text.specs.Backward.{Erased, KnownPlace, ErasedTo, back, backward, afterZwj, betweenIndicators, endsInPair, knownBefore, indicatorAt, needsContext, withoutLast}
 use Rattle.text.specs.Class.{Profile, isControl, number}
-use Rattle.text.specs.Cluster.{Context, context, joins}
+use Rattle.text.specs.Cluster.{Context, context, joins, start}
 use Rattle.text.specs.Utf8.Code.{firstSequence, sequenceOf, size, whole}
 use Rattle.text.specs.Class.Code.{profileOf}
 use Rattle.text.specs.Overstrike.{backspace, eraseFrom}
-use Rattle.text.specs.Overstrike.Code.{BackReady, Front, FrontParity}
+use Rattle.text.specs.Overstrike.Code.{BackReady, Front, FrontKnown}
 use Rattle.text.specs.Overstrike.Laws.{push-reverse}
+use Rattle.text.specs.Scalar.{packedAt}
 use Rattle.text.specs.Segmentation.{neverJoinsBefore}
 use Rattle.text.specs.Tests.{and-T, cases, is-true, true-T}
 use Rattle.text.specs.Utf8.{Scalar, ascii, bytesOf, decode, decodeFrom, runOf}
 use Rattle.text.specs.declared.backward.Erasure.{Erasure}
 use Rattle.text.specs.declared.utf8.Sequence.{Sequence}
-use Rattle.text.proofs.BackwardWalk.{last-lone}
-use Rattle.text.proofs.RegionalIndicators.{parity-front, parity-more, parity-zero, indicator-back, indicator-class, indicator-control, pair-by, pair-front, pair-odd}
+use Rattle.text.proofs.BackwardWalk.{class-of, last-lone}
+use Rattle.text.proofs.RegionalIndicators.{known-front, known-more, known-zero, indicator-back, indicator-class, indicator-control, pair-by, pair-odd, start-behind, start-even}
 use Rattle.text.proofs.Runs.{back-scalar, run-drop, run-head, run-inside, size-reverse}
 use Rattle.text.proofs.Texts.{run-append, run-prefix, whole-append, whole-prefix}
 use Rattle.text.specs.declared.class.Profile as code
@@ -98,74 +99,90 @@ module _ (P : Profile) (t : List ℕ) (w : whole t) (some : length t ≢ 0) (q :
           added = λ h. absurd (omega (arith, kept-inside));
         }
 
--- ---- parity places
-
--- the versions of the profile agree on the regional indicators
-same-context : (v u : code.Profile) (s : List Scalar) → context (profileOf v) s ≡ context (profileOf u) s
-unfolding profileOf
-same-context v u s = refl
+-- ---- known places
 
 module _ (v : code.Profile) (t : List ℕ) (w : whole t) (some : length t ≢ 0) (q : ℕ) (eq : q ≡ size (withoutLast (profileOf v) (reverse (runOf (decode t))))) where
   P : Profile
   P = profileOf v
 
-  parity-left : (left : List Scalar) (c : Scalar) (es : List Scalar) → runOf (decode t) ≡ reverseAux left (c ∷ es) → size left ≡ q → joins P left c ≡ false → 4 ≤ q
-      → indicatorAt (profileOf v) t q ≡ true → indicatorAt (profileOf v) t (q - 4) ≡ true → context P left .odd ≡ false
+  known-left : (left : List Scalar) (c : Scalar) (es : List Scalar) → runOf (decode t) ≡ reverseAux left (c ∷ es) → size left ≡ q → joins P left c ≡ false → 4 ≤ q
+      → indicatorAt (profileOf v) t q ≡ true → indicatorAt (profileOf v) t (q - 4) ≡ true → context P left ≡ start
   unfolding P size
-  parity-left [] c es p s j l a b = absurd (omega (arith, s, l))
-  parity-left (d ∷ rest) c es p s j l a b =
+  known-left [] c es p s j l a b = absurd (omega (arith, s, l))
+  known-left (d ∷ rest) c es p s j l a b =
       let x : q - 4 ≡ size rest = sym (indicator-back (profileOf v) t (q - 4) b q l refl) ∙ ap (back t) (sym s) ∙ back-scalar d rest (c ∷ es) t p in
       let rc : number (profileOf v .class (c .code)) ≡ 10 = indicator-class (profileOf v) t q a c (d ∷ rest) es p (sym s) in
       let rd : number (profileOf v .class (d .code)) ≡ 10 = indicator-class (profileOf v) t (q - 4) b d rest (c ∷ es) p x in
-      sym (pair-odd (profileOf v) d rest c rd rc) ∙ j
+      start-even (profileOf v) d rest rd (sym (pair-odd (profileOf v) d rest c rd rc) ∙ j)
 
-  parity-between : betweenIndicators (profileOf v) t q ≡ true → ParityPlace (take q t) q
+  zwj-left : (left : List Scalar) (c : Scalar) (es : List Scalar) → runOf (decode t) ≡ reverseAux left (c ∷ es) → size left ≡ q → joins P left c ≡ false → (q ≢ 0)
+      → packedAt P t (back t q) / 8 % 16 ≡ 4 → packedAt P t q / 8 % 16 ≡ 12 → context P left ≡ start
+  unfolding P size
+  zwj-left [] c es p s j l a b = absurd (l (sym s))
+  zwj-left (d ∷ rest) c es p s j l a b =
+      let x : back t q ≡ size rest = ap (back t) (sym s) ∙ back-scalar d rest (c ∷ es) t p in
+      start-behind (profileOf v) d rest c (sym (class-of (profileOf v) t (back t q) 4 d rest (c ∷ es) p x (sym a))) (sym (class-of (profileOf v) t q 12 c (d ∷ rest) es p (sym s) (sym b))) j
+
+  -- the place of the last cluster, where the context before it is that of a text's start
+  known-at : ((c : Scalar) (es : List Scalar) → runOf (decode t) ≡ reverseAux (withoutLast P (reverse (runOf (decode t)))) (c ∷ es) → joins P (withoutLast P (reverse (runOf (decode t)))) c ≡ false → context P (withoutLast P (reverse (runOf (decode t)))) ≡ start) → KnownPlace (profileOf v) (take q t) q
   unfolding P
-  parity-between h =
+  known-at k =
+      let f = first (profileOf v) (reverse (runOf (decode t))) [] (reverse (runOf (decode t))) (runOf (decode t)) (sym (reverse-reverse (runOf (decode t)))) (rev-some t w some) in
+      let left : List Scalar = withoutLast (profileOf v) (reverse (runOf (decode t))) in
+      let p : runOf (decode t) ≡ reverse left ++ (f .c ∷ f .es) = f .parts ∙ reverseAux-eq left (f .c ∷ f .es) in
+      let s : size (reverse left) ≡ q = size-reverse left ∙ sym eq in
+      let x : runOf (decode (take q t)) ≡ reverse left = rw s at (run-prefix (reverse left) (f .c ∷ f .es) t p .0) in
+      record { rest = left; es = []; parts = x; place = sym eq; known = k (f .c) (f .es) (f .parts) (f .begins) }
+
+  known-between : betweenIndicators (profileOf v) t q ≡ true → KnownPlace (profileOf v) (take q t) q
+  unfolding P
+  known-between h =
       cases (ltb q 4)
       (λ y. absurd (true-T (rw y at h)))
       (λ y.
       let ab = and-T (indicatorAt (profileOf v) t q) (indicatorAt (profileOf v) t (q - 4)) (true-T (rw y at h)) in
-      let f = first (profileOf v) (reverse (runOf (decode t))) [] (reverse (runOf (decode t))) (runOf (decode t)) (sym (reverse-reverse (runOf (decode t)))) (rev-some t w some) in
-      let left : List Scalar = withoutLast (profileOf v) (reverse (runOf (decode t))) in
-      let o : context (profileOf v) left .odd ≡ false = parity-left left (f .c) (f .es) (f .parts) (sym eq) (f .begins) (ltb-false q 4 y) (is-true _ (ab .0)) (is-true _ (ab .1)) in
-      let p : runOf (decode t) ≡ reverse left ++ (f .c ∷ f .es) = f .parts ∙ reverseAux-eq left (f .c ∷ f .es) in
-      let s : size (reverse left) ≡ q = size-reverse left ∙ sym eq in
-      let x : runOf (decode (take q t)) ≡ reverse left = rw s at (run-prefix (reverse left) (f .c ∷ f .es) t p .0) in
-      record { rest = left; es = []; parts = x; place = sym eq; parity = λ u. ap (λ (k : Context). k .odd) (same-context u v left) ∙ o })
+      known-at (λ c es p j. known-left _ c es p (sym eq) j (ltb-false q 4 y) (is-true _ (ab .0)) (is-true _ (ab .1))))
 
-  parity-choice : (i r : ℕ) → ParityPlace t i → r ≡ parityBefore (profileOf v) t q i → ParityPlace (take q t) r
-  parity-choice i r e ch =
+  known-after-zwj : afterZwj (profileOf v) t q ≡ true → KnownPlace (profileOf v) (take q t) q
+  unfolding P
+  known-after-zwj h =
+      cases (eqb q 0)
+      (λ y. absurd (true-T (rw y at h)))
+      (λ y.
+      let ab = and-T (eqb (packedAt (profileOf v) t (back t q) / 8 % 16) 4) (eqb (packedAt (profileOf v) t q / 8 % 16) 12) (true-T (rw y at h)) in
+      known-at (λ c es p j. zwj-left _ c es p (sym eq) j (eqb-false q 0 y) (eqb-true _ 4 (is-true _ (ab .0))) (eqb-true _ 12 (is-true _ (ab .1)))))
+
+  known-needed : needsContext (profileOf v) t q ≡ true → KnownPlace (profileOf v) (take q t) q
+  known-needed h = cases (betweenIndicators (profileOf v) t q) (λ b. known-between b) (λ b. known-after-zwj (rw b at h))
+
+  known-choice : (i r : ℕ) → KnownPlace (profileOf v) t i → r ≡ knownBefore (profileOf v) t q i → KnownPlace (profileOf v) (take q t) r
+  known-choice i r e ch =
       cases (ltb q i)
-      (λ l. cases (betweenIndicators (profileOf v) t q)
-      (λ b. rw (rw (l, b) at ch) (parity-between b))
-      (λ b. rw (rw (l, b) at ch) (parity-zero (take q t))))
+      (λ l. cases (needsContext (profileOf v) t q)
+      (λ b. rw (rw (l, b) at ch) (known-needed b))
+      (λ b. rw (rw (l, b) at ch) (known-zero (profileOf v) (take q t))))
       (λ l. cases (leb (q - i) 128)
-      (λ n. rw (rw (l, n) at ch) (parity-front t q i (ltb-false q i l) e))
-      (λ n. cases (betweenIndicators (profileOf v) t q)
-      (λ b. rw (rw (l, n, b) at ch) (parity-between b))
-      (λ b. rw (rw (l, n, b) at ch) (parity-front t q i (ltb-false q i l) e))))
+      (λ n. rw (rw (l, n) at ch) (known-front (profileOf v) t q i (ltb-false q i l) e))
+      (λ n. cases (needsContext (profileOf v) t q)
+      (λ b. rw (rw (l, n, b) at ch) (known-needed b))
+      (λ b. rw (rw (l, n, b) at ch) (known-front (profileOf v) t q i (ltb-false q i l) e))))
 
-  module _ (i : ℕ) (u : Sequence) (b : Bool) (e : ParityPlace t i) (read : u ≡ firstSequence (decode (drop q t))) (test : b ≡ isControl (u .code)) where
-    last-at : (r : ℕ) → r ≡ parityBefore (profileOf v) t q i → b ≡ false → r ≡ parityAfter (profileOf v) t i q → Erased (profileOf v) t i (record { at = q; parity = r })
-    last-at r ch z pl = record {
-      kept = kept-place (profileOf v) t w some q eq (u .code) (ap (λ (x : Sequence). x .code) read) b test z;
-      place = pl;
-      parity = parity-choice i r e ch;
-    }
-
+  module _ (i : ℕ) (u : Sequence) (b : Bool) (e : KnownPlace (profileOf v) t i) (read : u ≡ firstSequence (decode (drop q t))) (test : b ≡ isControl (u .code)) where
     short : eqb q (length t) ≡ false
     short = ne-eqb q (length t) (λ y. omega (arith, kept-inside (profileOf v) t w some q eq, y))
 
-    pub last-erased : (r a : ℕ) (n p : Bool) → a ≡ getD t (length t - 1) 0 → n ≡ neverJoinsBefore a → n ≡ false → p ≡ endsInPair (profileOf v) t i → p ≡ false → r ≡ parityBefore (profileOf v) t q i → b ≡ false
-        → Erased (profileOf v) t i (record { at = q; parity = r })
-    last-erased r a n p ea en nn ep np ch z = last-at r ch z (rw (short, ← ea, sym en ∙ nn, sym ep ∙ np) ch)
+    pub last-erased : (r : ℕ) → r ≡ knownBefore (profileOf v) t q i → b ≡ false → Erased (profileOf v) t i (record { at = q; known = r })
+    last-erased r ch z = record {
+      kept = kept-place (profileOf v) t w some q eq (u .code) (ap (λ (x : Sequence). x .code) read) b test z;
+      place = rw short ch;
+      known = known-choice i r e ch;
+    }
 
-    pub last-added : b ≡ true → Erased (profileOf v) t i (record { at = length t; parity = i })
+    pub last-added : b ≡ true → Erased (profileOf v) t i (record { at = length t; known = i })
     last-added z = record {
       kept = kept-control (profileOf v) t w some q eq (u .code) (ap (λ (x : Sequence). x .code) read) b test z;
       place = rw (eq-eqb (length t) (length t) refl) refl;
-      parity = rw (take-length t) e;
+      known = rw (take-length t) e;
     }
 
 -- a byte below 80 at the end, LF apart
@@ -176,14 +193,12 @@ module _ (v : code.Profile) (t : List ℕ) (b : ℕ) (w : whole t) (some : lengt
   lone-place : length t - 1 ≡ size (withoutLast (profileOf v) (reverse (runOf (decode t))))
   lone-place = last-lone v t b r w some e f z
 
-  module _ (i : ℕ) (a : Bool) (ev : ParityPlace t i) (test : a ≡ isControl b) where
-    pub lone-added : a ≡ true → Erased (profileOf v) t i (record { at = length t; parity = i })
+  module _ (i : ℕ) (a : Bool) (ev : KnownPlace (profileOf v) t i) (test : a ≡ isControl b) where
+    pub lone-added : a ≡ true → Erased (profileOf v) t i (record { at = length t; known = i })
     lone-added y = last-added v t w some (length t - 1) lone-place i (sequenceOf b 1) a ev lone-code test y
 
-    pub lone-erased : (j : ℕ) → j ≡ parityBefore (profileOf v) t (length t - 1) i → a ≡ false → Erased (profileOf v) t i (record { at = length t - 1; parity = j })
-    lone-erased j ch y =
-        last-at v t w some (length t - 1) lone-place i (sequenceOf b 1) a ev lone-code test j ch y
-        (rw (short v t w some (length t - 1) lone-place i (sequenceOf b 1) a ev lone-code test, ← e, sym f ∙ z) ch)
+    pub lone-erased : (j : ℕ) → j ≡ knownBefore (profileOf v) t (length t - 1) i → a ≡ false → Erased (profileOf v) t i (record { at = length t - 1; known = j })
+    lone-erased j ch y = last-erased v t w some (length t - 1) lone-place i (sequenceOf b 1) a ev lone-code test j ch y
 
 -- the last two scalars
 record Pair (P : Profile) (t : List ℕ) (i : ℕ) : Type 0 where
@@ -205,40 +220,40 @@ pair P t i e =
 pub pair-long : (P : Profile) (t : List ℕ) (i : ℕ) (r : Bool) → r ≡ endsInPair P t i → r ≡ true → 8 ≤ length t
 pair-long P t i r e z = pair P t i (sym e ∙ z) .long
 
--- a pair of regional indicators that ends in an parity place
-pub pair-erased : (v : code.Profile) (t : List ℕ) (i a : ℕ) (r n : Bool) → whole t → (length t ≢ 0) → ParityPlace t i → a ≡ getD t (length t - 1) 0 → n ≡ neverJoinsBefore a → n ≡ false → r ≡ endsInPair (profileOf v) t i → r ≡ true → Erased (profileOf v) t i (record { at = length t - 8; parity = length t - 8 })
-pair-erased v t i a r n w some e ea en nn f z =
+pub pair-inside : (P : Profile) (t : List ℕ) (i : ℕ) (r : Bool) → r ≡ endsInPair P t i → r ≡ true → length t - 8 < length t
+pair-inside P t i r e z = let l = pair-long P t i r e z in omega (arith, l)
+
+-- a pair of regional indicators that ends in an known place
+pub pair-erased : (v : code.Profile) (t : List ℕ) (i : ℕ) (r : Bool) (j : ℕ) → whole t → (length t ≢ 0) → KnownPlace (profileOf v) t i → r ≡ endsInPair (profileOf v) t i → r ≡ true → j ≡ knownBefore (profileOf v) t (length t - 8) i → Erased (profileOf v) t i (record { at = length t - 8; known = j })
+pair-erased v t i r j w some e f z ch =
     let p = pair (profileOf v) t i (sym f ∙ z) in
-    let n : ParityPlace t (length t) = rw (p .here) at e in
+    let n : KnownPlace (profileOf v) t (length t) = rw (p .here) at e in
     let es : runOf (decode (drop (size (n .rest)) t)) ≡ n .es = run-drop (n .rest) (n .es) t (n .parts) in
     let past : length t ≤ size (n .rest) = omega (arith, n .place) in
     let none : n .es ≡ [] = sym es ∙ none-past t (size (n .rest)) past in
     let rev : runOf (decode t) ≡ reverseAux (n .rest) [] = n .parts ∙ ap (reverseAux (n .rest)) none in
-    let k = pair-by v t (n .rest) rev (n .place) (p .long) (p .last) (p .other) (n .parity v) in
+    let k = pair-by v t (n .rest) rev (n .place) (p .long) (p .last) (p .other) (ap (λ (y : Context). y .odd) (n .known)) in
     let back-is : reverse (runOf (decode t)) ≡ n .rest = ap reverse rev ∙ reverse-reverse (n .rest) in
     let q : length t - 8 ≡ size (withoutLast (profileOf v) (reverse (runOf (decode t)))) = sym (k .place) ∙ ap size (sym (k .without)) ∙ ap (λ (x : List Scalar). size (withoutLast (profileOf v) x)) (sym back-is) in
-    let ctl = indicator-control v t (length t - 8) (p .other) in
-    let c = kept-place (profileOf v) t w some (length t - 8) q (firstSequence (decode (drop (length t - 8) t)) .code) refl false ctl refl in
-    let x : runOf (decode (take (length t - 8) t)) ≡ reverse (k .left) = pair-front v t (n .rest) (length t - 8) rev k in
-    record { kept = c; place = rw (ne-eqb (length t - 8) (length t) (λ y. omega (arith, p .long, y)), ← ea, sym en ∙ nn, sym f ∙ z) refl; parity = record { rest = k .left; es = []; parts = x; place = k .place; parity = λ u. ap (λ (y : Context). y .odd) (same-context u v (k .left)) ∙ k .before } }
+    last-erased v t w some (length t - 8) q i (firstSequence (decode (drop (length t - 8) t))) false e refl (indicator-control v t (length t - 8) (p .other)) j ch refl
 
 pub kept-empty : (P : Profile) (t : List ℕ) → length t ≡ 0 → ErasedTo P t 0
 unfolding backward backspace eraseFrom runOf decode decodeFrom
 kept-empty P [] h = record { inside = omega arith; erased = λ h. absurd (omega arith); added = λ h. refl }
 kept-empty P (b ∷ t) h = absurd (omega arith)
 
-pub nothing-erased : (P : Profile) (t : List ℕ) (i : ℕ) → length t ≡ 0 → ParityPlace t i → Erased P t i (record { at = 0; parity = i })
-nothing-erased P [] i h e = record { kept = kept-empty P [] h; place = refl; parity = e }
+pub nothing-erased : (P : Profile) (t : List ℕ) (i : ℕ) → length t ≡ 0 → KnownPlace P t i → Erased P t i (record { at = 0; known = i })
+nothing-erased P [] i h e = record { kept = kept-empty P [] h; place = refl; known = e }
 nothing-erased P (b ∷ t) i h e = absurd (omega arith)
 
 -- ---- in a buffer
 
-pub erase-back : (P : Profile) (l : List ℕ) (len i : ℕ) (k : Erasure) → BackReady l len i → Erased P (take len l) i k → k .at < len → FrontParity l k (backspace P (backward (take len l)))
+pub erase-back : (P : Profile) (l : List ℕ) (len i : ℕ) (k : Erasure) → BackReady P l len i → Erased P (take len l) i k → k .at < len → FrontKnown P l k (backspace P (backward (take len l)))
 erase-back P l len i k h w m =
     let n : length (take len l) ≡ len = length-take-le len l (omega (arith, h .room)) in
     let e = w .kept .erased (rw n m) in
     let t : take (k .at) (take len l) ≡ take (k .at) l = take-take (k .at) len l (omega arith) in
-    record { front = record { inside = omega (arith, h .room); scalars = rw t at (e .0); valid = rw t at (e .1) }; parity = rw t at (w .parity) }
+    record { front = record { inside = omega (arith, h .room); scalars = rw t at (e .0); valid = rw t at (e .1) }; known = rw t at (w .known) }
 
 -- one more byte below 80 behind a valid text
 pub front-byte : (l : List ℕ) (len b : ℕ) → len < length l → whole (take len l) → runOf (decode (b ∷ [])) ≡ ascii b ∷ [] → Front (set l len b) (len + 1) (ascii b ∷ backward (take len l))
@@ -256,7 +271,7 @@ backspace-alone : runOf (decode (0x08 ∷ [])) ≡ ascii 0x08 ∷ []
 unfolding runOf decode
 backspace-alone = refl
 
-pub erase-add : (P : Profile) (l : List ℕ) (len i : ℕ) (k : Erasure) → BackReady l len i → Erased P (take len l) i k → len ≤ k .at → FrontParity (set l len 0x08) (record { at = len + 1; parity = k .parity }) (backspace P (backward (take len l)))
+pub erase-add : (P : Profile) (l : List ℕ) (len i : ℕ) (k : Erasure) → BackReady P l len i → Erased P (take len l) i k → len ≤ k .at → FrontKnown P (set l len 0x08) (record { at = len + 1; known = k .known }) (backspace P (backward (take len l)))
 unfolding backward
 erase-add P l len i k h w m =
     let n : length (take len l) ≡ len = length-take-le len l (omega (arith, h .room)) in
@@ -266,7 +281,7 @@ erase-add P l len i k h w m =
     sym (reverse-reverse (runOf (decode (take (len + 1) (set l len 0x08))))) ∙ ap reverse (f .scalars) ∙ push-reverse (ascii 0x08 ∷ []) (reverse (runOf (decode (take len l)))) ∙ ap (λ (x : List Scalar). x ++ (ascii 0x08 ∷ [])) (reverse-reverse (runOf (decode (take len l)))) in
     record {
       front = record { inside = f .inside; scalars = f .scalars ∙ w .kept .added (rw n m); valid = f .valid };
-      parity = parity-more (take len l) (take (len + 1) (set l len 0x08)) (ascii 0x08 ∷ []) (k .parity) r (rw t at (w .parity));
+      known = known-more P (take len l) (take (len + 1) (set l len 0x08)) (ascii 0x08 ∷ []) (k .known) r (rw t at (w .known));
     }
 
 -- ---- the tests
@@ -294,3 +309,10 @@ module _ (P : Profile) (t : List ℕ) where
 
     pub between-none : a ≡ false → false ≡ betweenIndicators P t q
     between-none z = rw (le-ltb q 4 h, sym f ∙ z) refl
+
+  module _ (q j p c : ℕ) where
+    pub behind-none : q ≡ 0 → false ≡ afterZwj P t q
+    behind-none z = rw (eq-eqb q 0 z) refl
+
+    pub behind-tells : (q ≢ 0) → j ≡ back t q → p ≡ packedAt P t j / 8 % 16 → c ≡ packedAt P t q / 8 % 16 → (eqb p 4 && eqb c 12) ≡ afterZwj P t q
+    behind-tells z b f g = rw (ne-eqb q 0 z, f, g, b) refl

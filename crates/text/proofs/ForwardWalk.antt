@@ -15,7 +15,7 @@ use Rattle.text.specs.Cluster.Laws.{clusters-first, further}
 use Rattle.text.specs.Segmentation.{firstOf, firstSize, NextCluster, NextClusterReady, moreOf, neverJoinsBefore, oneByteCluster}
 use Rattle.text.specs.Utf8.Code.{firstSequence, size, sequenceOf}
 use Rattle.text.specs.Class.Code.{printable, profileOf}
-use Rattle.text.specs.Rules.{contextOf, stateAfter, stateContext}
+use Rattle.text.specs.Rules.{stateAfter, stateContext}
 use Rattle.text.specs.Utf8.Code.Laws.{none-past, run-fits, run-valid}
 use Rattle.text.specs.Cluster.Printable.{printable-first, printable-one as one-column}
 use Rattle.text.specs.Class.Laws.{number-le}
@@ -24,7 +24,7 @@ use Rattle.text.specs.Width.Laws.{width-size, width-two}
 use Rattle.text.specs.Each.{All, all-split}
 use Rattle.text.specs.Scalar.{packedAt}
 use Rattle.text.specs.Scalar.Laws.{NoScalar, PackedScalar, packed-past, packed-view}
-use Rattle.text.specs.Tests.{and-T, cases, is-true, true-T, in-range, every, every-one}
+use Rattle.text.specs.Tests.{and-T, cases, is-true, or-none, true-T, in-range, every, every-one}
 use Rattle.text.specs.TextParts.{Measured, column, place, textAt}
 use Rattle.text.specs.TextParts.Laws.{first-all}
 use Rattle.text.specs.Utf8.{Scalar, ascii, decode}
@@ -40,10 +40,10 @@ use Rattle.text.specs.Utf8.Code.FirstSequence.{ascii-sequence}
 
 -- ---- a packed scalar
 
-pub class-small : (P : Profile) (x k : ℕ) → k ≡ number (P .class x) → k ≤ 11
+pub class-small : (P : Profile) (x k : ℕ) → k ≡ number (P .class x) → k ≤ 12
 class-small P x k e = rw e (number-le (P .class x))
 
-pub class-le : (P : Profile) (s : List ℕ) (p v : ℕ) → p < length s → v ≡ packedAt P s p → v / 8 % 16 ≤ 11
+pub class-le : (P : Profile) (s : List ℕ) (p v : ℕ) → p < length s → v ≡ packedAt P s p → v / 8 % 16 ≤ 12
 class-le P s p v here read = ⊎-elim
     (λ (n : NoScalar s p v). rw (n .zero) (omega arith))
     (λ (x : PackedScalar P s p v). rw (← x .class) (number-le (P .class (x .c .code))))
@@ -58,7 +58,8 @@ continues p c =
     (cond (eqb c 5 || (eqb c 8 || eqb c 9)) (eqb p 5)
     (cond (eqb c 6) (eqb p 5 || (eqb p 8 || eqb p 6))
     (cond (eqb c 7) ((eqb p 8 || eqb p 6) || (eqb p 9 || eqb p 7))
-    (cond (eqb c 10) (eqb p 10) (eqb c 1 && eqb p 0))))))
+    (cond (eqb c 10) (eqb p 10)
+    (cond (eqb c 12) (eqb p 15) (eqb c 1 && eqb p 0)))))))
 
 same : Bool → Bool → Bool
 same a b = cond a b (not b)
@@ -74,30 +75,53 @@ rule : ℕ → ℕ → Bool
 rule p c = same (continues p c) (joined p (stateContext p) c)
 
 row : ℕ → Bool
-row p = every (rule p) 0 12
+row p = every (rule p) 0 13
 
-all-rules : T (every row 0 12)
+all-rules : T (every row 0 16)
 unfolding every row rule same continues joined among number
 all-rules = tt
 
-pub rule-is : (p c : ℕ) (r : Bool) → p ≤ 11 → c ≤ 11 → r ≡ continues p c → r ≡ joined p (stateContext p) c
+pub rule-is : (p c : ℕ) (r : Bool) → p ≤ 15 → c ≤ 12 → r ≡ continues p c → r ≡ joined p (stateContext p) c
 unfolding row rule
 rule-is p c r h k e =
-    e ∙ same-is (continues p c) (joined p (stateContext p) c) (every-one (rule p) 12 0 c (true-T (every-one row 12 0 p all-rules (omega arith) (omega arith))) (omega arith) (omega arith))
+    e ∙ same-is (continues p c) (joined p (stateContext p) c) (every-one (rule p) 13 0 c (true-T (every-one row 16 0 p all-rules (omega arith) (omega arith))) (omega arith) (omega arith))
 
 module _ (P : Profile) where
-  -- a state stands for the class and the context: behind an even number of regional indicators they join what other scalars do
-  off-state : (s : List Scalar) → moreOf P 10 (contextOf false) s ≡ moreOf P 11 (contextOf false) s
+  -- a state stands for the class and the context: behind an even number of regional indicators they join what other scalars do, and what Extend and ZWJ
+  -- join is told by the context alone
+  as-other : (s : List Scalar) → moreOf P 10 start s ≡ moreOf P 11 start s
   unfolding moreOf joined among number
-  off-state [] = refl
-  off-state (c ∷ s) = refl
+  as-other [] = refl
+  as-other (c ∷ s) = refl
 
-  more-state : (p c : ℕ) (s : List Scalar) → moreOf P c (after (stateContext p) c) s ≡ moreOf P (stateAfter p c) (stateContext (stateAfter p c)) s
+  as-picture : (s : List Scalar) → moreOf P 3 (stateContext 12) s ≡ moreOf P 12 (stateContext 12) s
+  unfolding moreOf joined among number
+  as-picture [] = refl
+  as-picture (c ∷ s) = refl
+
+  as-zwj : (s : List Scalar) → moreOf P 4 (stateContext 15) s ≡ moreOf P 15 (stateContext 15) s
+  unfolding moreOf joined among number
+  as-zwj [] = refl
+  as-zwj (c ∷ s) = refl
+
+  more-state : (p c : ℕ) (s : List Scalar) → c ≤ 12 → moreOf P c (after (stateContext p) c) s ≡ moreOf P (stateAfter p c) (stateContext (stateAfter p c)) s
   unfolding after among number
-  more-state p c s =
+  more-state p c s h =
       cases (eqb c 10)
-      (λ e. cases (eqb p 10) (λ f. rw (eqb-true c 10 e, eqb-true p 10 f) (off-state s)) (λ f. rw (eqb-true c 10 e, f) refl))
-      (λ e. rw (e, and-false (eqb p 10), e) refl)
+      (λ e. cases (eqb p 10)
+      (λ f. rw (eqb-true c 10 e, eqb-true p 10 f) (as-other s))
+      (λ f. rw (eqb-true c 10 e, f, and-false (eqb p 12)) refl))
+      (λ e. cases (eqb p 12)
+      (λ f. rw (eqb-true p 12 f) (picture e))
+      (λ f. rw (e, f, and-false (eqb p 10), e, ne-eqb c 15 (λ z. omega (arith, h, z)), or-none (eqb c 12)) refl))
+    where
+      picture : eqb c 10 ≡ false → moreOf P c (after (stateContext 12) c) s ≡ moreOf P (stateAfter 12 c) (stateContext (stateAfter 12 c)) s
+      picture e =
+          cases (eqb c 3)
+          (λ f. rw (eqb-true c 3 f) (as-picture s))
+          (λ f. cases (eqb c 4)
+          (λ g. rw (eqb-true c 4 g) (as-zwj s))
+          (λ g. rw (e, f, g, e, ne-eqb c 15 (λ z. omega (arith, h, z)), or-none (eqb c 12)) refl))
 
   more-further : (s : List Scalar) (p : Scalar) (ps : List Scalar) → take (further P (p ∷ ps) s) s ≡ moreOf P (classOf P p) (context P (p ∷ ps)) s
   unfolding further moreOf joins context
@@ -115,8 +139,11 @@ module _ (P : Profile) where
   unfolding firstOf clusters
   no-first = refl
 
-state-le : (p c b : ℕ) → c ≤ 11 → b ≡ stateAfter p c → b ≤ 11
-state-le p c b h e = cases (eqb p 10 && eqb c 10) (λ t. rw (e, t) (omega arith)) (λ t. rw (e, t) h)
+state-le : (p c b : ℕ) → c ≤ 12 → b ≡ stateAfter p c → b ≤ 15
+state-le p c b h e =
+    cases (eqb p 10 && eqb c 10) (λ t. rw (e, t) (omega arith))
+    (λ t. cases (eqb p 12 && eqb c 3) (λ u. rw (e, t, u) (omega arith))
+    (λ u. cases (eqb p 12 && eqb c 4) (λ w. rw (e, t, u, w) (omega arith)) (λ w. rw (e, t, u, w) (omega (arith, h)))))
 
 -- ---- a cluster measured
 
@@ -149,7 +176,7 @@ module _ (f : code.Profile) (s : List ℕ) (at : ℕ) where
 -- at p, with w columns behind: what is left of the cluster that begins at a place
 pub record Walking (P : Profile) (s : List ℕ) (at p w state : ℕ) : Type 0 where
   pub here : at < length s
-  pub class : state ≤ 11
+  pub class : state ≤ 15
   pub inside : p ≤ length s
   pub bound : w ≤ 2 * p
   pub ends : at + size (firstAt P s at) ≡ p + size (moreOf P state (stateContext state) (textAt s p))
@@ -175,7 +202,7 @@ module _ (f : code.Profile) where
       ⊎-elim
       (λ (n : NoScalar s at u). record {
         here = h .inside;
-        class = class-le P s at u (h .inside) (h .scalar);
+        class = omega (arith, class-le P s at u (h .inside) (h .scalar));
         inside = b .1;
         bound = omega (arith, b .0);
         ends = rw (n .zero, add-zero at, n .run, no-first P) refl;
@@ -183,10 +210,10 @@ module _ (f : code.Profile) where
       })
       (λ (x : PackedScalar P s at u).
       let rest : List Scalar = textAt s (at + u % 8) in
-      let e : firstAt P s at ≡ x .c ∷ moreOf P (u / 8 % 16) (stateContext (u / 8 % 16)) rest = ap (λ (l : List Scalar). firstOf (clusters P l)) (x .run) ∙ first-more P (x .c) rest ∙ rw (x .class, more-state P 0 (u / 8 % 16) rest) refl in
+      let e : firstAt P s at ≡ x .c ∷ moreOf P (u / 8 % 16) (stateContext (u / 8 % 16)) rest = ap (λ (l : List Scalar). firstOf (clusters P l)) (x .run) ∙ first-more P (x .c) rest ∙ rw (x .class, more-state P 0 (u / 8 % 16) rest (class-le P s at u (h .inside) (h .scalar))) refl in
       record {
         here = h .inside;
-        class = class-le P s at u (h .inside) (h .scalar);
+        class = omega (arith, class-le P s at u (h .inside) (h .scalar));
         inside = b .1;
         bound = omega (arith, b .0);
         ends = rw (e, x .len) (sym (add-assoc at (u % 8) _));
@@ -232,7 +259,7 @@ module _ (f : code.Profile) where
         let x = some-at t in
         let l = width-room s p v here read in
         let rest : List Scalar = textAt s (p + v % 8) in
-        let m : moreOf P state (stateContext state) (textAt s p) ≡ x .c ∷ moreOf P b (stateContext b) rest = rw (x .run, x .class, sym rr ∙ t, e, more-state P state (v / 8 % 16) rest) refl in
+        let m : moreOf P state (stateContext state) (textAt s p) ≡ x .c ∷ moreOf P b (stateContext b) rest = rw (x .run, x .class, sym rr ∙ t, e, more-state P state (v / 8 % 16) rest (class-le P s p v here read)) refl in
         record {
           here = h .here;
           class = state-le state (v / 8 % 16) b (class-le P s p v here read) e;

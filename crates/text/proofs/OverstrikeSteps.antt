@@ -12,9 +12,9 @@ use lib.Seq.{drop-cons, length-slice, length-take-le, slice}
 use borrow.Author.Tests.{eq-eqb, ne-eqb}
 use Rattle.text.specs.Class.{Profile}
 use Rattle.text.specs.Cluster.Walk.{size-is}
-use Rattle.text.specs.Backward.{ParityPlace, backward}
+use Rattle.text.specs.Backward.{KnownPlace, backward}
 use Rattle.text.specs.Utf8.Code.{whole}
-use Rattle.text.specs.Overstrike.Code.{BackReady, BackspaceStep, FinishReady, Finished, Front, FrontParity, Part, Pushed, Sound, StepReady, Stepped, Strike, StruckStep, backspaceOn, clusterOn, conversion, finishOn, orderOf, partOf, pendingOf, plain, pushedOn, stateOf, styleOf}
+use Rattle.text.specs.Overstrike.Code.{BackReady, BackspaceStep, FinishReady, Finished, Front, FrontKnown, Part, Pushed, Sound, StepReady, Stepped, Strike, StruckStep, backspaceOn, clusterOn, conversion, finishOn, orderOf, partOf, pendingOf, plain, pushedOn, stateOf, styleOf}
 use Rattle.text.specs.Overstrike.{State, Style, ambiguous, backspace, bold, boldUnderline, bolded, finish, held, none, normal, onBackspace, onCluster, order, push, state, step, strike, struck, underline, underlined}
 use Rattle.text.specs.Overstrike.Laws.{push-reverse}
 use Rattle.text.specs.Overstrike.Length.{cost, cost-normal, order-size, waiting, weight}
@@ -24,7 +24,7 @@ use Rattle.text.specs.Utf8.Valid.{valid}
 use Rattle.text.specs.declared.overstrike.Conversion.{Conversion}
 use Rattle.text.specs.declared.backward.Erasure.{Erasure}
 use Rattle.text.specs.declared.overstrike.Overstrike.{Overstrike}
-use Rattle.text.proofs.RegionalIndicators.{parity-more}
+use Rattle.text.proofs.RegionalIndicators.{known-more}
 use Rattle.text.proofs.Pushing.{front-push}
 use Rattle.text.proofs.Runs.{part-slice, size-reverse}
 use Rattle.text.proofs.Texts.{run-append, whole-append}
@@ -35,7 +35,7 @@ pub part-none : (line : List ℕ) → Part line 0 0
 unfolding runOf decode decodeFrom bytesOf
 part-none line = record { ordered = omega arith; within = omega arith; valid = refl }
 
-front-of : (line l : List ℕ) (st : Conversion) → Sound line l st → Front l (st .len) (backward (take (st .len) l))
+front-of : {P : Profile} (line l : List ℕ) (st : Conversion) → Sound P line l st → Front l (st .len) (backward (take (st .len) l))
 front-of line l st w = record { inside = w .inside; scalars = refl; valid = w .valid }
 
 -- what stands in front of a buffer has the size that it should
@@ -86,7 +86,7 @@ front-order l l′ len r b s out f p =
 abbrev pending : List ℕ → Conversion → List ℕ
 pending line st = orderOf (st .before) (st .style) ++ take (st .end - st .at) (drop (st .at) line)
 
-pub front-pending : (line l l′ : List ℕ) (st : Conversion) (r : ℕ) → Sound line l st → Pushed l l′ (st .len) (pending line st) r → Front l′ r (pushedOn line l st)
+pub front-pending : {P : Profile} (line l l′ : List ℕ) (st : Conversion) (r : ℕ) → Sound P line l st → Pushed l l′ (st .len) (pending line st) r → Front l′ r (pushedOn line l st)
 unfolding pushedOn
 front-pending line l l′ st r w p =
     let o = order-text (styleOf (st .before)) (styleOf (st .style)) in
@@ -98,7 +98,7 @@ front-pending line l l′ st r w p =
 
 -- ---- the weight bounds what is still written
 
-module _ (line l : List ℕ) (st : Conversion) (w : Sound line l st) where
+module _ {P : Profile} (line l : List ℕ) (st : Conversion) (w : Sound P line l st) where
   len-size : length (bytesOf (backward (take (st .len) l))) ≡ st .len
   len-size = front-size l (st .len) _ (front-of line l st w)
 
@@ -137,44 +137,44 @@ unfolding onBackspace
 on-none P out true g b s = refl
 on-none P out false g b s = refl
 
-pub back-struck : (P : Profile) (line l : List ℕ) (st : Conversion) → st .pending ≡ 1 → BackReady l (st .len) (st .parity) → Part line (st .at) (st .end)
-    → Stepped line l (conversion (st .len) 2 (st .at) (st .end) (st .before) (st .style) (st .parity)) (backspaceOn P (stateOf line l st))
+pub back-struck : (P : Profile) (line l : List ℕ) (st : Conversion) → st .pending ≡ 1 → BackReady P l (st .len) (st .known) → Part line (st .at) (st .end)
+    → Stepped P line l (conversion (st .len) 2 (st .at) (st .end) (st .before) (st .style) (st .known)) (backspaceOn P (stateOf line l st))
 unfolding stateOf pendingOf backspaceOn onBackspace
-back-struck P line l st k w p = record { same = rw k refl; sound = record { inside = omega (arith, w .room); valid = w .valid; part = p; parity = w .parity } }
+back-struck P line l st k w p = record { same = rw k refl; sound = record { inside = omega (arith, w .room); valid = w .valid; part = p; known = w .known } }
 
-pub back-none : (P : Profile) (line l l′ : List ℕ) (st : Conversion) (r : Erasure) → (st .pending ≢ 1) → FrontParity l′ r (backspace P (backward (take (st .len) l)))
-    → Stepped line l′ (conversion (r .at) 0 0 0 (st .before) plain (r .parity)) (backspaceOn P (stateOf line l st))
+pub back-none : (P : Profile) (line l l′ : List ℕ) (st : Conversion) (r : Erasure) → (st .pending ≢ 1) → FrontKnown P l′ r (backspace P (backward (take (st .len) l)))
+    → Stepped P line l′ (conversion (r .at) 0 0 0 (st .before) plain (r .known)) (backspaceOn P (stateOf line l st))
 unfolding stateOf pendingOf backspaceOn styleOf
 back-none P line l l′ st r k t = record {
   same =
       ap (λ (x : List Scalar). state x none (styleOf (st .before)) normal) (t .front .scalars)
       ∙ rw (ne-eqb (st .pending) 1 k) (on-none P (backward (take (st .len) l)) (eqb (st .pending) 0) (partOf line (st .at) (st .end)) (styleOf (st .before)) (styleOf (st .style)));
-  sound = record { inside = t .front .inside; valid = t .front .valid; part = part-none line; parity = t .parity };
+  sound = record { inside = t .front .inside; valid = t .front .valid; part = part-none line; known = t .known };
 }
 
 -- ---- a cluster
 
-pub hold-none : (P : Profile) (line l : List ℕ) (st : Conversion) (a e : ℕ) → st .pending ≡ 0 → Sound line l st → Part line a e
-    → Stepped line l (conversion (st .len) 1 a e (st .style) plain (st .parity)) (clusterOn P (stateOf line l st) (partOf line a e))
+pub hold-none : (P : Profile) (line l : List ℕ) (st : Conversion) (a e : ℕ) → st .pending ≡ 0 → Sound P line l st → Part line a e
+    → Stepped P line l (conversion (st .len) 1 a e (st .style) plain (st .known)) (clusterOn P (stateOf line l st) (partOf line a e))
 unfolding stateOf pendingOf clusterOn onCluster styleOf
-hold-none P line l st a e k w u = record { same = rw k refl; sound = record { inside = w .inside; valid = w .valid; part = u; parity = w .parity } }
+hold-none P line l st a e k w u = record { same = rw k refl; sound = record { inside = w .inside; valid = w .valid; part = u; known = w .known } }
 
-parity-pushed : (line l l′ : List ℕ) (st : Conversion) (n : ℕ) → Sound line l st → Front l′ n (pushedOn line l st) → ParityPlace (take n l′) (st .parity)
+known-pushed : {P : Profile} (line l l′ : List ℕ) (st : Conversion) (n : ℕ) → Sound P line l st → Front l′ n (pushedOn line l st) → KnownPlace P (take n l′) (st .known)
 unfolding pushedOn backward
-parity-pushed line l l′ st n w f =
+known-pushed line l l′ st n w f =
     let g : List Scalar = partOf line (st .at) (st .end) in
     let o : List Scalar = asciis (orderOf (st .before) (st .style)) in
     let r : runOf (decode (take n l′)) ≡ runOf (decode (take (st .len) l)) ++ (o ++ g) =
     front-text l′ n _ f ∙ push-reverse g (push o (reverse (runOf (decode (take (st .len) l))))) ∙ ap (λ (x : List Scalar). x ++ g) (push-reverse o (reverse (runOf (decode (take (st .len) l)))) ∙ ap (λ (x : List Scalar). x ++ o) (reverse-reverse (runOf (decode (take (st .len) l)))))
     ∙ append-assoc (runOf (decode (take (st .len) l))) o g in
-    parity-more (take (st .len) l) (take n l′) (o ++ g) (st .parity) r (w .parity)
+    known-more _ (take (st .len) l) (take n l′) (o ++ g) (st .known) r (w .known)
 
-pub hold-pushed : (P : Profile) (line l l′ : List ℕ) (st : Conversion) (n a e : ℕ) → st .pending ≡ 1 → Front l′ n (pushedOn line l st) → Sound line l st → Part line a e
-    → Stepped line l′ (conversion n 1 a e (st .style) plain (st .parity)) (clusterOn P (stateOf line l st) (partOf line a e))
+pub hold-pushed : (P : Profile) (line l l′ : List ℕ) (st : Conversion) (n a e : ℕ) → st .pending ≡ 1 → Front l′ n (pushedOn line l st) → Sound P line l st → Part line a e
+    → Stepped P line l′ (conversion n 1 a e (st .style) plain (st .known)) (clusterOn P (stateOf line l st) (partOf line a e))
 unfolding stateOf pendingOf clusterOn onCluster styleOf pushedOn
 hold-pushed P line l l′ st n a e k f w u = record {
   same = rw k (ap (λ (x : List Scalar). state x (held (partOf line a e)) (styleOf (st .style)) normal) (f .scalars));
-  sound = record { inside = f .inside; valid = f .valid; part = u; parity = parity-pushed line l l′ st n w f };
+  sound = record { inside = f .inside; valid = f .valid; part = u; known = known-pushed line l l′ st n w f };
 }
 
 -- ---- a strike
@@ -198,69 +198,69 @@ module _ (line : List ℕ) (st : Conversion) (a e : ℕ) (w : Strike line st a e
   unfolding clusterOn stateOf pendingOf onCluster strike reads
   struck-all P l = rw (ne-eqb (st .pending) 0 (w .notNone), ne-eqb (st .pending) 1 (w .notHeld), w .under .valid, w .upper .valid, ← part-slice (st .at) (st .end) line, ← part-slice a e line, ← xs, ← hs, ← gs) refl
 
-  keeps : (P : Profile) (l : List ℕ) (r : Conversion) (o : Overstrike) (s : Style) → r ≡ conversion (st .len) 1 (st .at) (st .end) (st .before) o (st .parity) → styleOf o ≡ s → Sound line l st
-      → result l under s ≡ clusterOn P (stateOf line l st) upper → Stepped line l r (clusterOn P (stateOf line l st) upper)
+  keeps : (P : Profile) (l : List ℕ) (r : Conversion) (o : Overstrike) (s : Style) → r ≡ conversion (st .len) 1 (st .at) (st .end) (st .before) o (st .known) → styleOf o ≡ s → Sound P line l st
+      → result l under s ≡ clusterOn P (stateOf line l st) upper → Stepped P line l r (clusterOn P (stateOf line l st) upper)
   unfolding stateOf pendingOf
-  keeps P l r o s p f v q = rw p (record { same = ap (result l under) f ∙ q; sound = record { inside = v .inside; valid = v .valid; part = w .under; parity = v .parity } })
+  keeps P l r o s p f v q = rw p (record { same = ap (result l under) f ∙ q; sound = record { inside = v .inside; valid = v .valid; part = w .under; known = v .known } })
 
-  takes : (P : Profile) (l : List ℕ) (r : Conversion) (o : Overstrike) (s : Style) → r ≡ conversion (st .len) 1 a e (st .before) o (st .parity) → styleOf o ≡ s → Sound line l st
-      → result l upper s ≡ clusterOn P (stateOf line l st) upper → Stepped line l r (clusterOn P (stateOf line l st) upper)
+  takes : (P : Profile) (l : List ℕ) (r : Conversion) (o : Overstrike) (s : Style) → r ≡ conversion (st .len) 1 a e (st .before) o (st .known) → styleOf o ≡ s → Sound P line l st
+      → result l upper s ≡ clusterOn P (stateOf line l st) upper → Stepped P line l r (clusterOn P (stateOf line l st) upper)
   unfolding stateOf pendingOf
-  takes P l r o s p f v q = rw p (record { same = ap (result l upper) f ∙ q; sound = record { inside = v .inside; valid = v .valid; part = w .upper; parity = v .parity } })
+  takes P l r o s p f v q = rw p (record { same = ap (result l upper) f ∙ q; sound = record { inside = v .inside; valid = v .valid; part = w .upper; known = v .known } })
 
   module _ (r : Conversion) (o : Overstrike) where
-    pub strike-same-under : x ≡ true → uh ≡ true → styleOf o ≡ ambiguous (styleOf (st .before)) (styleOf (st .style)) → r ≡ conversion (st .len) 1 (st .at) (st .end) (st .before) o (st .parity) → StruckStep line st a e r
+    pub strike-same-under : x ≡ true → uh ≡ true → styleOf o ≡ ambiguous (styleOf (st .before)) (styleOf (st .style)) → r ≡ conversion (st .len) 1 (st .at) (st .end) (st .before) o (st .known) → StruckStep line st a e r
     strike-same-under p q f i P l v = keeps P l r o _ i f v (sym (rw (p, q) at (struck-all P l)))
 
-    pub strike-same : x ≡ true → uh ≡ false → styleOf o ≡ bolded (styleOf (st .style)) → r ≡ conversion (st .len) 1 (st .at) (st .end) (st .before) o (st .parity) → StruckStep line st a e r
+    pub strike-same : x ≡ true → uh ≡ false → styleOf o ≡ bolded (styleOf (st .style)) → r ≡ conversion (st .len) 1 (st .at) (st .end) (st .before) o (st .known) → StruckStep line st a e r
     strike-same p q f i P l v = keeps P l r o _ i f v (sym (rw (p, q) at (struck-all P l)))
 
-    pub strike-upper : x ≡ false → uh ≡ true → styleOf o ≡ underlined (styleOf (st .style)) → r ≡ conversion (st .len) 1 (st .at) (st .end) (st .before) o (st .parity) → StruckStep line st a e r
+    pub strike-upper : x ≡ false → uh ≡ true → styleOf o ≡ underlined (styleOf (st .style)) → r ≡ conversion (st .len) 1 (st .at) (st .end) (st .before) o (st .known) → StruckStep line st a e r
     strike-upper p q f i P l v = keeps P l r o _ i f v (sym (rw (p, q) at (struck-all P l)))
 
-    pub strike-under : x ≡ false → uh ≡ false → ug ≡ true → styleOf o ≡ underlined (styleOf (st .style)) → r ≡ conversion (st .len) 1 a e (st .before) o (st .parity) → StruckStep line st a e r
+    pub strike-under : x ≡ false → uh ≡ false → ug ≡ true → styleOf o ≡ underlined (styleOf (st .style)) → r ≡ conversion (st .len) 1 a e (st .before) o (st .known) → StruckStep line st a e r
     strike-under p q t f i P l v = takes P l r o _ i f v (sym (rw (p, q, t) at (struck-all P l)))
 
-  pub strike-other : (r : Conversion) → x ≡ false → uh ≡ false → ug ≡ false → r ≡ conversion (st .len) 1 a e (st .before) plain (st .parity) → StruckStep line st a e r
+  pub strike-other : (r : Conversion) → x ≡ false → uh ≡ false → ug ≡ false → r ≡ conversion (st .len) 1 a e (st .before) plain (st .known) → StruckStep line st a e r
   unfolding styleOf
   strike-other r p q t i P l v = takes P l r plain _ i refl v (sym (rw (p, q, t) at (struck-all P l)))
 
 -- ---- the step
 
-module _ (P : Profile) (line l : List ℕ) (st : Conversion) (a e : ℕ) (w : StepReady line l st a e) (b : Bool)
+module _ (P : Profile) (line l : List ℕ) (st : Conversion) (a e : ℕ) (w : StepReady P line l st a e) (b : Bool)
     (bs : b ≡ sameBytes (take (e - a) (drop a line)) (0x08 ∷ [])) where
   step-is : step P (stateOf line l st) (partOf line a e) ≡ cond b (backspaceOn P (stateOf line l st)) (clusterOn P (stateOf line l st) (partOf line a e))
   unfolding step backspaceOn clusterOn reads
   step-is = rw (w .upper .valid, ← part-slice a e line, ← bs) refl
 
-  pub step-back : (l′ : List ℕ) (r : Conversion) → b ≡ true → BackspaceStep P l l′ st r → Stepped line l′ r (step P (stateOf line l st) (partOf line a e))
+  pub step-back : (l′ : List ℕ) (r : Conversion) → b ≡ true → BackspaceStep P l l′ st r → Stepped P line l′ r (step P (stateOf line l st) (partOf line a e))
   step-back l′ r t f = let g = f line (w .sound .part) in record { same = g .same ∙ sym (rw t at step-is); sound = g .sound }
 
-  pub step-cluster : (l′ : List ℕ) (r : Conversion) → b ≡ false → Stepped line l′ r (clusterOn P (stateOf line l st) (partOf line a e)) → Stepped line l′ r (step P (stateOf line l st) (partOf line a e))
+  pub step-cluster : (l′ : List ℕ) (r : Conversion) → b ≡ false → Stepped P line l′ r (clusterOn P (stateOf line l st) (partOf line a e)) → Stepped P line l′ r (step P (stateOf line l st) (partOf line a e))
   step-cluster l′ r t g = record { same = g .same ∙ sym (rw t at step-is); sound = g .sound }
 
-  pub step-hold : (r : Conversion) → b ≡ false → st .pending ≡ 0 → r ≡ conversion (st .len) 1 a e (st .style) plain (st .parity) → Stepped line l r (step P (stateOf line l st) (partOf line a e))
+  pub step-hold : (r : Conversion) → b ≡ false → st .pending ≡ 0 → r ≡ conversion (st .len) 1 a e (st .style) plain (st .known) → Stepped P line l r (step P (stateOf line l st) (partOf line a e))
   step-hold r t k i = step-cluster l r t (rw i (hold-none P line l st a e k (w .sound) (w .upper)))
 
-  pub step-pushed : (l′ : List ℕ) (r : Conversion) (n : ℕ) → b ≡ false → st .pending ≡ 1 → Pushed l l′ (st .len) (pending line st) n → r ≡ conversion n 1 a e (st .style) plain (st .parity)
-      → Stepped line l′ r (step P (stateOf line l st) (partOf line a e))
+  pub step-pushed : (l′ : List ℕ) (r : Conversion) (n : ℕ) → b ≡ false → st .pending ≡ 1 → Pushed l l′ (st .len) (pending line st) n → r ≡ conversion n 1 a e (st .style) plain (st .known)
+      → Stepped P line l′ r (step P (stateOf line l st) (partOf line a e))
   step-pushed l′ r n t k p i = step-cluster l′ r t (rw i (hold-pushed P line l l′ st n a e k (front-pending line l l′ st n (w .sound) p) (w .sound) (w .upper)))
 
-  pub step-struck : (r : Conversion) → b ≡ false → StruckStep line st a e r → Stepped line l r (step P (stateOf line l st) (partOf line a e))
+  pub step-struck : (r : Conversion) → b ≡ false → StruckStep line st a e r → Stepped P line l r (step P (stateOf line l st) (partOf line a e))
   step-struck r t f = step-cluster l r t (f P l (w .sound))
 
-pub strike-ready : (line l : List ℕ) (st : Conversion) (a e : ℕ) → StepReady line l st a e → (st .pending ≢ 0) → (st .pending ≢ 1) → Strike line st a e
+pub strike-ready : {P : Profile} (line l : List ℕ) (st : Conversion) (a e : ℕ) → StepReady P line l st a e → (st .pending ≢ 0) → (st .pending ≢ 1) → Strike line st a e
 strike-ready line l st a e w k m = record { notNone = k; notHeld = m; under = w .sound .part; upper = w .upper }
 
-pub back-ready : (line l : List ℕ) (st : Conversion) (a e : ℕ) → StepReady line l st a e → BackReady l (st .len) (st .parity)
-back-ready line l st a e w = record { room = omega (arith, len-weight line l st (w .sound), w .room); valid = w .sound .valid; parity = w .sound .parity }
+pub back-ready : {P : Profile} (line l : List ℕ) (st : Conversion) (a e : ℕ) → StepReady P line l st a e → BackReady P l (st .len) (st .known)
+back-ready line l st a e w = record { room = omega (arith, len-weight line l st (w .sound), w .room); valid = w .sound .valid; known = w .sound .known }
 
 -- room for the order and the pending cluster
-pending-room : (line l : List ℕ) (st : Conversion) → Sound line l st → weight (stateOf line l st) ≤ length l → st .pending ≡ 1
+pending-room : {P : Profile} (line l : List ℕ) (st : Conversion) → Sound P line l st → weight (stateOf line l st) ≤ length l → st .pending ≡ 1
     → st .len + (length (orderOf (st .before) (st .style)) + length (take (st .end - st .at) (drop (st .at) line))) ≤ length l
 pending-room line l st w h k = rw (part-slice (st .at) (st .end) line, length-slice (st .at) (st .end) line (w .part .within)) (omega (arith, held-weight line l st w k))
 
-pub step-room : (line l : List ℕ) (st : Conversion) (a e : ℕ) → StepReady line l st a e → st .pending ≡ 1
+pub step-room : {P : Profile} (line l : List ℕ) (st : Conversion) (a e : ℕ) → StepReady P line l st a e → st .pending ≡ 1
     → st .len + (length (orderOf (st .before) (st .style)) + length (take (st .end - st .at) (drop (st .at) line))) ≤ length l
 step-room line l st a e w k = pending-room line l st (w .sound) (omega (arith, w .room)) k
 

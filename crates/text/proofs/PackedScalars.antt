@@ -4,16 +4,16 @@ use native.Mathlib.Omega.{arith}
 use mathlib.Core.Bool.{Bool, _&&_, _||_, false, true}
 use mathlib.Core.List.{List}
 use mathlib.Core.Logic.{_≢_}
-use mathlib.Core.Path.{_≡_, ap, refl, sym}
+use mathlib.Core.Path.{_∙_, _≡_, ap, refl, sym}
 use lib.Dec.{T, eqb, leb}
 use lib.ListN.{getD, length}
 use borrow.Author.Tests.{eq-eqb, eqb-true, ne-eqb}
-use Rattle.text.specs.Class.{Profile, class01, controls, extends, number}
+use Rattle.text.specs.Class.{Profile, class01, controls, extends, inAny, number, pictographs}
 use Rattle.text.specs.Utf8.Code.{fourBytes, isTail, sequenceFor, threeBytes, twoBytes}
 use Rattle.text.specs.Class.Code.{profileOf}
 use Rattle.text.specs.Scalar.{packed, packedAs, packedAt}
 use Rattle.text.specs.Width.{width01}
-use Rattle.text.specs.Tests.{in-range, every, every-one}
+use Rattle.text.specs.Tests.{in-range, is-true, or-T, true-T, every, every-one}
 use Rattle.text.proofs.LeadBytes.{four-at, no-second, no-third, three-at, two-at}
 use Rattle.text.specs.declared.class.Profile as code
 use Rattle.text.specs.Utf8.Code.FirstSequence.{ascii-sequence}
@@ -59,9 +59,13 @@ indicators : T (every (is 26) 0x1F1E6 26)
 unfolding every is number class01 width01
 indicators = tt
 
-pictures : T (every (is 43) 0x1F300 848)
+pictures : T (every (is 44) 0x1F300 848)
 unfolding every is number class01 width01
 pictures = tt
+
+more-pictures : T (every (is 44) 0x1F900 256)
+unfolding every is number class01 width01
+more-pictures = tt
 
 signs : T (every (is 27) 0x1F650 688)
 unfolding every is number class01 width01
@@ -107,8 +111,12 @@ module _ (f : code.Profile) (x : ℕ) where
   pub indicator : (leb 0x1F1E6 x && leb x 0x1F1FF) ≡ true → 212 ≡ packedAs P 4 x
   indicator e = let w = in-range 0x1F1E6 0x1F1FF x e in leaf f 4 0x1F1E6 26 26 x indicators (w .0) (omega (arith, w .1))
 
-  pub picture : (leb 0x1F300 x && leb x 0x1F64F) ≡ true → 348 ≡ packedAs P 4 x
-  picture e = let w = in-range 0x1F300 0x1F64F x e in leaf f 4 0x1F300 848 43 x pictures (w .0) (omega (arith, w .1))
+  pub picture : (r : Bool) → r ≡ inAny pictographs x → r ≡ true → 356 ≡ packedAs P 4 x
+  unfolding inAny pictographs
+  picture r e t =
+      or-T (leb 0x1F300 x && leb x 0x1F64F) (leb 0x1F900 x && leb x 0x1F9FF) (true-T (sym e ∙ t))
+      (λ h. let w = in-range 0x1F300 0x1F64F x (is-true _ h) in leaf f 4 0x1F300 848 44 x pictures (w .0) (omega (arith, w .1)))
+      (λ h. let w = in-range 0x1F900 0x1F9FF x (is-true _ h) in leaf f 4 0x1F900 256 44 x more-pictures (w .0) (omega (arith, w .1)))
 
   pub sign : (leb 0x1F650 x && leb x 0x1F8FF) ≡ true → 220 ≡ packedAs P 4 x
   sign e = let w = in-range 0x1F650 0x1F8FF x e in leaf f 4 0x1F650 688 27 x signs (w .0) (omega (arith, w .1))
@@ -126,7 +134,7 @@ module _ (f : code.Profile) (x : ℕ) where
   lone-control l e m n = ap (λ (y : ℕ). 1 + 8 * y) (sym (eqb-true (number (class01 x) + 16 * width01 x) 2 (control-is x l e m n)))
 
   pub wide : (leb 0x3041 x && leb x 0xA4CF) ≡ true → 347 ≡ packedAs P 3 x
-  unfolding quiet-test clear controls extends
+  unfolding quiet-test clear controls extends pictographs
   wide e =
       let w = in-range 0x3041 0xA4CF x e in
       let c : 11 ≡ number (P .class x) = other-class f 0x2100 0xA95F x tt (omega (arith, w .0)) (omega (arith, w .1)) in

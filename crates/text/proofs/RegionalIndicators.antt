@@ -2,7 +2,7 @@
 use Prim.Native.Nat.{_%_, _+_, _-_, _/_, _<_, _≤_, ℕ}
 use native.Mathlib.Nat.{add-zero}
 use native.Mathlib.Omega.{arith}
-use mathlib.Core.Bool.{Bool, _||_, and-false, cond, false, not, true, true≢false}
+use mathlib.Core.Bool.{Bool, _&&_, _||_, and-false, cond, false, not, true, true≢false}
 use mathlib.Core.List.{List, [], _++_, _∷_, append-assoc, reverse, reverseAux, reverseAux-eq}
 use mathlib.Core.Logic.{_≢_, ⊎-elim}
 use mathlib.Core.Path.{_∙_, _≡_, ap, ap₂, refl, sym}
@@ -10,9 +10,9 @@ use lib.Dec.{T, eqb, leb}
 use lib.ListN.{drop, length, take, take-append-drop}
 use lib.Seq.{getD-drop, take-take}
 use borrow.Author.Tests.{eqb-true, leb-false, leb-true}
-use Rattle.text.specs.Backward.{ParityPlace, back, indicatorAt, withoutLast}
-use Rattle.text.specs.Class.{Class, Profile, among, class01, classL, classLV, classLVT, classT, classV, control, controls, cr, extend, extends, inAny, isControl, lf, number, other, regionalIndicator, zwj}
-use Rattle.text.specs.Cluster.{Context, classOf, context, joined, joins}
+use Rattle.text.specs.Backward.{KnownPlace, ScalarStart, back, backward, indicatorAt, joinsAt, withoutLast}
+use Rattle.text.specs.Class.{Class, Profile, among, class01, classL, classLV, classLVT, classT, classV, control, controls, cr, extend, extendedPictographic, extends, inAny, isControl, lf, number, other, pictographs, regionalIndicator, zwj}
+use Rattle.text.specs.Cluster.{Context, after, classOf, context, joined, joins, start}
 use Rattle.text.specs.Utf8.Code.{firstSequence, size}
 use Rattle.text.specs.Class.Code.{profileOf}
 use Rattle.text.specs.Scalar.{packedAt}
@@ -20,7 +20,7 @@ use Rattle.text.specs.Scalar.Laws.{NoScalar, PackedScalar, packed-inside
 use Rattle.text.specs.Tests.{cases, in-range, every, every-one}
 use Rattle.text.specs.TextParts.{textAt}
 use Rattle.text.specs.Utf8.{Scalar, bytesOf, decode, runOf, sequence, to, within}
-use Rattle.text.proofs.BackwardWalk.{OddLoop, class-of, flip, flip-false, front-is, headOf, joined-indicators, odd-on, odd-other, odd-ri}
+use Rattle.text.proofs.BackwardWalk.{OddLoop, PictographLoop, class-of, flip, flip-false, front-is, headOf, joined-indicators, joined-picture, joins-known, odd-on, odd-other, odd-ri, pictograph-known}
 use Rattle.text.proofs.LeadBytes.{high-len}
 use Rattle.text.proofs.PackedScalars.{indicator}
 use Rattle.text.proofs.Runs.{Head, back-scalar, run-drop, run-head, run-inside, size-reverse}
@@ -29,9 +29,12 @@ use Rattle.text.proofs.Texts.{run-append, run-prefix}
 use Rattle.text.specs.declared.class.Profile as code
 use Rattle.text.specs.Class.Ranges.{clear, clear-any}
 
-context-none : (P : Profile) → context P [] .odd ≡ false
+context-none : (P : Profile) → context P [] ≡ start
 unfolding context
 context-none P = refl
+
+odd-none : (P : Profile) → context P [] .odd ≡ false
+odd-none P = ap (λ (k : Context). k .odd) (context-none P)
 
 -- ---- a regional indicator at a place
 
@@ -98,15 +101,16 @@ indicator-range v x e =
     let e₇ = not-ten (inAny (to 0x1160 0x11A7 ∷ to 0xD7B0 0xD7C6 ∷ []) x) classV _ (λ z. omega (arith, z)) e₆ in
     let e₈ = not-ten (inAny (to 0x11A8 0x11FF ∷ to 0xD7CB 0xD7FB ∷ []) x) classT _ (λ z. omega (arith, z)) e₇ in
     let e₉ = not-ten (within (to 0xAC00 0xD7A3) x) (cond (eqb ((x - 0xAC00) % 28) 0) classLV classLVT) _ (no-syllable (eqb ((x - 0xAC00) % 28) 0)) e₈ in
-    last (within (to 0x1F1E6 0x1F1FF) x) e₉
+    last (within (to 0x1F1E6 0x1F1FF) x) (inAny pictographs x) e₉
   where
     no-syllable : (b : Bool) → number (cond b classLV classLVT) ≢ 10
     no-syllable true z = omega (arith, z)
     no-syllable false z = omega (arith, z)
 
-    last : (b : Bool) → number (cond b regionalIndicator other) ≡ 10 → b ≡ true
-    last true z = refl
-    last false z = absurd (omega (arith, z))
+    last : (b p : Bool) → number (cond b regionalIndicator (cond p extendedPictographic other)) ≡ 10 → b ≡ true
+    last true p z = refl
+    last false true z = absurd (omega (arith, z))
+    last false false z = absurd (omega (arith, z))
 
 module _ (v : code.Profile) (t : List ℕ) (d : Scalar) (rest es : List Scalar) (p : runOf (decode t) ≡ reverseAux rest (d ∷ es)) (k : number (profileOf v .class (d .code)) ≡ 10) where
   pub indicator-there : indicatorAt (profileOf v) t (size rest) ≡ true
@@ -130,10 +134,10 @@ module _ (v : code.Profile) (t : List ℕ) (d : Scalar) (rest es : List Scalar) 
 module _ (v : code.Profile) (t : List ℕ) (i : ℕ) (odd total : Bool) (l : OddLoop (profileOf v) t i odd total) where
   -- the scalar before is none
   odd-last : ((d : Scalar) (rest : List Scalar) → runOf (decode t) ≡ reverseAux (d ∷ rest) (l .es) → size (d ∷ rest) ≡ i → number (profileOf v .class (d .code)) ≢ 10) → odd ≡ total
-  odd-last f = go (l .rest) (l .parts) (l .place) (l .parity)
+  odd-last f = go (l .rest) (l .parts) (l .place) (l .known)
     where
       go : (rest : List Scalar) → runOf (decode t) ≡ reverseAux rest (l .es) → size rest ≡ i → total ≡ flip odd (context (profileOf v) rest .odd) → odd ≡ total
-      go [] p s w = sym (w ∙ ap (flip odd) (context-none (profileOf v)) ∙ flip-false odd)
+      go [] p s w = sym (w ∙ ap (flip odd) (odd-none (profileOf v)) ∙ flip-false odd)
       go (d ∷ rest) p s w = sym (w ∙ ap (flip odd) (odd-other (profileOf v) d rest (f d rest p s)) ∙ flip-false odd)
 
   pub odd-few : i < 4 → odd ≡ total
@@ -152,25 +156,25 @@ module _ (v : code.Profile) (t : List ℕ) (i : ℕ) (odd total : Bool) (l : Odd
         let e : indicatorAt (profileOf v) t (i - 4) ≡ true = sym f ∙ z in
         odd-on (profileOf v) t i odd total (i - 4) 10 (omega (arith, h)) (sym (indicator-back (profileOf v) t (i - 4) e i h refl)) (ap (λ (n : ℕ). n / 8 % 16) (reads (profileOf v) t (i - 4) e)) refl l
 
--- ---- parity places
+-- ---- known places
 
-pub parity-zero : (t : List ℕ) → ParityPlace t 0
+pub known-zero : (P : Profile) (t : List ℕ) → KnownPlace P t 0
 unfolding size
-parity-zero t = record { rest = []; es = runOf (decode t); parts = refl; place = refl; parity = λ v. context-none (profileOf v) }
+known-zero P t = record { rest = []; es = runOf (decode t); parts = refl; place = refl; known = context-none P }
 
 -- with more behind it
-pub parity-more : (t u : List ℕ) (ys : List Scalar) (i : ℕ) → runOf (decode u) ≡ runOf (decode t) ++ ys → ParityPlace t i → ParityPlace u i
-parity-more t u ys i e w = record {
+pub known-more : (P : Profile) (t u : List ℕ) (ys : List Scalar) (i : ℕ) → runOf (decode u) ≡ runOf (decode t) ++ ys → KnownPlace P t i → KnownPlace P u i
+known-more P t u ys i e w = record {
   rest = w .rest;
   es = w .es ++ ys;
   parts = e ∙ ap (λ (x : List Scalar). x ++ ys) (w .parts ∙ reverseAux-eq (w .rest) (w .es)) ∙ append-assoc (reverse (w .rest)) (w .es) ys ∙ sym (reverseAux-eq (w .rest) (w .es ++ ys));
   place = w .place;
-  parity = w .parity;
+  known = w .known;
 }
 
 -- within a beginning that holds it
-pub parity-front : (t : List ℕ) (q i : ℕ) → i ≤ q → ParityPlace t i → ParityPlace (take q t) i
-parity-front t q i h w =
+pub known-front : (P : Profile) (t : List ℕ) (q i : ℕ) → i ≤ q → KnownPlace P t i → KnownPlace P (take q t) i
+known-front P t q i h w =
     let p : runOf (decode t) ≡ reverse (w .rest) ++ w .es = w .parts ∙ reverseAux-eq (w .rest) (w .es) in
     let s : size (reverse (w .rest)) ≡ i = size-reverse (w .rest) ∙ w .place in
     let x = run-prefix (reverse (w .rest)) (w .es) t p in
@@ -182,16 +186,43 @@ parity-front t q i h w =
       es = runOf (decode (drop i (take q t)));
       parts = ap (λ (y : List ℕ). runOf (decode y)) c ∙ run-append (reverse (w .rest)) (take i t) (drop i (take q t)) r b ∙ sym (reverseAux-eq (w .rest) (runOf (decode (drop i (take q t)))));
       place = w .place;
-      parity = w .parity;
+      known = w .known;
     }
 
--- ---- counting up to an parity place
+-- ---- counting up to an known place
 
-pub odd-even : (v : code.Profile) (t : List ℕ) (i : ℕ) (odd total : Bool) (parity : ℕ) → ParityPlace t parity → i ≡ parity → OddLoop (profileOf v) t i odd total → odd ≡ total
-odd-even v t i odd total parity e z l =
-    let same : l .rest ≡ e .rest = sym (front-is t parity (l .rest) (l .es) (l .parts) (l .place ∙ z)) ∙ front-is t parity (e .rest) (e .es) (e .parts) (e .place) in
-    let o : context (profileOf v) (l .rest) .odd ≡ false = ap (λ (x : List Scalar). context (profileOf v) x .odd) same ∙ e .parity v in
-    sym (l .parity ∙ ap (flip odd) o ∙ flip-false odd)
+pub odd-even : (v : code.Profile) (t : List ℕ) (i : ℕ) (odd total : Bool) (known : ℕ) → KnownPlace (profileOf v) t known → i ≡ known → OddLoop (profileOf v) t i odd total → odd ≡ total
+odd-even v t i odd total known e z l =
+    let same : l .rest ≡ e .rest = sym (front-is t known (l .rest) (l .es) (l .parts) (l .place ∙ z)) ∙ front-is t known (e .rest) (e .es) (e .parts) (e .place) in
+    let o : context (profileOf v) (l .rest) .odd ≡ false = ap (λ (x : List Scalar). context (profileOf v) x .odd) same ∙ ap (λ (k : Context). k .odd) (e .known) in
+    sym (l .known ∙ ap (flip odd) o ∙ flip-false odd)
+
+pub pictograph-even : (v : code.Profile) (t : List ℕ) (i : ℕ) (total : Bool) (known : ℕ) → KnownPlace (profileOf v) t known → i ≡ known → PictographLoop (profileOf v) t i total → false ≡ total
+pictograph-even v t i total known e z l = pictograph-known (profileOf v) t i total known z e l (λ e. e .known)
+
+pub joins-even-place : (v : code.Profile) (t : List ℕ) (q known : ℕ) (a : ScalarStart t q) (j p k : ℕ) → (q ≢ 0) → j ≡ back t q → p ≡ packedAt (profileOf v) t j / 8 % 16 → k ≡ packedAt (profileOf v) t q / 8 % 16
+    → KnownPlace (profileOf v) t known → q ≡ known → (eqb p 4 && eqb k 12) ≡ true → false ≡ joinsAt (profileOf v) t q
+joins-even-place v t q known a j p k z b f g e h m =
+    joins-known (profileOf v) t q a j p k false z b f g m refl (ap (context (profileOf v)) (front-is t q (e .rest) (e .es) (e .parts) (e .place ∙ sym h)) ∙ e .known)
+
+-- an even number of regional indicators leaves the context of a text's start, and so does ZWJ that no Extended_Pictographic stands before
+start-at : (k : Context) → after k 10 .odd ≡ false → after k 10 ≡ start
+unfolding after among number
+start-at k o = rw (o, and-false (k .emoji)) refl
+
+start-zwj : (k : Context) → after k 4 .emojiZwj ≡ false → after k 4 ≡ start
+unfolding after among number
+start-zwj k o = rw (and-false (k .emoji), o) refl
+
+pub start-even : (P : Profile) (d : Scalar) (rest : List Scalar) → number (P .class (d .code)) ≡ 10 → context P (d ∷ rest) .odd ≡ false → context P (d ∷ rest) ≡ start
+unfolding context
+start-even P d rest r o = ap (after (context P rest)) r ∙ start-at (context P rest) (ap (λ (n : ℕ). after (context P rest) n .odd) (sym r) ∙ o)
+
+pub start-behind : (P : Profile) (d : Scalar) (rest : List Scalar) (c : Scalar) → number (P .class (d .code)) ≡ 4 → number (P .class (c .code)) ≡ 12 → joins P (d ∷ rest) c ≡ false → context P (d ∷ rest) ≡ start
+unfolding context joins
+start-behind P d rest c rd rc j =
+    let z : after (context P rest) 4 .emojiZwj ≡ false = sym (joined-picture (after (context P rest) 4)) ∙ sym (ap₂ (λ (m n : ℕ). joined m (after (context P rest) m) n) rd rc) ∙ j in
+    ap (after (context P rest)) rd ∙ start-zwj (context P rest) z
 
 -- ---- two regional indicators
 
@@ -199,7 +230,7 @@ odd-even v t i odd total parity e z l =
 joined-even : (p : ℕ) (k : Context) → k .odd ≡ false → joined p k 10 ≡ false
 unfolding joined among number
 joined-even p k e =
-    rw (e, and-false (eqb p 0), and-false (eqb p 5), and-false (eqb p 8 || eqb p 6), and-false (eqb p 9 || eqb p 7))
+    rw (e, and-false (k .emojiZwj), and-false (eqb p 0), and-false (eqb p 5), and-false (eqb p 8 || eqb p 6), and-false (eqb p 9 || eqb p 7))
     (cases (eqb p 2 || (eqb p 0 || eqb p 1)) (λ f. rw f refl) (λ f. rw f refl))
 
 joins-even : (P : Profile) (rest : List Scalar) (d : Scalar) → number (P .class (d .code)) ≡ 10 → context P rest .odd ≡ false → joins P rest d ≡ false
@@ -223,7 +254,7 @@ not-odd : (b : Bool) → not b ≡ true → b ≡ false
 not-odd true e = let z : _≡_ {A = ℕ} 0 1 = cc in absurd (omega arith)
 not-odd false e = refl
 
--- a pair that ends in an parity place is a cluster, and the place before it is even too
+-- a pair that ends in an known place is a cluster, and the place before it is even too
 pub record Pair (v : code.Profile) (rev : List Scalar) (q : ℕ) : Type 0 where
   pub left : List Scalar
   pub without : withoutLast (profileOf v) rev ≡ left

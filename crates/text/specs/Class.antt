@@ -13,7 +13,7 @@ pub mod Profile01
 pub mod Symbols
 
 pub data Class : Type 0 where
-  cr lf control extend zwj classL classV classT classLV classLVT regionalIndicator other : Class
+  cr lf control extend zwj classL classV classT classLV classLVT regionalIndicator other extendedPictographic : Class
 
 -- the classes numbered, as code holds them
 unfoldable pub number : Class → ℕ
@@ -29,6 +29,7 @@ number classLV = 8
 number classLVT = 9
 number regionalIndicator = 10
 number other = 11
+number extendedPictographic = 12
 
 -- n is the number of one of these classes
 unfoldable pub among : ℕ → List Class → Bool
@@ -55,8 +56,11 @@ controls = to 0x00 0x1F ∷ to 0x7F 0x9F ∷ to 0x200B 0x200B ∷ to 0x200E 0x20
 unfoldable pub extends : List Range
 extends = to 0x300 0x36F ∷ to 0x483 0x489 ∷ to 0x1DC0 0x1DFF ∷ to 0x200C 0x200C ∷ to 0x20D0 0x20F0 ∷ to 0xFE00 0xFE0F ∷ to 0xFE20 0xFE2F ∷ to 0xE0100 0xE01EF ∷ []
 
+unfoldable pub pictographs : List Range
+pictographs = to 0x1F300 0x1F64F ∷ to 0x1F900 0x1F9FF ∷ []
+
 unfoldable pub class01 : ℕ → Class
-unfolding inAny controls extends
+unfolding inAny controls extends pictographs
 class01 v =
     cond (eqb v 0x0D) cr
     (cond (eqb v 0x0A) lf
@@ -67,7 +71,8 @@ class01 v =
     (cond (inAny (to 0x1160 0x11A7 ∷ to 0xD7B0 0xD7C6 ∷ []) v) classV
     (cond (inAny (to 0x11A8 0x11FF ∷ to 0xD7CB 0xD7FB ∷ []) v) classT
     (cond (within (to 0xAC00 0xD7A3) v) (cond (eqb ((v - 0xAC00) % 28) 0) classLV classLVT)
-    (cond (within (to 0x1F1E6 0x1F1FF) v) regionalIndicator other)))))))))
+    (cond (within (to 0x1F1E6 0x1F1FF) v) regionalIndicator
+    (cond (inAny pictographs v) extendedPictographic other))))))))))
 
 -- char::is_whitespace
 unfoldable pub spaces : List Range

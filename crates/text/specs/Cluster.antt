@@ -1,9 +1,9 @@
 -- Grapheme clusters: UAX #29's rules over a profile's classes.
 use Prim.Native.Nat.{ℕ}
-use mathlib.Core.Bool.{Bool, true, false, not, cond, _&&_}
+use mathlib.Core.Bool.{Bool, true, false, not, cond, _&&_, _||_}
 use mathlib.Core.List.{List, [], _∷_, _++_}
 use Rattle.text.specs.Utf8.{Scalar}
-use Rattle.text.specs.Class.{cr, lf, control, extend, zwj, classL, classV, classT, classLV, classLVT, regionalIndicator, number, among, Profile}
+use Rattle.text.specs.Class.{cr, lf, control, extend, zwj, classL, classV, classT, classLV, classLVT, regionalIndicator, extendedPictographic, number, among, Profile}
 pub mod Laws
 pub mod Appended
 pub mod Walk
@@ -15,18 +15,27 @@ pub mod Parts
 pub mod Joined
 pub mod Controls
 pub mod Unshared
+pub mod Examples
 
--- what the rules ask of the scalars before, besides the last one's class: an odd number of regional indicators ends there
+-- what the rules ask of the scalars before, besides the last one's class: an odd number of regional indicators ends there (GB12, GB13); an
+-- Extended_Pictographic and Extends end there, or these and a ZWJ (GB11)
 pub record Context : Type 0 where
   pub odd : Bool
+  pub emoji : Bool
+  pub emojiZwj : Bool
 
 abbrev pub start : Context
-start = record { odd = false }
+start = record { odd = false; emoji = false; emojiZwj = false }
 
 -- the same with one more scalar, of class c
 unfoldable pub after : Context → ℕ → Context
 unfolding among
-after k c = record { odd = among c (regionalIndicator ∷ []) && not (k .odd) }
+after k c =
+    record {
+      odd = among c (regionalIndicator ∷ []) && not (k .odd);
+      emoji = among c (extendedPictographic ∷ []) || (k .emoji && among c (extend ∷ []));
+      emojiZwj = k .emoji && among c (zwj ∷ []);
+    }
 
 -- scalars that end in class p, with the context k, and one of class c: the first rule that applies says whether there is no boundary between them
 unfoldable pub joined : ℕ → Context → ℕ → Bool
@@ -39,8 +48,9 @@ joined p k c =
     (cond (among p (classLV ∷ classV ∷ []) && among c (classV ∷ classT ∷ [])) true  -- GB7
     (cond (among p (classLVT ∷ classT ∷ []) && among c (classT ∷ [])) true  -- GB8
     (cond (among c (extend ∷ zwj ∷ [])) true  -- GB9
+    (cond (k .emojiZwj && among c (extendedPictographic ∷ [])) true  -- GB11
     (cond (k .odd && among c (regionalIndicator ∷ [])) true  -- GB12, GB13
-    false)))))))  -- GB999
+    false))))))))  -- GB999
 
 module _ (P : Profile) where
   -- the number of a scalar's class

@@ -1,6 +1,9 @@
 // Grapheme clusters from the end of a text backward: where the last one begins, and what erasing it leaves.
+use super::class::EXTEND;
+use super::class::EXTENDED_PICTOGRAPHIC;
 use super::class::Profile;
 use super::class::REGIONAL_INDICATOR;
+use super::class::ZWJ;
 use super::class::is_control;
 use super::rules::continues_cluster;
 use super::scalar::INDICATOR;
@@ -17,12 +20,13 @@ ghost use Rattle.text.specs.Utf8.{decode};
 ghost use Rattle.text.specs.Class.Code.{profileOf};
 ghost use Rattle.text.specs.Utf8.Code.{runOf, size, whole};
 ghost use Rattle.text.specs.Scalar.{packedAt};
-ghost use Rattle.text.specs.Backward.{back, ScalarStart, oddTo, joinsAt, withoutLast, ParityPlace, indicatorAt, endsInPair, betweenIndicators, parityBefore, Erased};
+ghost use Rattle.text.specs.Backward.{back, ScalarStart, oddTo, pictographTo, joinsAt, withoutLast, KnownPlace, indicatorAt, endsInPair, betweenIndicators, afterZwj, needsContext, knownBefore, Erased};
 
-// Where a text ends behind an erasure, and its parity place: one up to there at which an even number of regional indicators ends.
+// Where a text ends after an erasure, and its known place: one up to there at which the rules go on as at a text's start, whatever stands
+// before it. A look back stops there, so that erasures take no longer the longer the text is.
 pub struct Erasure {
     pub at: usize,
-    pub parity: usize,
+    pub known: usize,
 }
 
 // The start of the scalar that ends at q.
@@ -59,15 +63,15 @@ fn is_indicator(profile: Profile, t: &[u8], at: usize) -> bool
     scalar_at(profile, t, at) == 4 + INDICATOR
 }
 
-// Does an odd number of regional indicators end at q, the start of a scalar of the text? An even number is known to end at `parity`.
-fn odd_to(profile: Profile, t: &[u8], q: usize, parity: usize) -> bool
-    requires { ⌜ (q ≤ length (now t)) × ScalarStart (now t) q × ParityPlace (now t) parity ⌝ }
+// GB12, GB13: does an odd number of regional indicators end at q, the start of a scalar of the text?
+fn odd_to(profile: Profile, t: &[u8], q: usize, known: usize) -> bool
+    requires { ⌜ (q ≤ length (now t)) × ScalarStart (now t) q × KnownPlace (profileOf profile) (now t) known ⌝ }
     ensures { λ r. ⌜ r ≡ oddTo (profileOf profile) (now (t .entry)) q ⌝ }
 {
     let mut odd = false;
     let mut i = q;
     while 4 <= i {
-        if i == parity {
+        if i == known {
             return odd;
         }
         if is_indicator(profile, t, i - 4) {
@@ -80,26 +84,55 @@ fn odd_to(profile: Profile, t: &[u8], q: usize, parity: usize) -> bool
     odd
 }
 
+// GB11: do an Extended_Pictographic and any number of Extend end at q, the start of a scalar of the text?
+fn pictograph_to(profile: Profile, t: &[u8], q: usize, known: usize) -> bool
+    requires { ⌜ (q ≤ length (now t)) × ScalarStart (now t) q × KnownPlace (profileOf profile) (now t) known ⌝ }
+    ensures { λ r. ⌜ r ≡ pictographTo (profileOf profile) (now (t .entry)) q ⌝ }
+{
+    let mut i = q;
+    while 0 < i {
+        if i == known {
+            return false;
+        }
+        let j = scalar_start(t, i);
+        let c = class_at(profile, t, j);
+        if c == EXTEND {
+            i = j;
+        } else {
+            return c == EXTENDED_PICTOGRAPHIC;
+        }
+    }
+    false
+}
+
 // Is there no boundary at q, the start of a scalar of the text?
-fn joins_at(profile: Profile, t: &[u8], q: usize, parity: usize) -> bool
-    requires { ⌜ (q < length (now t)) × ScalarStart (now t) q × ParityPlace (now t) parity ⌝ }
+fn joins_at(profile: Profile, t: &[u8], q: usize, known: usize) -> bool
+    requires { ⌜ (q < length (now t)) × ScalarStart (now t) q × KnownPlace (profileOf profile) (now t) known ⌝ }
     ensures { λ r. ⌜ r ≡ joinsAt (profileOf profile) (now (t .entry)) q ⌝ }
 {
     if q == 0 {
         return false;
     }
-    let p = class_at(profile, t, scalar_start(t, q));
+    let j = scalar_start(t, q);
+    let p = class_at(profile, t, j);
     let c = class_at(profile, t, q);
-    // GB12, GB13: the state behind regional indicators is told by their number
+    // GB12, GB13: the number of regional indicators tells
     if (p == REGIONAL_INDICATOR) & (c == REGIONAL_INDICATOR) {
-        return odd_to(profile, t, q, parity);
+        return odd_to(profile, t, q, known);
+    }
+    // GB11: what stands before the ZWJ tells
+    if (p == ZWJ) & (c == EXTENDED_PICTOGRAPHIC) {
+        if q == known {
+            return false;
+        }
+        return pictograph_to(profile, t, j, known);
     }
     continues_cluster(p, c)
 }
 
-// Where the last cluster of a valid text begins, in which an even number of regional indicators is known to end at `parity`.
-fn last_start(profile: Profile, t: &[u8], parity: usize) -> usize
-    requires { ⌜ whole (now t) × ParityPlace (now t) parity ⌝ }
+// Where the last cluster of a valid text begins.
+fn last_start(profile: Profile, t: &[u8], known: usize) -> usize
+    requires { ⌜ whole (now t) × KnownPlace (profileOf profile) (now t) known ⌝ }
     ensures { λ r. ⌜ r ≡ size (withoutLast (profileOf profile) (reverse (runOf (decode (now (t .entry)))))) ⌝ }
 {
     if t.len() == 0 {
@@ -107,7 +140,7 @@ fn last_start(profile: Profile, t: &[u8], parity: usize) -> usize
     }
     let mut q = scalar_start(t, t.len());
     while 0 < q {
-        if joins_at(profile, t, q, parity) {
+        if joins_at(profile, t, q, known) {
             q = scalar_start(t, q);
         } else {
             return q;
@@ -116,15 +149,15 @@ fn last_start(profile: Profile, t: &[u8], parity: usize) -> usize
     q
 }
 
-// Are the last two scalars of the text regional indicators, an even number of which is known to end there?
-fn ends_in_pair(profile: Profile, t: &[u8], parity: usize) -> bool
-    ensures { λ r. ⌜ r ≡ endsInPair (profileOf profile) (now (t .entry)) parity ⌝ }
+// Are the last two scalars of the text regional indicators, and is its end the known place, so that they are a pair?
+fn ends_in_pair(profile: Profile, t: &[u8], known: usize) -> bool
+    ensures { λ r. ⌜ r ≡ endsInPair (profileOf profile) (now (t .entry)) known ⌝ }
 {
     let n = t.len();
     if n < 8 {
         return false;
     }
-    if parity == n {
+    if known == n {
         if is_indicator(profile, t, n - 4) {
             return is_indicator(profile, t, n - 8);
         }
@@ -133,7 +166,7 @@ fn ends_in_pair(profile: Profile, t: &[u8], parity: usize) -> bool
     false
 }
 
-// Do regional indicators stand before q and behind it?
+// GB12, GB13: do regional indicators stand before q and after it?
 fn is_between_indicators(profile: Profile, t: &[u8], q: usize) -> bool
     requires { ⌜ q < length (now t) ⌝ }
     ensures { λ r. ⌜ r ≡ betweenIndicators (profileOf profile) (now (t .entry)) q ⌝ }
@@ -147,37 +180,61 @@ fn is_between_indicators(profile: Profile, t: &[u8], q: usize) -> bool
     false
 }
 
-// The parity place of the text without its last cluster, which begins at q: the one known while it is near, so that what is written and
-// erased behind it does not move it.
-fn parity_before(profile: Profile, t: &[u8], q: usize, parity: usize) -> usize
+// GB11: do ZWJ stand before q and an Extended_Pictographic after it?
+fn is_after_zwj(profile: Profile, t: &[u8], q: usize) -> bool
     requires { ⌜ q < length (now t) ⌝ }
-    ensures { λ r. ⌜ r ≡ parityBefore (profileOf profile) (now (t .entry)) q parity ⌝ }
+    ensures { λ r. ⌜ r ≡ afterZwj (profileOf profile) (now (t .entry)) q ⌝ }
 {
-    if q < parity {
-        if is_between_indicators(profile, t, q) {
+    if q == 0 {
+        return false;
+    }
+    let p = class_at(profile, t, scalar_start(t, q));
+    let c = class_at(profile, t, q);
+    (p == ZWJ) & (c == EXTENDED_PICTOGRAPHIC)
+}
+
+// Do the rules ask for more than the scalars on both sides of q to say whether there is a boundary?
+fn needs_context(profile: Profile, t: &[u8], q: usize) -> bool
+    requires { ⌜ q < length (now t) ⌝ }
+    ensures { λ r. ⌜ r ≡ needsContext (profileOf profile) (now (t .entry)) q ⌝ }
+{
+    if is_between_indicators(profile, t, q) {
+        return true;
+    }
+    is_after_zwj(profile, t, q)
+}
+
+// The known place of the text without its last cluster, which begins at q: the one known while it is near, so that what is written and
+// erased after it does not move it.
+fn known_before(profile: Profile, t: &[u8], q: usize, known: usize) -> usize
+    requires { ⌜ q < length (now t) ⌝ }
+    ensures { λ r. ⌜ r ≡ knownBefore (profileOf profile) (now (t .entry)) q known ⌝ }
+{
+    if q < known {
+        if needs_context(profile, t, q) {
             return q;
         }
         return 0;
     }
-    if q - parity <= 128 {
-        return parity;
+    if q - known <= 128 {
+        return known;
     }
-    if is_between_indicators(profile, t, q) {
+    if needs_context(profile, t, q) {
         return q;
     }
-    parity
+    known
 }
 
 // The erasure of a valid text's last cluster; nothing is erased where a backspace is added instead.
-pub(crate) fn erase_last(profile: Profile, t: &[u8], parity: usize) -> Erasure
-    requires { ⌜ whole (now t) × ParityPlace (now t) parity ⌝ }
-    ensures { λ r. ⌜ Erased (profileOf profile) (now (t .entry)) parity r ⌝ }
+pub(crate) fn erase_last(profile: Profile, t: &[u8], known: usize) -> Erasure
+    requires { ⌜ whole (now t) × KnownPlace (profileOf profile) (now t) known ⌝ }
+    ensures { λ r. ⌜ Erased (profileOf profile) (now (t .entry)) known r ⌝ }
 {
     let n = t.len();
     if n == 0 {
         return Erasure {
             at: 0,
-            parity: parity,
+            known: known,
         };
     }
     let b = byte_at(t, n - 1);
@@ -185,30 +242,30 @@ pub(crate) fn erase_last(profile: Profile, t: &[u8], parity: usize) -> Erasure
         if is_control(b) {
             return Erasure {
                 at: n,
-                parity: parity,
+                known: known,
             };
         }
         return Erasure {
             at: n - 1,
-            parity: parity_before(profile, t, n - 1, parity),
+            known: known_before(profile, t, n - 1, known),
         };
     }
-    if ends_in_pair(profile, t, parity) {
+    if ends_in_pair(profile, t, known) {
         return Erasure {
             at: n - 8,
-            parity: n - 8,
+            known: known_before(profile, t, n - 8, known),
         };
     }
-    let q = last_start(profile, t, parity);
+    let q = last_start(profile, t, known);
     let u = decode(t, q);
     if is_control(u.code) {
         return Erasure {
             at: n,
-            parity: parity,
+            known: known,
         };
     }
     Erasure {
         at: q,
-        parity: parity_before(profile, t, q, parity),
+        known: known_before(profile, t, q, known),
     }
 }

@@ -1,7 +1,7 @@
 // Classes of scalars: UAX #29's Grapheme_Cluster_Break, whitespace.
 ghost use mathlib.Core.Path.{_≡_};
 ghost use Prim.Native.Nat.{_≤_, _<_};
-ghost use Rattle.text.specs.Class.{number, inAny, controls, extends, whitespace, isControl};
+ghost use Rattle.text.specs.Class.{number, inAny, controls, extends, pictographs, whitespace, isControl};
 ghost use Rattle.text.specs.Class.Code.{jamo, printable, profileOf, syllable};
 
 // The version of the text profile that classes and widths are taken from: 0 is document 01's.
@@ -34,6 +34,8 @@ pub(crate) const REGIONAL_INDICATOR: u8 = 10;
 
 pub const OTHER: u8 = 11;
 
+pub const EXTENDED_PICTOGRAPHIC: u8 = 12;
+
 fn in_controls(x: u32) -> bool
     ensures { λ r. ⌜ r ≡ inAny controls x ⌝ }
 {
@@ -56,6 +58,12 @@ fn in_extends(x: u32) -> bool
                         | (((0xFE00 <= x) & (x <= 0xFE0F))
                             | (((0xFE20 <= x) & (x <= 0xFE2F))
                                 | ((0xE0100 <= x) & (x <= 0xE01EF))))))))
+}
+
+pub(crate) fn in_pictographs(x: u32) -> bool
+    ensures { λ r. ⌜ r ≡ inAny pictographs x ⌝ }
+{
+    ((0x1F300 <= x) & (x <= 0x1F64F)) | ((0x1F900 <= x) & (x <= 0x1F9FF))
 }
 
 // The number of a Hangul syllable's class: LV, or LVT where it ends in a consonant.
@@ -116,6 +124,9 @@ fn class_in_ranges(profile: Profile, x: u32) -> u8
     if (0x1F1E6 <= x) & (x <= 0x1F1FF) {
         return REGIONAL_INDICATOR;
     }
+    if in_pictographs(x) {
+        return EXTENDED_PICTOGRAPHIC;
+    }
     OTHER
 }
 
@@ -155,10 +166,7 @@ pub(crate) fn class(profile: Profile, x: u32) -> u8
     if (0xAC00 <= x) & (x <= 0xD7A3) {
         return syllable_class(x);
     }
-    if (0x1F1E6 <= x) & (x <= 0xE00FF) {
-        if x <= 0x1F1FF {
-            return REGIONAL_INDICATOR;
-        }
+    if (0x1FA00 <= x) & (x <= 0xE00FF) {
         return OTHER;
     }
     class_in_ranges(profile, x)

@@ -13,7 +13,7 @@ ghost use Rattle.text.specs.Utf8.{sameBytes, decode, runs};
 ghost use Rattle.text.specs.Overstrike.{bolded, underlined, ambiguous, backspace, step, convertPieces, convert};
 ghost use Rattle.text.specs.Backward.{backward};
 ghost use Rattle.text.specs.Class.Code.{profileOf};
-ghost use Rattle.text.specs.Overstrike.Code.{BackReady, BackspaceStep, FinishReady, Finished, FrontParity, LineCopied, PieceDone, PieceReady, Pushed, SpanDone, StepReady, Stepped, Strike, StruckStep, Wrote, changedStyle, conversion, orderOf, partOf, plain, stateOf, styleOf};
+ghost use Rattle.text.specs.Overstrike.Code.{BackReady, BackspaceStep, FinishReady, Finished, FrontKnown, LineCopied, PieceDone, PieceReady, Pushed, SpanDone, StepReady, Stepped, Strike, StruckStep, Wrote, changedStyle, conversion, orderOf, partOf, plain, stateOf, styleOf};
 
 // An overstrike style.
 pub struct Overstrike {
@@ -29,22 +29,22 @@ pub struct Conversion {
     pub end: usize,
     pub before: Overstrike,
     pub style: Overstrike,
-    pub parity: usize,
+    pub known: usize,
 }
 
 // Erases the last cluster of the result, or adds a backspace.
-fn backspace(profile: Profile, out: &mut [u8], len: usize, parity: usize) -> Erasure
-    requires { ⌜ BackReady (now out) len parity ⌝ }
-    ensures { λ r. ⌜ FrontParity (now (out .exit)) r (backspace (profileOf profile) (backward (take len (now (out .entry))))) ⌝ }
+fn backspace(profile: Profile, out: &mut [u8], len: usize, known: usize) -> Erasure
+    requires { ⌜ BackReady (profileOf profile) (now out) len known ⌝ }
+    ensures { λ r. ⌜ FrontKnown (profileOf profile) (now (out .exit)) r (backspace (profileOf profile) (backward (take len (now (out .entry))))) ⌝ }
 {
-    let k = erase_last(profile, &out[..len], parity);
+    let k = erase_last(profile, &out[..len], known);
     if k.at < len {
         return k;
     }
     out[len] = 0x08;
     Erasure {
         at: len + 1,
-        parity: k.parity,
+        known: k.known,
     }
 }
 
@@ -140,7 +140,7 @@ fn push_styled(
 
 // A cluster that is a backspace.
 fn on_backspace(profile: Profile, out: &mut [u8], st: Conversion) -> Conversion
-    requires { ⌜ BackReady (now out) (st .len) (st .parity) ⌝ }
+    requires { ⌜ BackReady (profileOf profile) (now out) (st .len) (st .known) ⌝ }
     ensures { λ r. ⌜ BackspaceStep (profileOf profile) (now (out .entry)) (now (out .exit)) st r ⌝ }
 {
     let before = st.before;
@@ -153,10 +153,10 @@ fn on_backspace(profile: Profile, out: &mut [u8], st: Conversion) -> Conversion
             end: st.end,
             before: before,
             style: style,
-            parity: st.parity,
+            known: st.known,
         };
     }
-    let k = backspace(profile, out, st.len, st.parity);
+    let k = backspace(profile, out, st.len, st.known);
     Conversion {
         len: k.at,
         pending: 0,
@@ -167,7 +167,7 @@ fn on_backspace(profile: Profile, out: &mut [u8], st: Conversion) -> Conversion
             bold: false,
             underline: false,
         },
-        parity: k.parity,
+        known: k.known,
     }
 }
 
@@ -238,7 +238,7 @@ fn is_byte(x: &[u8], b: u8) -> bool
 
 // The cluster from `at` to `end` held in the pending one's place.
 fn replace(st: Conversion, at: usize, end: usize, style: Overstrike) -> Conversion
-    ensures { λ r. ⌜ r ≡ conversion (st .len) 1 at end (st .before) style (st .parity) ⌝ }
+    ensures { λ r. ⌜ r ≡ conversion (st .len) 1 at end (st .before) style (st .known) ⌝ }
 {
     let before = st.before;
     Conversion {
@@ -248,7 +248,7 @@ fn replace(st: Conversion, at: usize, end: usize, style: Overstrike) -> Conversi
         end: end,
         before: before,
         style: style,
-        parity: st.parity,
+        known: st.known,
     }
 }
 
@@ -289,7 +289,7 @@ fn strike(line: &[u8], st: Conversion, at: usize, end: usize) -> Conversion
 
 // The cluster from `at` to `end` held behind a result of `len` bytes.
 fn hold(st: Conversion, len: usize, at: usize, end: usize) -> Conversion
-    ensures { λ r. ⌜ r ≡ conversion len 1 at end (st .style) plain (st .parity) ⌝ }
+    ensures { λ r. ⌜ r ≡ conversion len 1 at end (st .style) plain (st .known) ⌝ }
 {
     let style = st.style;
     Conversion {
@@ -302,7 +302,7 @@ fn hold(st: Conversion, len: usize, at: usize, end: usize) -> Conversion
             bold: false,
             underline: false,
         },
-        parity: st.parity,
+        known: st.known,
     }
 }
 
@@ -315,8 +315,8 @@ fn step(
     at: usize,
     end: usize,
 ) -> Conversion
-    requires { ⌜ StepReady (now line) (now out) st at end ⌝ }
-    ensures { λ r. ⌜ Stepped (now (line .entry)) (now (out .exit)) r (step (profileOf profile) (stateOf (now (line .entry)) (now (out .entry)) st) (partOf (now (line .entry)) at end)) ⌝ }
+    requires { ⌜ StepReady (profileOf profile) (now line) (now out) st at end ⌝ }
+    ensures { λ r. ⌜ Stepped (profileOf profile) (now (line .entry)) (now (out .exit)) r (step (profileOf profile) (stateOf (now (line .entry)) (now (out .entry)) st) (partOf (now (line .entry)) at end)) ⌝ }
 {
     let back = is_byte(&line[at..end], 0x08);
     if back {
@@ -380,7 +380,7 @@ fn convert_unicode_span(profile: Profile, line: &[u8], out: &mut [u8]) -> Progre
             bold: false,
             underline: false,
         },
-        parity: 0,
+        known: 0,
     };
     let mut p = 0;
     while p < line.len() {

@@ -1,6 +1,7 @@
 // A scalar as one number: what the walks through a text read at a place.
 use super::class::CONTROL;
 use super::class::EXTEND;
+use super::class::EXTENDED_PICTOGRAPHIC;
 use super::class::L;
 use super::class::LF;
 use super::class::LV;
@@ -11,6 +12,7 @@ use super::class::REGIONAL_INDICATOR;
 use super::class::T;
 use super::class::V;
 use super::class::class;
+use super::class::in_pictographs;
 use super::utf8::byte_at;
 use super::utf8::four_bytes;
 use super::utf8::is_tail;
@@ -41,6 +43,8 @@ const SYLLABLE_LV: usize = 8 * (LV as usize) + 256;
 const SYLLABLE_LVT: usize = 8 * (LVT as usize) + 256;
 
 pub(crate) const INDICATOR: usize = 8 * (REGIONAL_INDICATOR as usize) + 128;
+
+const PICTURE: usize = 8 * (EXTENDED_PICTOGRAPHIC as usize) + 256;
 
 const NEW_LINE: usize = 8 * (LF as usize);
 
@@ -118,8 +122,8 @@ fn pack_four(profile: Profile, x: u32) -> usize
     if (0x1F1E6 <= x) & (x <= 0x1F1FF) {
         return 4 + INDICATOR;
     }
-    if (0x1F300 <= x) & (x <= 0x1F64F) {
-        return 4 + WIDE;
+    if in_pictographs(x) {
+        return 4 + PICTURE;
     }
     if (0x1F650 <= x) & (x <= 0x1F8FF) {
         return 4 + NARROW;

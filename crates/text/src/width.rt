@@ -58,6 +58,12 @@ pub fn width(profile: Profile, x: u32) -> usize
     if (0xAC00 <= x) & (x <= 0xD7A3) {
         return 2;
     }
+    if (0x1F300 <= x) & (x <= 0x1F64F) {
+        return 2;
+    }
+    if (0x1F1E6 <= x) & (x <= 0x1F1FF) {
+        return 1;
+    }
     if has_no_width(profile, x) {
         return 0;
     }

@@ -76,7 +76,8 @@ fn piece(random: &mut Random) -> Vec<u8> {
         31..=41 => overstruck(random),
         42..=44 => backspaces(random),
         45..=51 => mark(random),
-        52..=57 => wide(random),
+        52..=55 => wide(random),
+        56..=57 => joined(random),
         58..=62 => utf8(random.pick(&JAMO)),
         63..=65 => utf8(random.pick(&INDICATORS)),
         66..=68 => utf8(boundary(random)),
@@ -109,6 +110,16 @@ fn wide(random: &mut Random) -> Vec<u8> {
     utf8(random.pick(&WIDE))
 }
 
+/// Pictures, most of them joined: what stands between two of them makes GB11 apply or not.
+fn joined(random: &mut Random) -> Vec<u8> {
+    let mut line = utf8(random.pick(&PICTURES));
+    for _ in 0..random.between(1, 3) {
+        line.extend(random.pick(&BETWEEN_PICTURES));
+        line.extend(utf8(random.pick(&PICTURES)));
+    }
+    line
+}
+
 fn noise(random: &mut Random) -> Vec<u8> {
     vec![random.pick(&NOISE); random.between(1, 2)]
 }
@@ -130,6 +141,16 @@ const MARKS: [u32; 10] = [
     0x301, 0x301, 0x300, 0x36F, 0x489, 0x200C, 0x200D, 0x200D, 0xFE0F, 0xE0100,
 ];
 const WIDE: [u32; 6] = [0x6F22, 0x6F22, 0x3042, 0xFF21, 0x1F600, 0x20000];
+/// Extended_Pictographic, the ends of its ranges and a neighbour that is none.
+const PICTURES: [u32; 8] = [
+    0x1F468, 0x1F469, 0x1F469, 0x1F300, 0x1F64F, 0x1F900, 0x1F9FF, 0x1F680,
+];
+#[rustfmt::skip]
+const BETWEEN_PICTURES: [&[u8]; 10] = [
+    b"\xE2\x80\x8D", b"\xE2\x80\x8D", b"\xE2\x80\x8D", b"\xEF\xB8\x8F\xE2\x80\x8D",
+    b"\xCC\x81\xCC\x81\xE2\x80\x8D", b"\xE2\x80\x8D\xCC\x81", b"\xE2\x80\x8D\xE2\x80\x8D",
+    b"\xCC\x81", b"", b"\xE2\x80\x8D\xFF",
+];
 const JAMO: [u32; 8] = [
     0x1100, 0x1100, 0x1161, 0x11A8, 0xAC00, 0xAC01, 0xA960, 0xD7CB,
 ];
@@ -158,6 +179,7 @@ fn profile_ranges() -> Vec<Range> {
         profile::L,
         profile::V,
         profile::T,
+        profile::EXT_PICT,
         profile::WIDE,
         profile::WHITESPACE,
     ];
@@ -190,7 +212,10 @@ fn overstruck(random: &mut Random) -> Vec<u8> {
     let letter = match random.below(10) {
         0..=5 => vec![random.pick(b"abm_")],
         6 => [b"e".to_vec(), utf8(0x301)].concat(),
-        7 => utf8(random.pick(&WIDE)),
+        7 => match random.percent(50) {
+            true => utf8(random.pick(&WIDE)),
+            false => joined(random),
+        },
         8 => utf8(random.pick(&MARKS)),
         _ => vec![random.pick(b" \t\n-")],
     };

@@ -1,5 +1,5 @@
-//! Corners of document 01, of modes 3 and 4 and of vertical alignment, by what they are
-//! about.
+//! Corners of document 01, of joined emoji, of modes 3 and 4 and of vertical alignment, by
+//! what they are about.
 
 use super::*;
 
@@ -10,6 +10,7 @@ pub fn corners() -> Vec<Statement> {
         noise_and_runs,
         questions,
         clusters,
+        joined_emoji,
         rows_and_bytes,
         drawn_columns,
         overstrike,
@@ -108,12 +109,6 @@ fn clusters(list: &mut Vec<Statement>) {
         &[(0, 0), (0, 1), (1, 3)],
     );
     s.rows(&format!("61 {zwj} 62"), 0, 1, &[(0, 0), (0, 1), (1, 2)]);
-    s.rows(
-        &format!("F0 9F 98 80 {zwj} F0 9F 98 80"),
-        0,
-        1,
-        &[(0, 0), (0, 2), (2, 4)],
-    );
     let (l, v, t) = ("E1 84 80", "E1 85 A1", "E1 86 A8");
     let (lv, lvt) = ("EA B0 80", "EA B0 81");
     s.reads(&format!("{l} {l} {v} {v} {t} {t}"), &[TEXT]);
@@ -130,6 +125,49 @@ fn clusters(list: &mut Vec<Statement>) {
         &format!("0A {mark} 09 {mark} C2 80 {mark}"),
         &[LF, UNPRINTABLE, TAB, UNPRINTABLE, UNPRINTABLE, UNPRINTABLE],
     );
+}
+
+/// Document 02, U2: GB11. M, W and G are U+1F468, U+1F469 and U+1F467, Z is U+200D.
+fn joined_emoji(list: &mut Vec<Statement>) {
+    const M: &str = "F0 9F 91 A8";
+    const W: &str = "F0 9F 91 A9";
+    const G: &str = "F0 9F 91 A7";
+    const Z: &str = "E2 80 8D";
+    const MARK: &str = "CC 81";
+    let line = |parts: &[&str]| parts.join(" ");
+    let mut s = about(list, "joined emoji");
+    // one cluster, as wide as its pictures together
+    let one = [(0, 0), (0, 4)];
+    s.rows(&line(&[M, Z, W]), 0, 1, &one);
+    s.rows(&line(&[M, MARK, Z, W]), 0, 1, &one);
+    s.rows(&line(&[M, Z, W]), 2, 1, &one);
+    s.rows(&line(&[M, Z, W, Z, G]), 0, 1, &[(0, 0), (0, 6)]);
+    // two clusters
+    let two = [(0, 0), (0, 2), (2, 4)];
+    s.rows(&line(&[M, Z, MARK, W]), 0, 1, &two);
+    s.rows(&line(&[M, Z, Z, W]), 0, 1, &two);
+    s.rows(&line(&[M, MARK, W]), 0, 1, &two);
+    s.rows(&line(&[M, Z, MARK, Z, W]), 0, 1, &two);
+    s.rows(&line(&[M, W]), 0, 1, &two);
+    s.rows(&line(&["61", Z, W]), 0, 1, &[(0, 0), (0, 1), (1, 3)]);
+    // U+1F680, U+1F650 and U+1F8FF are no Extended_Pictographic here; a skin tone is one
+    let other = [(0, 0), (0, 2), (2, 3)];
+    s.rows(&line(&[W, Z, "F0 9F 9A 80"]), 0, 1, &other);
+    s.rows(&line(&[W, Z, "F0 9F 99 90"]), 0, 1, &other);
+    s.rows(&line(&[W, Z, "F0 9F A3 BF"]), 0, 1, &other);
+    s.rows(&line(&[W, "F0 9F 8F BD"]), 0, 1, &two);
+    // question 8 refuses a window inside it
+    s.refuses(draw_window(&bytes(&line(&[M, Z, W])), 1, 3), 8);
+    // overstrike takes it as one cluster, and an erasure finds it in the output, where its
+    // halves may never have stood together in the line
+    s.converts(
+        &line(&[M, Z, W, "08", M, Z, W]),
+        &line(&["1B 5B 31 6D", M, Z, W, "1B 5B 32 32 6D"]),
+    );
+    s.converts(&line(&[M, Z, "61 08", W, "62 08 08"]), "");
+    // a damaged byte and a match's edge separate the halves
+    s.reads(&line(&[M, Z, "FF", W]), &[TEXT, INVALID, TEXT]);
+    s.matching(&line(&[M, Z, W]), &[0, 7], &[MATCH, TEXT]);
 }
 
 fn rows_and_bytes(list: &mut Vec<Statement>) {

@@ -19,19 +19,20 @@ pub record AsciiClasses (P : Profile) : Type 0 where
   pub class : (v : ℕ) → v < 0x80 → number (P .class v) ≡ number (asciiClass v)
   pub width : (v : ℕ) → v < 0x80 → P .width v ≡ cond (printable v) 1 0
 
--- the number of class LV, LVT or other: a Hangul syllable, or a scalar that no rule names
+-- the number of class LV, LVT, other or Extended_Pictographic: a Hangul syllable, a scalar that no rule names, or a picture
 abbrev pub syllableOrOther : ℕ → Bool
-syllableOrOther k = eqb k 8 || (eqb k 9 || eqb k 11)
+syllableOrOther k = eqb k 8 || (eqb k 9 || (eqb k 11 || eqb k 12))
 
 pub record SyllableColumns (P : Profile) : Type 0 where
   pub some : (v : ℕ) → syllableOrOther (number (P .class v)) ≡ true → 1 ≤ P .width v
 
--- what holds of the three holds of any of them
-pub by-syllable {ℓ} : (X : ℕ → Type ℓ) (k : ℕ) → syllableOrOther k ≡ true → X 8 → X 9 → X 11 → X k
-by-syllable X k h a b c =
+-- what holds of the four holds of any of them
+pub by-syllable {ℓ} : (X : ℕ → Type ℓ) (k : ℕ) → syllableOrOther k ≡ true → X 8 → X 9 → X 11 → X 12 → X k
+by-syllable X k h a b c d =
     cases (eqb k 8) (λ e. rw (eqb-true k 8 e) a)
     (λ e. cases (eqb k 9) (λ f. rw (eqb-true k 9 f) b)
-    (λ f. let g : eqb k 11 ≡ true = rw (e, f) at h in rw (eqb-true k 11 g) c))
+    (λ f. cases (eqb k 11) (λ i. rw (eqb-true k 11 i) c)
+    (λ i. let g : eqb k 12 ≡ true = rw (e, f, i) at h in rw (eqb-true k 12 g) d)))
 
 pub printable-range : (v : ℕ) → printable v ≡ true → (0x20 ≤ v) × (v ≤ 0x7E)
 printable-range v e = let t = and-T (leb 0x20 v) (leb v 0x7E) (true-T e) in (leb→le _ _ (t .0), leb→le _ _ (t .1))

@@ -8,7 +8,7 @@ use lib.Dec.{T, eqb, leb, leb→le, ltb}
 use borrow.Author.Tests.{eqb-true, le-leb}
 use Rattle.text.specs.Tests.{and-T, cases, is-true, or-T, true-T, in-range, every, every-one}
 use Rattle.text.specs.Utf8.{to}
-use Rattle.text.specs.Class.{among, class01, controls, extends, inAny, number}
+use Rattle.text.specs.Class.{among, class01, controls, extends, inAny, number, pictographs}
 use Rattle.text.specs.Class.Ranges.{clear, clear-within, clear-any, not-one}
 use Rattle.text.specs.Width.{wides, width01}
 use Rattle.text.specs.Class.Code.{jamo, printable, profileOf, syllable}
@@ -26,7 +26,8 @@ quiet-test a b =
     && (clear a b (to 0x1160 0x11A7 ∷ to 0xD7B0 0xD7C6 ∷ [])
     && (clear a b (to 0x11A8 0x11FF ∷ to 0xD7CB 0xD7FB ∷ [])
     && (clear a b (to 0xAC00 0xD7A3 ∷ [])
-    && clear a b (to 0x1F1E6 0x1F1FF ∷ [])))))))))
+    && (clear a b (to 0x1F1E6 0x1F1FF ∷ [])
+    && clear a b pictographs)))))))))
 
 quiet-other : (a b x : ℕ) → T (quiet-test a b) → a ≤ x → x ≤ b → number (class01 x) ≡ 11
 unfolding quiet-test class01 number
@@ -40,6 +41,7 @@ quiet-other a b x t h k =
     let p₇ = and-T (clear a b (to 0x1160 0x11A7 ∷ to 0xD7B0 0xD7C6 ∷ [])) _ (p₆ .1) in
     let p₈ = and-T (clear a b (to 0x11A8 0x11FF ∷ to 0xD7CB 0xD7FB ∷ [])) _ (p₇ .1) in
     let p₉ = and-T (clear a b (to 0xAC00 0xD7A3 ∷ [])) _ (p₈ .1) in
+    let p₁₀ = and-T (clear a b (to 0x1F1E6 0x1F1FF ∷ [])) _ (p₉ .1) in
     rw (
       not-one 0x0D a b x (p₁ .0) h k,
       not-one 0x0A a b x (p₂ .0) h k,
@@ -50,7 +52,8 @@ quiet-other a b x t h k =
       clear-any (to 0x1160 0x11A7 ∷ to 0xD7B0 0xD7C6 ∷ []) a b x (p₇ .0) h k,
       clear-any (to 0x11A8 0x11FF ∷ to 0xD7CB 0xD7FB ∷ []) a b x (p₈ .0) h k,
       clear-any (to 0xAC00 0xD7A3 ∷ []) a b x (p₉ .0) h k,
-      clear-any (to 0x1F1E6 0x1F1FF ∷ []) a b x (p₉ .1) h k,
+      clear-any (to 0x1F1E6 0x1F1FF ∷ []) a b x (p₁₀ .0) h k,
+      clear-any pictographs a b x (p₁₀ .1) h k,
     ) refl
 
 pub other-class : (p : code.Profile) (a b x : ℕ) → T (quiet-test a b) → a ≤ x → x ≤ b → 11 ≡ number (profileOf p .class x)
@@ -58,7 +61,7 @@ unfolding profileOf
 other-class p a b x t lo hi = sym (quiet-other a b x t lo hi)
 
 pub low-other : (p : code.Profile) (x : ℕ) → x < 0x300 → ((leb 0x20 x && leb x 0x7E) || leb 0xA0 x) ≡ true → 11 ≡ number (profileOf p .class x)
-unfolding quiet-test clear controls extends
+unfolding quiet-test clear controls extends pictographs
 low-other p x h e =
     or-T (leb 0x20 x && leb x 0x7E) (leb 0xA0 x) (true-T e)
     (λ t. let w = in-range 0x20 0x7E x (is-true _ t) in other-class p 0x20 0x7E x tt (w .0) (w .1))
@@ -90,7 +93,7 @@ module _ (p : code.Profile) (x : ℕ) where
 
 module _ (p : code.Profile) (x : ℕ) (lo : 0xAC00 ≤ x) (hi : x ≤ 0xD7A3) where
   pub syllable-class : (r : ℕ) → r ≡ number (syllable x) → r ≡ number (profileOf p .class x)
-  unfolding profileOf class01 inAny clear controls extends
+  unfolding profileOf class01 inAny clear controls extends pictographs
   syllable-class r f =
       rw (
         not-one 0x0D 0xAC00 0xD7A3 x tt lo hi,
@@ -113,18 +116,18 @@ module _ (p : code.Profile) (x : ℕ) where
   narrow-width a b q w lo hi = sym (rw (quiet-other a b x q lo hi, clear-any wides a b x w lo hi) refl)
 
   pub letter-width : ((leb 0xA0 x && leb x 0x2FF) || (leb 0x370 x && leb x 0x482)) ≡ true → 1 ≡ profileOf p .width x
-  unfolding quiet-test clear controls extends wides
+  unfolding quiet-test clear controls extends pictographs wides
   letter-width e =
       or-T (leb 0xA0 x && leb x 0x2FF) (leb 0x370 x && leb x 0x482) (true-T e)
       (λ t. let w = in-range 0xA0 0x2FF x (is-true _ t) in narrow-width 0xA0 0x2FF tt tt (w .0) (w .1))
       (λ t. let w = in-range 0x370 0x482 x (is-true _ t) in narrow-width 0x370 0x482 tt tt (w .0) (w .1))
 
   pub printable-width : (t : Bool) → t ≡ printable x → t ≡ true → 1 ≡ profileOf p .width x
-  unfolding quiet-test clear controls extends wides
+  unfolding quiet-test clear controls extends pictographs wides
   printable-width t f e = let w = in-range 0x20 0x7E x (sym f ∙ e) in narrow-width 0x20 0x7E tt tt (w .0) (w .1)
 
   pub wide-width : 0x3041 ≤ x → x ≤ 0xA4CF → 2 ≡ profileOf p .width x
-  unfolding profileOf width01 clear wides inAny quiet-test controls extends among number
+  unfolding profileOf width01 clear wides inAny quiet-test controls extends pictographs among number
   wide-width lo hi =
       sym (rw (quiet-other 0x3041 0xA4CF x tt lo hi, clear-within (to 0x1100 0x115F) 0x3041 0xA4CF x tt lo hi, clear-within (to 0x2E80 0x303E) 0x3041 0xA4CF x tt lo hi, le-leb 0x3041 x lo, le-leb x 0xA4CF hi) refl)
 
@@ -138,3 +141,21 @@ module _ (p : code.Profile) (x : ℕ) where
       cases (eqb ((x - 0xAC00) % 28) 0)
       (λ z. sym (rw (← syllable-class p x lo hi 8 (rw z refl), w₁, w₂, w₃, w₄, le-leb 0xAC00 x lo, le-leb x 0xD7A3 hi) refl))
       (λ z. sym (rw (← syllable-class p x lo hi 9 (rw z refl), w₁, w₂, w₃, w₄, le-leb 0xAC00 x lo, le-leb x 0xD7A3 hi) refl))
+
+-- ---- a small range, every width computed
+
+wide-by : ℕ → ℕ → Bool
+wide-by w x = eqb (width01 x) w
+
+small-width : (p : code.Profile) (n lo w x : ℕ) → T (every (wide-by w) lo n) → lo ≤ x → x < lo + n → w ≡ profileOf p .width x
+unfolding profileOf wide-by
+small-width p n lo w x t h k = sym (eqb-true (width01 x) w (every-one (wide-by w) n lo x t h k))
+
+module _ (p : code.Profile) (x : ℕ) where
+  pub picture-width : 0x1F300 ≤ x → x ≤ 0x1F64F → 2 ≡ profileOf p .width x
+  unfolding every wide-by width01
+  picture-width lo hi = small-width p 848 0x1F300 2 x tt lo (omega arith)
+
+  pub indicator-width : 0x1F1E6 ≤ x → x ≤ 0x1F1FF → 1 ≡ profileOf p .width x
+  unfolding every wide-by width01
+  indicator-width lo hi = small-width p 26 0x1F1E6 1 x tt lo (omega arith)

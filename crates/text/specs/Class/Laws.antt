@@ -6,9 +6,9 @@ use mathlib.Core.Bool.{Bool, true}
 use mathlib.Core.List.{[], _∷_}
 use lib.Dec.{T}
 use Rattle.text.specs.Tests.{every, every-one}
-use Rattle.text.specs.Class.{Class, Profile, among, classL, classLV, classLVT, classT, classV, control, cr, extend, isControl, lf, number, other, regionalIndicator, zwj}
+use Rattle.text.specs.Class.{Class, Profile, among, classL, classLV, classLVT, classT, classV, control, cr, extend, extendedPictographic, isControl, lf, number, other, regionalIndicator, zwj}
 
-pub number-le : (c : Class) → number c ≤ 11
+pub number-le : (c : Class) → number c ≤ 12
 unfolding number
 number-le cr = omega arith
 number-le lf = omega arith
@@ -22,6 +22,7 @@ number-le classLV = omega arith
 number-le classLVT = omega arith
 number-le regionalIndicator = omega arith
 number-le other = omega arith
+number-le extendedPictographic = omega arith
 
 pub other-number : number other ≡ 11
 unfolding number
@@ -41,16 +42,21 @@ number-other classT e = absurd (omega (arith, e))
 number-other classLV e = absurd (omega (arith, e))
 number-other classLVT e = absurd (omega (arith, e))
 number-other regionalIndicator e = absurd (omega (arith, e))
+number-other extendedPictographic e = absurd (omega (arith, e))
 
 -- a test of every class
-pub every-class : (f : ℕ → Bool) → T (every f 0 12) → (c : Class) → f (number c) ≡ true
-every-class f t c = every-one f 12 0 (number c) t (omega arith) (omega (arith, number-le c))
+pub every-class : (f : ℕ → Bool) → T (every f 0 13) → (c : Class) → f (number c) ≡ true
+every-class f t c = every-one f 13 0 (number c) t (omega arith) (omega (arith, number-le c))
 
 -- ---- classes
 
 -- at these GB4 and GB5 break
 abbrev pub breaks : ℕ → Bool
 breaks n = among n (control ∷ cr ∷ lf ∷ [])
+
+-- these join all but the former
+abbrev pub extends : ℕ → Bool
+extends n = among n (extend ∷ zwj ∷ [])
 
 abbrev pub breaksOrExtends : ℕ → Bool
 breaksOrExtends n = among n (cr ∷ lf ∷ control ∷ extend ∷ zwj ∷ [])

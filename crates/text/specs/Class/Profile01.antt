@@ -36,7 +36,7 @@ ascii-classes p = record { class = λ v h. eqb→eq _ _ (ascii-both v h .0); wid
 
 wide-class : (k : ℕ) → syllableOrOther k ≡ true → among k (cr ∷ lf ∷ control ∷ extend ∷ zwj ∷ classV ∷ classT ∷ []) ≡ false
 unfolding among number
-wide-class k h = by-syllable (λ (n : ℕ). among n (cr ∷ lf ∷ control ∷ extend ∷ zwj ∷ classV ∷ classT ∷ []) ≡ false) k h refl refl refl
+wide-class k h = by-syllable (λ (n : ℕ). among n (cr ∷ lf ∷ control ∷ extend ∷ zwj ∷ classV ∷ classT ∷ []) ≡ false) k h refl refl refl refl
 
 pub syllable-columns : (p : code.Profile) → SyllableColumns (profileOf p)
 unfolding profileOf profile01 width01

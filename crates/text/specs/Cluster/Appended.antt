@@ -1,13 +1,13 @@
 -- The clusters of a text in two parts.
 use mathlib.Core.Path.{_≡_, refl, sym, ap, _∙_}
 use Prim.Native.Nat.{ℕ}
-use mathlib.Core.Bool.{Bool, true, false}
+use mathlib.Core.Bool.{Bool, true, false, and-false}
 use mathlib.Core.List.{List, [], _∷_, _++_, reverse, reverseAux}
 use lib.Dec.{eqb}
 use borrow.Author.Tests.{eqb-true}
-use Rattle.text.specs.Tests.{cases, true-T}
+use Rattle.text.specs.Tests.{cases}
 use Rattle.text.specs.Utf8.{Scalar}
-use Rattle.text.specs.Class.{Profile, among}
+use Rattle.text.specs.Class.{Profile, among, number}
 use Rattle.text.specs.Cluster.{Context, start, after, classOf, context, joins, joinsNext, addToCluster, clustersAfter, clusters}
 use Rattle.text.specs.Cluster.Laws.{same-after, restart}
 use Rattle.text.specs.Class.Laws.{aloneOrLf}
@@ -43,9 +43,14 @@ append-apart (g ∷ []) ys = refl
 append-apart (g ∷ h ∷ xs) ys = ap (λ (gs : List (List Scalar)). g ∷ gs) (append-apart (h ∷ xs) ys)
 
 -- behind these classes the context starts anew
-restarted : (k : Context) (n : ℕ) → aloneOrLf n ≡ true → after k n ≡ start
-unfolding after among
-restarted k n g = cases (eqb n 10) (λ e. absurd (true-T (rw (eqb-true n 10 e) at g))) (λ e. rw e)
+pub restarted : (k : Context) (n : ℕ) → aloneOrLf n ≡ true → after k n ≡ start
+unfolding after among number
+restarted k n g =
+    cases (eqb n 0)
+    (λ e. rw (eqb-true n 0 e) (simp and-false))
+    (λ e. cases (eqb n 1)
+    (λ f. rw (eqb-true n 1 f) (simp and-false))
+    (λ f. cases (eqb n 2) (λ i. rw (eqb-true n 2 i) (simp and-false)) (λ i. rw (eqb-true n 11 (rw (e, f, i) at g)) (simp and-false))))
 
 module _ (P : Profile) where
   append-one : (j : Bool) (d : Scalar) (ys : List (List Scalar)) → addToCluster P j d ys ≡ appendClusters j ((d ∷ []) ∷ []) ys

@@ -3,7 +3,7 @@ use mathlib.Core.Path.{_≡_, refl, sym, ap, _∙_}
 use mathlib.Core.Logic.{_≢_}
 use Prim.Native.Nat.{ℕ, _≤_, _<_}
 use native.Mathlib.Omega.{arith}
-use mathlib.Core.Bool.{Bool, true, false, cond, _&&_, _||_}
+use mathlib.Core.Bool.{Bool, true, false, and-false, cond, _&&_, _||_}
 use mathlib.Core.List.{List, [], _∷_}
 use lib.Dec.{eqb, ltb}
 use borrow.Author.Tests.{eqb-true, ltb-true}
@@ -30,19 +30,23 @@ after-control p k c h = cases (eqb p 1) (λ e. rw (eqb-true p 1 e)) (λ e. rw (e
 -- GB5
 pub before-control : (p : ℕ) (k : Context) (c : ℕ) → syllableOrOther p ≡ true → among c (control ∷ cr ∷ lf ∷ []) ≡ true → joined p k c ≡ false
 unfolding joined among number
-before-control p k c h e = by-syllable (λ (n : ℕ). joined n k c ≡ false) p h (rw e) (rw e) (rw e)
+before-control p k c h e = by-syllable (λ (n : ℕ). joined n k c ≡ false) p h (rw e) (rw e) (rw e) (rw e)
 
 -- GB999
-pub between-syllables : (p : ℕ) (k : Context) (c : ℕ) → syllableOrOther p ≡ true → syllableOrOther c ≡ true → joined p k c ≡ false
+pub between-syllables : (p : ℕ) (k : Context) (c : ℕ) → k .emojiZwj ≡ false → syllableOrOther p ≡ true → syllableOrOther c ≡ true → joined p k c ≡ false
 unfolding joined among number
-between-syllables p k c h g =
+between-syllables p k c z h g =
     by-syllable (λ (n : ℕ). joined p k n ≡ false) c g
-    (by-syllable (λ (n : ℕ). joined n k 8 ≡ false) p h odd odd odd)
-    (by-syllable (λ (n : ℕ). joined n k 9 ≡ false) p h odd odd odd)
-    (by-syllable (λ (n : ℕ). joined n k 11 ≡ false) p h odd odd odd)
+    (by-syllable (λ (n : ℕ). joined n k 8 ≡ false) p h odd odd odd odd)
+    (by-syllable (λ (n : ℕ). joined n k 9 ≡ false) p h odd odd odd odd)
+    (by-syllable (λ (n : ℕ). joined n k 11 ≡ false) p h odd odd odd odd)
+    (by-syllable (λ (n : ℕ). joined n k 12 ≡ false) p h picture picture picture picture)
   where
-    odd : cond (k .odd && false) true false ≡ false
-    odd = cases (k .odd) (λ o. rw o) (λ o. rw o)
+    odd : cond (k .emojiZwj && false) true (cond (k .odd && false) true false) ≡ false
+    odd = rw (and-false (k .emojiZwj), and-false (k .odd)) refl
+
+    picture : cond (k .emojiZwj && true) true (cond (k .odd && false) true false) ≡ false
+    picture = rw (z, and-false (k .odd)) refl
 
 -- ---- clusters of one scalar
 
@@ -55,11 +59,11 @@ module _ (P : Profile) (a : AsciiClasses P) where
 
   -- one of class LV, LVT or other before another of these, or one below 80
   pub syllable-cluster : (c d : Scalar) (s : List Scalar) → syllableOrOther (classOf P c) ≡ true → (syllableOrOther (classOf P d) || ltb (d .code) 0x80) ≡ true → clusters P (c ∷ d ∷ s) ≡ (c ∷ []) ∷ clusters P (d ∷ s)
-  unfolding joins
+  unfolding joins context
   syllable-cluster c d s h e = clusters-apart P c d s (apart (syllableOrOther (classOf P d)) refl)
     where
       other : syllableOrOther (classOf P d) ≡ true → joins P (c ∷ []) d ≡ false
-      other f = between-syllables (classOf P c) (context P (c ∷ [])) (classOf P d) h f
+      other f = between-syllables (classOf P c) (context P (c ∷ [])) (classOf P d) refl h f
 
       low : d .code < 0x80 → joins P (c ∷ []) d ≡ false
       low l = cases (printable (d .code))

@@ -1,14 +1,16 @@
 -- A text's clusters hold its scalars, and are found one after the other.
 use mathlib.Core.Path.{_≡_, refl, sym, ap, ap₂, _∙_}
 use Prim.Native.Nat.{ℕ, suc, _+_}
-use mathlib.Core.Bool.{Bool, true, false, not, cond, _&&_, true≢false}
+use mathlib.Core.Bool.{Bool, true, false, not, cond, _&&_, true≢false, _||_, and-false}
 use mathlib.Core.List.{List, [], _∷_, _++_, append-assoc}
 use lib.ListN.{length, take, drop, length-append}
 use lib.Dec.{T, eqb, eqb→eq}
-use Rattle.text.specs.Tests.{and-T, is-true, true-T, cases}
+use borrow.Author.Tests.{eqb-true}
+use Rattle.text.specs.Tests.{and-T, is-true, or-false, or-none, true-T, cases}
 use Rattle.text.specs.Utf8.{Scalar, bytesOf}
 use Rattle.text.specs.Utf8.Laws.{bytesOf-append}
 use Rattle.text.specs.Class.{Profile, among, number}
+use Rattle.text.specs.Class.Laws.{breaks, extends}
 use Rattle.text.specs.Cluster.{Context, start, after, joined, classOf, context, joins, joinsNext, addToCluster, clustersAfter, clusters, joinAll}
 
 pub join-nil : joinAll [] ≡ []
@@ -63,12 +65,12 @@ module _ (P : Profile) where
 -- GB12, GB13
 joined-ri : (p : ℕ) (k : Context) (c : ℕ) → p ≡ 10 → T (k .odd) → c ≡ 10 → joined p k c ≡ true
 unfolding joined among number
-joined-ri p k c e o f = rw (e, f, is-true (k .odd) o)
+joined-ri p k c e o f = rw (e, f, is-true (k .odd) o, and-false (k .emojiZwj))
 
--- behind a boundary nothing of the context before counts
-fresh : (p : ℕ) (k : Context) (c : ℕ) → joined p (after k p) c ≡ false → after (after k p) c ≡ after start c
+-- the parity behind a boundary
+parity : (p : ℕ) (k : Context) (c : ℕ) → joined p (after k p) c ≡ false → eqb c 10 && not (after k p .odd) ≡ (eqb c 10 && true)
 unfolding after among number
-fresh p k c e =
+parity p k c e =
     cases (eqb c 10)
     (λ r. cases (eqb p 10 && not (k .odd))
     (λ o.
@@ -76,6 +78,33 @@ fresh p k c e =
     absurd (true≢false (sym (joined-ri p (after k p) c (eqb→eq p 10 (q .0)) (true-T o) (eqb→eq c 10 (true-T r))) ∙ e)))
     (λ o. rw (r, o)))
     (λ r. rw r)
+
+-- Extend and ZWJ join all but CR, LF and Control, behind which the context is that of a text's start
+mark-joins : (p : ℕ) (k : Context) (c : ℕ) → extends c ≡ true → joined p k c ≡ false → breaks p ≡ true
+unfolding joined among number
+mark-joins p k c m e = cases (breaks p) (λ h. h) (λ h. absurd (true≢false (sym (joins-at h) ∙ e)))
+  where
+    joins-at : breaks p ≡ false → joined p k c ≡ true
+    joins-at h = cases (eqb c 3) (λ t. rw (eqb-true c 3 t) (simp (h, and-false))) (λ t. rw (eqb-true c 4 (rw t at m)) (simp (h, and-false)))
+
+cleared : (p : ℕ) (k : Context) → breaks p ≡ true → after k p ≡ start
+unfolding after among number
+cleared p k h =
+    cases (eqb p 2)
+    (λ t. rw (eqb-true p 2 t) (simp and-false))
+    (λ t. cases (eqb p 0) (λ u. rw (eqb-true p 0 u) (simp and-false)) (λ u. rw (eqb-true p 1 (rw (t, u) at h)) (simp and-false)))
+
+-- what is neither starts anew but for the parity
+unmarked : (k : Context) (c : ℕ) → extends c ≡ false → after k c ≡ record { odd = eqb c 10 && not (k .odd); emoji = eqb c 12; emojiZwj = false }
+unfolding after among number
+unmarked k c m = let q = or-false (eqb c 3) (eqb c 4) m in simp (q .0, q .1, and-false, or-none)
+
+-- behind a boundary nothing of the context before counts
+fresh : (p : ℕ) (k : Context) (c : ℕ) → joined p (after k p) c ≡ false → after (after k p) c ≡ after start c
+fresh p k c e =
+    cases (extends c)
+    (λ m. ap (λ (w : Context). after w c) (cleared p k (mark-joins p (after k p) c m e)))
+    (λ m. unmarked (after k p) c m ∙ ap (λ (o : Bool). record { odd = o; emoji = eqb c 12; emojiZwj = false }) (parity p k c e) ∙ sym (unmarked start c m))
 
 module _ (P : Profile) where
   after-boundary : (before : List Scalar) (c : Scalar) → joins P before c ≡ false → context P (c ∷ before) ≡ context P (c ∷ [])

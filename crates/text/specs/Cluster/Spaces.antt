@@ -9,7 +9,7 @@ use lib.Dec.{T, eqb}
 use borrow.Author.Tests.{eqb-true}
 use Rattle.text.specs.Tests.{cases, true-T, every}
 use Rattle.text.specs.Utf8.{Scalar, to, within}
-use Rattle.text.specs.Class.{Class, Profile, among, class01, classL, classLV, classLVT, classT, classV, control, controls, extend, extends, inAny, lf, number, other, regionalIndicator, spaces, whitespace, zwj}
+use Rattle.text.specs.Class.{Class, Profile, among, class01, classL, classLV, classLVT, classT, classV, control, controls, extend, extendedPictographic, extends, inAny, lf, number, other, pictographs, regionalIndicator, spaces, whitespace, zwj}
 use Rattle.text.specs.Class.Laws.{aloneOrLf}
 use Rattle.text.specs.Class.Ranges.{eachIn, each-in}
 use Rattle.text.specs.Width.{profile01}
@@ -56,7 +56,8 @@ only-cr x e =
     (some-class (inAny (to 0x1160 0x11A7 ∷ to 0xD7B0 0xD7C6 ∷ []) x) classV _ (some 5)
     (some-class (inAny (to 0x11A8 0x11FF ∷ to 0xD7CB 0xD7FB ∷ []) x) classT _ (some 6)
     (some-class (within (to 0xAC00 0xD7A3) x) (cond (eqb ((x - 0xAC00) % 28) 0) classLV classLVT) _ (some-class (eqb ((x - 0xAC00) % 28) 0) classLV classLVT (some 7) (some 8))
-    (some-class (within (to 0x1F1E6 0x1F1FF) x) regionalIndicator other (some 9) (some 10))))))))))
+    (some-class (within (to 0x1F1E6 0x1F1FF) x) regionalIndicator _ (some 9)
+    (some-class (inAny pictographs x) extendedPictographic other (some 11) (some 10)))))))))))
 
 pub space-numbers : (f : code.Profile) (v : ℕ) → whitespace v ≡ true → aloneOrLf (number (profileOf f .class v)) ≡ true
 unfolding whitespace space-class profileOf profile01

@@ -7,7 +7,7 @@ use mathlib.Core.Path.{_≡_}
 use lib.Dec.{eqb}
 use lib.ListN.{drop, length, take}
 use lib.Seq.{slice}
-use Rattle.text.specs.Backward.{ParityPlace, backward}
+use Rattle.text.specs.Backward.{KnownPlace, backward}
 use Rattle.text.specs.Class.{Profile}
 use Rattle.text.specs.Utf8.Code.{runOf, size, whole}
 use Rattle.text.specs.Overstrike.{Pending, State, Style, bold, boldUnderline, convertPieces, convertRun, finish, hasBackspace, held, none, normal, onBackspace, onCluster, order, push, state, struck, underline}
@@ -24,10 +24,10 @@ pub record Front (l : List ℕ) (r : ℕ) (out : List Scalar) : Type 0 where
   pub scalars : backward (take r l) ≡ out
   pub valid : whole (take r l)
 
--- the same, with an parity place
-pub record FrontParity (l : List ℕ) (r : Erasure) (out : List Scalar) : Type 0 where
+-- its front, with a known place
+pub record FrontKnown (P : Profile) (l : List ℕ) (r : Erasure) (out : List Scalar) : Type 0 where
   pub front : Front l (r .at) out
-  pub parity : ParityPlace (take (r .at) l) (r .parity)
+  pub known : KnownPlace P (take (r .at) l) (r .known)
 
 -- xs written behind the first `len` bytes of a buffer
 pub record Pushed (before after : List ℕ) (len : ℕ) (xs : List ℕ) (r : ℕ) : Type 0 where
@@ -65,21 +65,21 @@ unfoldable pub stateOf : List ℕ → List ℕ → Conversion → State
 stateOf line l st = state (backward (take (st .len) l)) (pendingOf line (st .pending) (st .at) (st .end)) (styleOf (st .before)) (styleOf (st .style))
 
 abbrev pub conversion : ℕ → ℕ → ℕ → ℕ → Overstrike → Overstrike → ℕ → Conversion
-conversion n p a e b s v = record { len = n; pending = p; at = a; end = e; before = b; style = s; parity = v }
+conversion n p a e b s v = record { len = n; pending = p; at = a; end = e; before = b; style = s; known = v }
 
 abbrev pub plain : Overstrike
 plain = record { bold = false; underline = false }
 
-pub record Sound (line l : List ℕ) (st : Conversion) : Type 0 where
+pub record Sound (P : Profile) (line l : List ℕ) (st : Conversion) : Type 0 where
   pub inside : st .len ≤ length l
   pub valid : whole (take (st .len) l)
   pub part : Part line (st .at) (st .end)
-  pub parity : ParityPlace (take (st .len) l) (st .parity)
+  pub known : KnownPlace P (take (st .len) l) (st .known)
 
 -- the code's state stands for the state t
-pub record Stepped (line l : List ℕ) (st : Conversion) (t : State) : Type 0 where
+pub record Stepped (P : Profile) (line l : List ℕ) (st : Conversion) (t : State) : Type 0 where
   pub same : stateOf line l st ≡ t
-  pub sound : Sound line l st
+  pub sound : Sound P line l st
 
 -- the steps on a state
 unfoldable pub backspaceOn : Profile → State → State
@@ -96,28 +96,29 @@ unfoldable pub pushedOn : List ℕ → List ℕ → Conversion → List Scalar
 pushedOn line l st = push (partOf line (st .at) (st .end)) (push (asciis (orderOf (st .before) (st .style))) (backward (take (st .len) l)))
 
 -- what a backspace needs
-pub record BackReady (l : List ℕ) (len i : ℕ) : Type 0 where
+pub record BackReady (P : Profile) (l : List ℕ) (len i : ℕ) : Type 0 where
   pub room : len < length l
   pub valid : whole (take len l)
-  pub parity : ParityPlace (take len l) i
+  pub known : KnownPlace P (take len l) i
 
 -- for any line: a backspace takes the state st with the buffer l to the state r with the buffer l′
 abbrev pub BackspaceStep : Profile → List ℕ → List ℕ → Conversion → Conversion → Type 0
-BackspaceStep P l l′ st r = (line : List ℕ) → Part line (st .at) (st .end) → Stepped line l′ r (backspaceOn P (stateOf line l st))
+BackspaceStep P l l′ st r = (line : List ℕ) → Part line (st .at) (st .end) → Stepped P line l′ r (backspaceOn P (stateOf line l st))
 
 -- for any profile and buffer: the cluster from a to e over the struck one takes the state st to the state r
 abbrev pub StruckStep : List ℕ → Conversion → ℕ → ℕ → Conversion → Type 0
-StruckStep line st a e r = (P : Profile) (l : List ℕ) → Sound line l st → Stepped line l r (clusterOn P (stateOf line l st) (partOf line a e))
+StruckStep line st a e r = (P : Profile) (l : List ℕ) → Sound P line l st → Stepped P line l r (clusterOn P (stateOf line l st) (partOf line a e))
 
 -- what a step on the cluster from a to e needs: the weight bounds what the machine may still write
-pub record StepReady (line l : List ℕ) (st : Conversion) (a e : ℕ) : Type 0 where
-  pub sound : Sound line l st
+pub record StepReady (P : Profile) (line l : List ℕ) (st : Conversion) (a e : ℕ) : Type 0 where
+  pub sound : Sound P line l st
   pub upper : Part line a e
   pub room : weight (stateOf line l st) < length l
 
 -- what the run's end needs
 pub record FinishReady (line l : List ℕ) (st : Conversion) : Type 0 where
-  pub sound : Sound line l st
+  pub profile : Profile
+  pub sound : Sound profile line l st
   pub room : weight (stateOf line l st) ≤ length l
 
 -- for any profile: the run's end takes the state st with the buffer l to r bytes of the buffer l′

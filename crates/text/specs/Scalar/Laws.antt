@@ -99,7 +99,7 @@ pub record NoScalar (s : List ℕ) (p v : ℕ) : Type 0 where
   pub run : textAt s p ≡ []
   pub zero : v ≡ 0
 
-rest-of : (k w : ℕ) → k ≤ 11 → (k + 16 * w) % 16 ≡ k
+rest-of : (k w : ℕ) → k ≤ 12 → (k + 16 * w) % 16 ≡ k
 rest-of k w g = omega (arith, g)
 
 pub packed-view : (P : Profile) (s : List ℕ) (p v : ℕ) → p < length s → v ≡ packedAt P s p → NoScalar s p v ⊎ PackedScalar P s p v
@@ -109,7 +109,7 @@ packed-view P s p v here read =
     let k : ℕ = number (P .class (q .code)) in
     let w : ℕ = P .width (q .code) in
     let h : q .len ≤ 4 = len-le (drop p s) in
-    let g : k ≤ 11 = number-le (P .class (q .code)) in
+    let g : k ≤ 12 = number-le (P .class (q .code)) in
     cases (eqb (q .len) 0)
     (λ e. inl (record { run = none-at s p q here refl (eqb-true (q .len) 0 e); zero = rw e at read }))
     (λ e.

@@ -1,5 +1,5 @@
-//! Document 01, "Text profile": classes, widths, whitespace, and the cluster
-//! rules of UAX #29 on these classes.
+//! Document 01, "Text profile", with document 02's U2: classes, widths, whitespace,
+//! and the cluster rules of UAX #29 on these classes.
 
 /// A range of scalars, both ends counted in.
 pub type Range = (u32, u32);
@@ -18,6 +18,7 @@ pub enum Class {
     Lv,
     Lvt,
     Ri,
+    ExtPict,
     Other,
 }
 
@@ -49,6 +50,7 @@ pub const V: &[Range] = &[(0x1160, 0x11A7), (0xD7B0, 0xD7C6)];
 pub const T: &[Range] = &[(0x11A8, 0x11FF), (0xD7CB, 0xD7FB)];
 pub const SYLLABLE: Range = (0xAC00, 0xD7A3);
 pub const RI: Range = (0x1F1E6, 0x1F1FF);
+pub const EXT_PICT: &[Range] = &[(0x1F300, 0x1F64F), (0x1F900, 0x1F9FF)];
 
 /// Scalars of width 2.
 pub const WIDE: &[Range] = &[
@@ -118,6 +120,8 @@ fn class_by_table(scalar: u32) -> Class {
         }
     } else if within(RI, scalar) {
         Class::Ri
+    } else if in_any(EXT_PICT, scalar) {
+        Class::ExtPict
     } else {
         Class::Other
     }
@@ -136,9 +140,18 @@ pub fn width(c: char) -> usize {
     }
 }
 
-/// Whether there is no boundary between a scalar of class `before` and one of
-/// class `after`; `odd` tells whether an odd number of RI ends at `before`.
-pub fn joins(before: Class, odd: bool, after: Class) -> bool {
+/// What the rules ask of a text besides its last scalar's class.
+#[derive(Clone, Copy, Debug, Default)]
+pub struct Ending {
+    /// An odd number of RI ends the text.
+    pub odd: bool,
+    /// ExtPict, any number of Extend, and ZWJ end the text.
+    pub joiner: bool,
+}
+
+/// Whether there is no boundary between a text that ends in class `before` and a scalar of
+/// class `after`.
+pub fn joins(before: Class, ending: Ending, after: Class) -> bool {
     use Class::*;
     match (before, after) {
         (Cr, Lf) => true,                // GB3
@@ -148,7 +161,8 @@ pub fn joins(before: Class, odd: bool, after: Class) -> bool {
         (Lv | V, V | T) => true,         // GB7
         (Lvt | T, T) => true,            // GB8
         (_, Extend | Zwj) => true,       // GB9
-        (Ri, Ri) => odd,                 // GB12, GB13
+        (Zwj, ExtPict) => ending.joiner, // GB11
+        (Ri, Ri) => ending.odd,          // GB12, GB13
         _ => false,                      // GB999
     }
 }

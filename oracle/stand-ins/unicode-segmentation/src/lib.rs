@@ -1,6 +1,7 @@
-//! Stands in for unicode-segmentation: document 01, "Text profile", "Clusters".
+//! Stands in for unicode-segmentation: document 01, "Text profile", "Clusters", and GB11
+//! of document 02's U2.
 
-use profile::{class, joins, Class};
+use profile::{class, joins, Class, Ending};
 
 pub trait UnicodeSegmentation {
     /// The clusters of a text.
@@ -64,12 +65,18 @@ fn first_end(text: &str) -> usize {
     let Some((_, mut before)) = scalars.next() else {
         return 0;
     };
-    let mut odd = before == Class::Ri;
+    let mut ending = Ending {
+        odd: before == Class::Ri,
+        joiner: false,
+    };
+    let mut pictograph = before == Class::ExtPict;
     for (place, after) in scalars {
-        if !joins(before, odd, after) {
+        if !joins(before, ending, after) {
             return place;
         }
-        odd = after == Class::Ri && !odd;
+        ending.odd = after == Class::Ri && !ending.odd;
+        ending.joiner = after == Class::Zwj && pictograph;
+        pictograph = after == Class::ExtPict || after == Class::Extend && pictograph;
         before = after;
     }
     text.len()
@@ -85,8 +92,12 @@ fn last_start(text: &str) -> usize {
         return 0;
     };
     for (before_place, before) in scalars {
-        let odd = before == Class::Ri && indicators_at_end(&text[..place]) % 2 == 1;
-        if !joins(before, odd, after) {
+        let front = &text[..place];
+        let ending = Ending {
+            odd: before == Class::Ri && indicators_at_end(front) % 2 == 1,
+            joiner: before == Class::Zwj && after == Class::ExtPict && ends_in_joiner(front),
+        };
+        if !joins(before, ending, after) {
             return place;
         }
         (place, after) = (before_place, before);
@@ -97,6 +108,13 @@ fn last_start(text: &str) -> usize {
 fn indicators_at_end(text: &str) -> usize {
     let scalars = text.chars().rev();
     scalars.take_while(|&c| class(c) == Class::Ri).count()
+}
+
+/// Whether ExtPict, any number of Extend, and ZWJ end a text.
+fn ends_in_joiner(text: &str) -> bool {
+    let mut classes = text.chars().rev().map(class);
+    classes.next() == Some(Class::Zwj)
+        && classes.find(|&class| class != Class::Extend) == Some(Class::ExtPict)
 }
 
 /// The part of the cursor that the source uses: the boundary before the end of

@@ -1,4 +1,4 @@
-use Rattle.text.proofs.Erasing.{kept-inside, last-added, last-erased, lone-added, lone-erased, nothing-erased, pair-erased, pair-long}
+use Rattle.text.proofs.Erasing.{kept-inside, last-added, last-erased, lone-added, lone-erased, nothing-erased, pair-erased, pair-inside, pair-long}
 use borrow.Author.Needs.{needs}
 use Rattle.text.proofs.backward.erase_last.Statement.{statement}
 use Rattle.text.proofs.backward.erase_last.Tie as tie
@@ -24,11 +24,11 @@ returns-2 c = search lone-added
 sub-t12 : tie.Need-sub-t12
 sub-t12 c = search needs
 
-sub-parity-before : tie.Need-sub-parity-before
-sub-parity-before c = search needs
+sub-known-before : tie.Need-sub-known-before
+sub-known-before c = search needs
 
-parity-before-requires : tie.Need-parity-before-requires
-parity-before-requires c κs = search needs
+known-before-requires : tie.Need-known-before-requires
+known-before-requires c κs = search needs
 
 returns-3 : tie.Need-returns-3
 returns-3 c = search lone-erased
@@ -39,8 +39,11 @@ ends-in-pair-requires c κs = search needs
 sub-t16 : tie.Need-sub-t16
 sub-t16 c = search pair-long
 
-sub-t17 : tie.Need-sub-t17
-sub-t17 c = search pair-long
+sub-known-before-2 : tie.Need-sub-known-before-2
+sub-known-before-2 c = search pair-long
+
+known-before-requires-2 : tie.Need-known-before-requires-2
+known-before-requires-2 c κs = search pair-inside
 
 returns-4 : tie.Need-returns-4
 returns-4 c = search pair-erased
@@ -57,11 +60,11 @@ is-control-requires-2 c κs = search needs
 returns-5 : tie.Need-returns-5
 returns-5 c = search last-added
 
-parity-before-requires-2 : tie.Need-parity-before-requires-2
-parity-before-requires-2 c κs = search kept-inside
+known-before-requires-3 : tie.Need-known-before-requires-3
+known-before-requires-3 c κs = search kept-inside
 
 returns-6 : tie.Need-returns-6
-returns-6 c = last-erased _ (c .before .before .before .before .before .before .before .before .before .before .before .before .args .t .now) (c .before .before .before .before .before .before .before .before .before .before .before .before .pre .0) (c .before .before .before .before .before .before .before .before .before .before .if1 .left) _ (c .before .before .before .before .last-start .ensures) (c .before .before .before .before .before .before .before .before .before .before .before .before .args .parity) _ _ (c .before .before .before .before .before .before .before .before .before .before .before .before .pre .1) (c .before .before .before .decode .ensures) (c .before .before .is-control2 .ensures) _ _ _ _ (c .before .before .before .before .before .before .before .before .before .byte-at .ensures) (c .before .before .before .before .before .before .before .before .never-joins-before .ensures) (c .before .before .before .before .before .before .before .if2 .left) (c .before .before .before .before .before .before .ends-in-pair .ensures) (c .before .before .before .before .before .if4 .left) (c .parity-before2 .ensures) (c .before .if5 .left)
+returns-6 c = last-erased _ (c .before .before .before .before .before .before .before .before .before .before .before .before .args .t .now) (c .before .before .before .before .before .before .before .before .before .before .before .before .pre .0) (c .before .before .before .before .before .before .before .before .before .before .if1 .left) _ (c .before .before .before .before .last-start .ensures) (c .before .before .before .before .before .before .before .before .before .before .before .before .args .known) _ _ (c .before .before .before .before .before .before .before .before .before .before .before .before .pre .1) (c .before .before .before .decode .ensures) (c .before .before .is-control2 .ensures) _ (c .known-before3 .ensures) (c .before .if5 .left)
 
 pub erase-last-spec : {M : Type 1} → statement M
 erase-last-spec =
@@ -74,16 +77,17 @@ erase-last-spec =
     is-control-requires
     returns-2
     sub-t12
-    sub-parity-before
-    parity-before-requires
+    sub-known-before
+    known-before-requires
     returns-3
     ends-in-pair-requires
     sub-t16
-    sub-t17
+    sub-known-before-2
+    known-before-requires-2
     returns-4
     last-start-requires
     decode-requires
     is-control-requires-2
     returns-5
-    parity-before-requires-2
+    known-before-requires-3
     returns-6)

@@ -1,6 +1,7 @@
 use borrow.Author.Needs.{needs}
-use Rattle.text.proofs.BackwardWalk.{class-bound, joins-pair, joins-single, joins-zero}
-use Rattle.text.proofs.ContinuationBytes.{back-inside}
+use Rattle.text.proofs.BackwardWalk.{class-bound, joins-pair, joins-picture, joins-single, joins-zero, start-before, state-bound}
+use Rattle.text.proofs.RegionalIndicators.{joins-even-place}
+use Rattle.text.proofs.ContinuationBytes.{back-inside, back-within}
 use Rattle.text.proofs.backward.joins_at.Statement.{statement}
 use Rattle.text.proofs.backward.joins_at.Tie as tie
 
@@ -22,11 +23,20 @@ odd-to-requires c κs = search needs
 returns-2 : tie.Need-returns-2
 returns-2 c = search joins-pair
 
-continues-cluster-requires : tie.Need-continues-cluster-requires
-continues-cluster-requires c κs = (search class-bound, search class-bound)
-
 returns-3 : tie.Need-returns-3
-returns-3 c = search joins-single
+returns-3 c = search joins-even-place
+
+pictograph-to-requires : tie.Need-pictograph-to-requires
+pictograph-to-requires c κs = (search back-within, search start-before, search needs)
+
+returns-4 : tie.Need-returns-4
+returns-4 c = search joins-picture
+
+continues-cluster-requires : tie.Need-continues-cluster-requires
+continues-cluster-requires c κs = (search state-bound, search class-bound)
+
+returns-5 : tie.Need-returns-5
+returns-5 c = search joins-single
 
 pub joins-at-spec : {M : Type 1} → statement M
 joins-at-spec =
@@ -38,5 +48,8 @@ joins-at-spec =
     class-at-requires-2
     odd-to-requires
     returns-2
+    returns-3
+    pictograph-to-requires
+    returns-4
     continues-cluster-requires
-    returns-3)
+    returns-5)

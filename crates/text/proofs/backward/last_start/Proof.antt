@@ -11,10 +11,10 @@ use Rattle.text.proofs.backward.last_start.Statement.{statement}
 use Rattle.text.proofs.backward.last_start.Tie as tie
 
 abbrev Inv-loop : tie.InvT-loop
-Inv-loop profile t parity q₀ q = At (profileOf profile) t q (size (withoutLast (profileOf profile) (reverse (runOf (decode t)))))
+Inv-loop profile t known q₀ q = At (profileOf profile) t q (size (withoutLast (profileOf profile) (reverse (runOf (decode t)))))
 
 abbrev μ-loop : tie.MeasureT-loop
-μ-loop profile t parity q₀ q = q
+μ-loop profile t known q₀ q = q
 
 returns : tie.Need-returns Inv-loop μ-loop
 returns c = last-empty _ (c .before .before .args .t .now) (c .if1 .taken)

@@ -9,10 +9,10 @@ use Rattle.text.proofs.backward.odd_to.Statement.{statement}
 use Rattle.text.proofs.backward.odd_to.Tie as tie
 
 abbrev Inv-loop : tie.InvT-loop
-Inv-loop profile t q parity odd₀ i₀ odd i = (i ≤ length t) × OddLoop (profileOf profile) t i odd (oddTo (profileOf profile) t q)
+Inv-loop profile t q known odd₀ i₀ odd i = (i ≤ length t) × OddLoop (profileOf profile) t i odd (oddTo (profileOf profile) t q)
 
 abbrev μ-loop : tie.MeasureT-loop
-μ-loop profile t q parity odd₀ i₀ odd i = i
+μ-loop profile t q known odd₀ i₀ odd i = i
 
 loop-holds : tie.Need-loop-holds Inv-loop μ-loop
 loop-holds c = (search needs, search odd-begin)

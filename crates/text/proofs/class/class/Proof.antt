@@ -1,11 +1,11 @@
 use native.Mathlib.Omega.{arith}
 use borrow.Author.Needs.{needs}
-use Rattle.text.specs.Class.{controls, extends}
+use Rattle.text.specs.Class.{controls, extends, pictographs}
 use Rattle.text.specs.Tests.{in-range}
 use Rattle.text.proofs.class.class.Statement.{statement}
 use Rattle.text.proofs.class.class.Tie as tie
 use Rattle.text.specs.Class.Ranges.{clear}
-use Rattle.text.specs.Class.Document01.{indicator-class, low-other, other-class, quiet-test, syllable-class}
+use Rattle.text.specs.Class.Document01.{low-other, other-class, quiet-test, syllable-class}
 
 returns : tie.Need-returns
 returns c = search low-other
@@ -23,7 +23,7 @@ returns-3 : tie.Need-returns-3
 returns-3 c = search needs
 
 returns-4 : tie.Need-returns-4
-unfolding quiet-test clear controls extends
+unfolding quiet-test clear controls extends pictographs
 returns-4 c = let w = in-range _ _ _ (c .if4 .taken) in other-class _ 0x2100 0xA95F _ tt (w .0) (w .1)
 
 syllable-class-requires : tie.Need-syllable-class-requires
@@ -33,17 +33,14 @@ returns-5 : tie.Need-returns-5
 returns-5 c = let w = in-range _ _ _ (c .before .if5 .taken) in syllable-class _ _ (w .0) (w .1) _ (c .syllable-class .ensures)
 
 returns-6 : tie.Need-returns-6
-returns-6 c = let w = in-range _ _ _ (c .before .if6 .taken) in indicator-class _ _ (w .0) (c .if7 .taken)
-
-returns-7 : tie.Need-returns-7
-unfolding quiet-test clear controls extends
-returns-7 c = other-class _ 0x1F200 0xE00FF _ tt (c .if7 .left) (in-range _ _ _ (c .before .if6 .taken) .1)
+unfolding quiet-test clear controls extends pictographs
+returns-6 c = let w = in-range _ _ _ (c .if6 .taken) in other-class _ 0x1FA00 0xE00FF _ tt (w .0) (w .1)
 
 class-in-ranges-requires-2 : tie.Need-class-in-ranges-requires-2
 class-in-ranges-requires-2 c κs = search needs
 
-returns-8 : tie.Need-returns-8
-returns-8 c = search needs
+returns-7 : tie.Need-returns-7
+returns-7 c = search needs
 
 pub class-spec : {M : Type 1} → statement M
 class-spec =
@@ -58,6 +55,5 @@ class-spec =
     syllable-class-requires
     returns-5
     returns-6
-    returns-7
     class-in-ranges-requires-2
-    returns-8)
+    returns-7)

@@ -1,6 +1,6 @@
 use native.Mathlib.Omega.{arith}
 use mathlib.Core.Path.{_∙_}
-use Rattle.text.specs.Class.{controls, extends}
+use Rattle.text.specs.Class.{controls, extends, pictographs}
 use borrow.Author.Needs.{needs}
 use Rattle.text.proofs.class.low_class.Statement.{statement}
 use Rattle.text.proofs.class.low_class.Tie as tie
@@ -11,7 +11,7 @@ returns : tie.Need-returns
 returns c = search mark-class
 
 returns-2 : tie.Need-returns-2
-unfolding quiet-test clear controls extends
+unfolding quiet-test clear controls extends pictographs
 returns-2 c = other-class _ 0x370 0x482 _ tt (omega arith) (omega arith)
 
 class-in-ranges-requires : tie.Need-class-in-ranges-requires

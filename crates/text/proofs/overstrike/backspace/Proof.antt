@@ -15,7 +15,7 @@ slice-aggregate-erase-last : tie.Need-slice-aggregate-erase-last
 slice-aggregate-erase-last c = let h : c .before .before .args .len ≤ length (c .before .before .args .out .now) = omega (arith, c .before .before .pre .room) in sym (length-take-le _ _ h)
 
 erase-last-requires : tie.Need-erase-last-requires
-erase-last-requires c κs = (c .before .before .pre .valid, c .before .before .pre .parity)
+erase-last-requires c κs = (c .before .before .pre .valid, c .before .before .pre .known)
 
 same-length : tie.Need-same-length
 same-length c = search needs

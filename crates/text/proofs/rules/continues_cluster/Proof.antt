@@ -30,6 +30,10 @@ returns-7 : tie.Need-returns-7
 unfolding continues
 returns-7 c = search rules depth 10 fits 20000
 
+returns-8 : tie.Need-returns-8
+unfolding continues
+returns-8 c = search rules depth 10 fits 20000
+
 pub continues-cluster-spec : {M : Type 1} → statement M
 continues-cluster-spec =
-    tie.close (tie.spec returns returns-2 returns-3 returns-4 returns-5 returns-6 returns-7)
+    tie.close (tie.spec returns returns-2 returns-3 returns-4 returns-5 returns-6 returns-7 returns-8)

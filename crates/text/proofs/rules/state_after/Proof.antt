@@ -8,5 +8,11 @@ returns c = search branch
 returns-2 : tie.Need-returns-2
 returns-2 c = search branch
 
+returns-3 : tie.Need-returns-3
+returns-3 c = search branch
+
+returns-4 : tie.Need-returns-4
+returns-4 c = search branch
+
 pub state-after-spec : {M : Type 1} → statement M
-state-after-spec = tie.close (tie.spec returns returns-2)
+state-after-spec = tie.close (tie.spec returns returns-2 returns-3 returns-4)

@@ -9,6 +9,9 @@ add-result c = search needs
 returns : tie.Need-returns
 returns c = search indicator
 
+in-pictographs-requires : tie.Need-in-pictographs-requires
+in-pictographs-requires c κs = search needs
+
 add-result-2 : tie.Need-add-result-2
 add-result-2 c = search needs
 
@@ -33,6 +36,7 @@ pack-four-spec =
     (tie.spec
     add-result
     returns
+    in-pictographs-requires
     add-result-2
     returns-2
     add-result-3

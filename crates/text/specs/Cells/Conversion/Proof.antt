@@ -19,7 +19,8 @@ use Rattle.text.specs.Class.Code.{printable, profileOf}
 use Rattle.text.specs.Class.Profile01.{ascii-classes}
 use Rattle.text.specs.Width.{profile01}
 use Rattle.text.specs.Cluster.{clusters, context, joined, joins}
-use Rattle.text.specs.Cluster.Ascii.{after-control, before-control, between-syllables}
+use Rattle.text.specs.Cluster.Ascii.{after-control, before-control}
+use Rattle.text.specs.Segmentation.Boundaries.{alone-numbers, other-alone}
 use Rattle.text.specs.Cluster.Laws.{clusters-apart, clusters-nil, clusters-one}
 use Rattle.text.specs.Overstrike.{Style, normal, bold, underline, boldUnderline, bolded, underlined, order, push, State, state, none, held, strike, onBackspace, onCluster, step, steps, finish, convertRun, convertPieces, convert}
 use Rattle.text.specs.Overstrike.Laws.{convert-pieces, convertRun-plain, push-reverse}
@@ -91,7 +92,7 @@ module _ (P : Profile) (K : OverstrikeClasses P) where
       let k = context P (ascii b ∷ []) in
       by-class (λ (p : ℕ). joined p k (number (P .class c)) ≡ false) b d
       (after-control 2 k (number (P .class c)) refl)
-      (by-class (λ (n : ℕ). joined 11 k n ≡ false) c e (before-control 11 k 2 refl refl) (between-syllables 11 k 11 refl refl))
+      (by-class (λ (n : ℕ). joined 11 k n ≡ false) c e (before-control 11 k 2 refl refl) (alone-numbers 11 k 11 other-alone))
 
   clusters-single : {s : List ℕ} → Singles s → clusters P (asciis s) ≡ eachOne s
   unfolding asciis eachOne

@@ -1,10 +1,10 @@
 use borrow.Author.Needs.{needs}
 use Rattle.lending.specs.Conditions.{branch}
-use Rattle.text.proofs.backward.parity_before.Statement.{statement}
-use Rattle.text.proofs.backward.parity_before.Tie as tie
+use Rattle.text.proofs.backward.known_before.Statement.{statement}
+use Rattle.text.proofs.backward.known_before.Tie as tie
 
-is-between-indicators-requires : tie.Need-is-between-indicators-requires
-is-between-indicators-requires c κs = search needs
+needs-context-requires : tie.Need-needs-context-requires
+needs-context-requires c κs = search needs
 
 returns : tie.Need-returns
 returns c = search branch depth 10 fits 20000
@@ -15,8 +15,8 @@ returns-2 c = search branch depth 10 fits 20000
 returns-3 : tie.Need-returns-3
 returns-3 c = search branch depth 10 fits 20000
 
-is-between-indicators-requires-2 : tie.Need-is-between-indicators-requires-2
-is-between-indicators-requires-2 c κs = search needs
+needs-context-requires-2 : tie.Need-needs-context-requires-2
+needs-context-requires-2 c κs = search needs
 
 returns-4 : tie.Need-returns-4
 returns-4 c = search branch depth 10 fits 20000
@@ -24,14 +24,14 @@ returns-4 c = search branch depth 10 fits 20000
 returns-5 : tie.Need-returns-5
 returns-5 c = search branch depth 10 fits 20000
 
-pub parity-before-spec : {M : Type 1} → statement M
-parity-before-spec =
+pub known-before-spec : {M : Type 1} → statement M
+known-before-spec =
     tie.close
     (tie.spec
-    is-between-indicators-requires
+    needs-context-requires
     returns
     returns-2
     returns-3
-    is-between-indicators-requires-2
+    needs-context-requires-2
     returns-4
     returns-5)
