@@ -20,6 +20,7 @@ use Rattle.noise.specs.Calls.{Call, read, Outcome, answer, withoutMatche
 pub mod SeparationProof
 pub mod ExchangeProof
 pub mod Document01
+pub mod Examples
 
 -- ---- separation: two parts, each of any bytes or none, with one or more noise bytes between them
 
