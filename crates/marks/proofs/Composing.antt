@@ -1,16 +1,16 @@
--- A mark composed in memory: its bytes, and that they fit.
+-- A mark composed in memory: its bytes, and that they fit. The change list around it.
 use mathlib.Core.Path.{_≡_, sym, ap, _∙_}
 use Prim.Native.Nat.{ℕ, _+_, _-_, _/_, _%_, _≤_, _<_}
 use native.Mathlib.Omega.{arith}
-use mathlib.Core.Bool.{cond}
-use mathlib.Core.List.{List, [], _∷_, _++_}
+use mathlib.Core.Bool.{true, false, cond, _&&_}
+use mathlib.Core.List.{List, [], _∷_, _++_, append-assoc}
 use lib.ListN.{length, take, drop, replicate, length-append}
 use lib.Seq.{length-take-le}
-use lib.Dec.{ltb}
-use borrow.Author.Tests.{lt-ltb, le-ltb}
+use lib.Dec.{eqb, ltb}
+use borrow.Author.Tests.{eq-eqb, ne-eqb, lt-ltb, le-ltb}
 use Rattle.buffer.specs.Numbers as numbers
 use Rattle.buffer.specs.Numbers.{smallerOf, le2, le4}
-use Rattle.buffer.specs.Numbers.Laws.{smaller-order}
+use Rattle.buffer.specs.Numbers.Laws.{smaller-right}
 use Rattle.buffer.specs.Sink.{Sink, sink, put, emit}
 use Rattle.buffer.specs.Sink.Laws.{emit-none, then-emit, fitted, emit-put, then-put}
 use Rattle.text.specs.Tests.{cases}
@@ -18,7 +18,7 @@ use Rattle.text.specs.Utf8.{asciis, bytesOf}
 use Rattle.text.specs.Utf8.AsciiTexts.{asciis-append, asciis-bytes, asciis-cons, asciis-nil}
 use Rattle.drawing.specs.Marks.{byteMark, upperDigits, scalarMark}
 use Rattle.drawing.specs.Marks.Laws.{digit-is, byte-bytes}
-use Rattle.marks.specs.Composed.{clippedChange}
+use Rattle.marks.specs.Composed.{change, clippedChange, plainChange, arrowChanges, leftEdge, letterChange, seenChanges, rightEdge, shownFrom, composedList}
 
 -- ---- digits
 
@@ -112,12 +112,80 @@ module _ (mark : List ℕ) (n : ℕ) where
     pub byte-fits : n ≡ length (take n mark)
     byte-fits = sym (length-take-le n mark byte-inside)
 
--- ---- a part of it
+-- ---- changes
 
-pub part-order : (n offset width from to : ℕ) → from ≡ smallerOf offset n → to ≡ smallerOf (offset + width) n → from ≤ to
-part-order n offset width from to a b = smaller-order offset n from a (offset + width) to (omega arith) b
+pub change-pushed : (s s₁ s₂ s₃ : Sink) (kind : ℕ) (body : List ℕ) → s₁ ≡ emit s (le4 (length body)) → s₂ ≡ emit s₁ (le2 kind) → s₃ ≡ emit s₂ body → s₃ ≡ emit s (change kind body)
+unfolding change
+change-pushed s s₁ s₂ s₃ kind body p q r = then-emit s s₁ s₃ (le4 (length body)) (le2 kind ++ body) p (then-emit s₁ s₂ s₃ (le2 kind) body q r)
 
-pub part-pushed : (mark : List ℕ) (offset width from to : ℕ) (s s₁ s₂ s₃ : Sink) → from ≡ smallerOf offset (length mark) → to ≡ smallerOf (offset + width) (length mark)
-    → s₁ ≡ emit s (le4 (to - from)) → s₂ ≡ emit s₁ (le2 1) → s₃ ≡ emit s₂ (take (to - from) (drop from mark)) → s₃ ≡ emit s (clippedChange mark offset width)
-part-pushed mark offset width from to s s₁ s₂ s₃ a b p q r =
-    rw (← a, ← b) (then-emit s s₁ s₃ (le4 (to - from)) (le2 1 ++ take (to - from) (drop from mark)) p (then-emit s₁ s₂ s₃ (le2 1) (take (to - from) (drop from mark)) q r))
+-- a part of a mark, from f to f + x
+module _ (n from to f t x : ℕ) (a : f ≡ smallerOf from n) (b : t ≡ smallerOf to n) (d : x ≡ t - f) where
+  pub part-inside : f + x ≤ n
+  part-inside = omega (arith, smaller-right from n f a, smaller-right to n t b)
+
+  part-size : f + x - f ≡ t - f
+  part-size = omega arith
+
+pub part-pushed : (mark : List ℕ) (from to f t x : ℕ) (s s′ : Sink) → f ≡ smallerOf from (length mark) → t ≡ smallerOf to (length mark) → x ≡ t - f
+    → s′ ≡ emit s (change 1 (take (f + x - f) (drop f mark))) → s′ ≡ emit s (clippedChange mark from to)
+unfolding clippedChange
+part-pushed mark from to f t x s s′ a b d p = rw (← a, ← b) (rw (part-size (length mark) from to f t x a b d) at p)
+
+pub plain-pushed : (s s′ : Sink) → s′ ≡ emit s (change 2 (replicate 25 0)) → s′ ≡ emit s plainChange
+unfolding plainChange
+plain-pushed s s′ p = p
+
+pub arrow-pushed : (s s₁ s₂ : Sink) (b : ℕ) → s₁ ≡ emit s (change 2 (1 ∷ 0 ∷ 0 ∷ 0 ∷ 1 ∷ 4 ∷ replicate 19 0)) → s₂ ≡ emit s₁ (change 1 (b ∷ [])) → s₂ ≡ emit s (arrowChanges b)
+unfolding arrowChanges
+arrow-pushed s s₁ s₂ b p q = then-emit s s₁ s₂ _ _ p q
+
+-- ---- the parts of a list
+
+pub no-left : (s : Sink) (start : ℕ) → start ≡ 0 → s ≡ emit s (leftEdge start)
+unfolding leftEdge
+no-left s start e = rw (eq-eqb start 0 e) (sym (emit-none s))
+
+pub left-pushed : (s s₁ s₂ : Sink) (start : ℕ) → (start ≡ 0 → ⊥) → s₁ ≡ emit s (arrowChanges 0x3C) → s₂ ≡ emit s₁ plainChange → s₂ ≡ emit s (leftEdge start)
+unfolding leftEdge
+left-pushed s s₁ s₂ start e p q = rw (ne-eqb start 0 e) (then-emit s s₁ s₂ _ _ p q)
+
+pub letter-pushed : (s s′ : Sink) (column start end : ℕ) → (eqb column 1 && (eqb start 0 && ltb 0 end)) ≡ true → s′ ≡ emit s (change 1 (0x61 ∷ [])) → s′ ≡ emit s (letterChange column start end)
+unfolding letterChange
+letter-pushed s s′ column start end e p = rw e p
+
+pub no-letter : (s : Sink) (column start end : ℕ) → (eqb column 1 && (eqb start 0 && ltb 0 end)) ≡ false → s ≡ emit s (letterChange column start end)
+unfolding letterChange
+no-letter s column start end e = rw e (sym (emit-none s))
+
+module _ (mark : List ℕ) (from to : ℕ) where
+  pub seen-pushed : (s s₁ s₂ : Sink) → (ltb from (length mark) && ltb 0 to) ≡ true → s₁ ≡ emit s (change 2 (0 ∷ 0 ∷ 0 ∷ 2 ∷ replicate 21 0)) → s₂ ≡ emit s₁ (clippedChange mark from to) → s₂ ≡ emit s (seenChanges mark from to)
+  unfolding seenChanges
+  seen-pushed s s₁ s₂ e p q = rw e (then-emit s s₁ s₂ _ _ p q)
+
+  pub not-seen : (s : Sink) → (ltb from (length mark) && ltb 0 to) ≡ false → s ≡ emit s (seenChanges mark from to)
+  unfolding seenChanges
+  not-seen s e = rw e (sym (emit-none s))
+
+module _ (columns to : ℕ) where
+  pub edge-passed : (s s₁ s₂ s₃ : Sink) → to < columns → s₁ ≡ emit s (change 1 (0x08 ∷ [])) → s₂ ≡ emit s₁ (change 4 []) → s₃ ≡ emit s₂ (arrowChanges 0x3E) → s₃ ≡ emit s (rightEdge columns to)
+  unfolding rightEdge
+  edge-passed s s₁ s₂ s₃ h p q r = rw (lt-ltb to columns h) (then-emit s s₁ s₃ _ _ p (then-emit s₁ s₂ s₃ _ _ q r))
+
+  pub edge-cleared : (s s′ : Sink) → columns ≤ to → columns < to → s′ ≡ emit s (change 3 (replicate 4 0)) → s′ ≡ emit s (rightEdge columns to)
+  unfolding rightEdge
+  edge-cleared s s′ g h p = rw (le-ltb to columns g, lt-ltb columns to h) p
+
+  pub edge-met : (s : Sink) → columns ≤ to → to ≤ columns → s ≡ emit s (rightEdge columns to)
+  unfolding rightEdge
+  edge-met s g h = rw (le-ltb to columns g, le-ltb columns to h) (sym (emit-none s))
+
+pub rest-pushed : (mark : List ℕ) (from to : ℕ) (s s₁ s₂ s₃ : Sink) → s₁ ≡ emit s (seenChanges mark from to) → s₂ ≡ emit s₁ (rightEdge (length mark) to) → s₃ ≡ emit s₂ plainChange
+    → s₃ ≡ emit s (seenChanges mark from to ++ (rightEdge (length mark) to ++ plainChange))
+rest-pushed mark from to s s₁ s₂ s₃ p q r = then-emit s s₁ s₃ _ _ p (then-emit s₁ s₂ s₃ _ _ q r)
+
+pub drawing-pushed : (mark : List ℕ) (column start end from offset last : ℕ) (s s₁ s₂ : Sink) → from ≡ shownFrom start → offset ≡ from - column → last ≡ end - column
+    → s₁ ≡ emit s (leftEdge start ++ letterChange column from end) → s₂ ≡ emit s₁ (seenChanges mark offset last ++ (rightEdge (length mark) last ++ plainChange))
+    → s₂ ≡ emit s (composedList mark column start end)
+unfolding composedList
+drawing-pushed mark column start end from offset last s s₁ s₂ a b d p q =
+    rw (← a, ← b, ← d, ← (append-assoc (leftEdge start) (letterChange column from end) (seenChanges mark offset last ++ (rightEdge (length mark) last ++ plainChange)))) (then-emit s s₁ s₂ _ _ p q)

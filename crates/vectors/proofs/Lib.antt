@@ -1,2 +1,3 @@
 pub mod FieldText
 pub mod InputParts
+pub mod KeptWraps

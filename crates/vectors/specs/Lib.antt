@@ -1,3 +1,4 @@
 pub mod Fields
 pub mod Recorded
 pub mod Program
+pub mod Cached

@@ -1,4 +1,6 @@
 // Calls on one line, one after the other, with wraps kept from none: each is answered, and the heads that are kept at the end are printed.
+ghost use mathlib.Core.Path.{_≡_};
+ghost use Rattle.vectors.specs.Cached.{afterRows, afterHeight, afterCall};
 use super::fields;
 use super::fields::field;
 use super::fields::number;
@@ -18,7 +20,9 @@ fn print_call(a: Answer) {
     print_number(a.count);
 }
 
-fn rows(line: &[u8], width: usize, mode: usize, wraps: &mut [usize; 8212]) {
+fn rows(line: &[u8], width: usize, mode: usize, wraps: &mut [usize; 8212])
+    ensures { λ _. ⌜ now (wraps .exit) ≡ afterRows (now (wraps .entry)) (now (line .entry)) width mode ⌝ }
+{
     let mut conv = [170u8; 32776];
     let mut spans = [170usize; 4096];
     let mut pairs = [170usize; 4096];
@@ -27,7 +31,9 @@ fn rows(line: &[u8], width: usize, mode: usize, wraps: &mut [usize; 8212]) {
     print_numbers(&pairs, 4096);
 }
 
-fn height(line: &[u8], width: usize, mode: usize, wraps: &mut [usize; 8212]) {
+fn height(line: &[u8], width: usize, mode: usize, wraps: &mut [usize; 8212])
+    ensures { λ _. ⌜ now (wraps .exit) ≡ afterHeight (now (wraps .entry)) (now (line .entry)) width mode ⌝ }
+{
     let mut conv = [170u8; 32776];
     let mut spans = [170usize; 4096];
     let a = cached_height_numbers(line, width, mode, wraps, &mut conv, &mut spans);
@@ -35,10 +41,13 @@ fn height(line: &[u8], width: usize, mode: usize, wraps: &mut [usize; 8212]) {
 }
 
 // A call of this name; of another, nothing.
-fn call(name: &[u8], width: usize, mode: usize, line: &[u8], wraps: &mut [usize; 8212]) {
+fn call(name: &[u8], width: usize, mode: usize, line: &[u8], wraps: &mut [usize; 8212])
+    ensures { λ _. ⌜ now (wraps .exit) ≡ afterCall (now (name .entry)) (now (wraps .entry)) (now (line .entry)) width mode ⌝ }
+{
     if same(name, b"rows") {
-        rows(line, width, mode, wraps);
-    } else if same(name, b"height") {
+        return rows(line, width, mode, wraps);
+    }
+    if same(name, b"height") {
         height(line, width, mode, wraps);
     }
 }

@@ -1,7 +1,7 @@
 use Rattle.marks.proofs.Composing.{scalar-inside, scalar-fits}
 use borrow.Author.Needs.{needs}
-use Rattle.marks.proofs.compare_scalar.Statement.{statement}
-use Rattle.marks.proofs.compare_scalar.Tie as tie
+use Rattle.marks.proofs.alone.compare_scalar.Statement.{statement}
+use Rattle.marks.proofs.alone.compare_scalar.Tie as tie
 
 slice-aggregate-push-scalar-mark : tie.Need-slice-aggregate-push-scalar-mark
 slice-aggregate-push-scalar-mark c = search needs

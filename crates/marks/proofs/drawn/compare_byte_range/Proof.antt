@@ -1,13 +1,13 @@
 use Prim.Native.Nat.{_-_, _≤_}
 use borrow.Author.Needs.{needs}
-use Rattle.marks.proofs.compare_bytes.Statement.{statement}
-use Rattle.marks.proofs.compare_bytes.Tie as tie
+use Rattle.marks.proofs.drawn.compare_byte_range.Statement.{statement}
+use Rattle.marks.proofs.drawn.compare_byte_range.Tie as tie
 
 abbrev Inv-loop : tie.InvT-loop
-Inv-loop byte₀ byte = byte ≤ 256
+Inv-loop first last n₀ byte₀ n byte = byte ≤ 256
 
 abbrev μ-loop : tie.MeasureT-loop
-μ-loop byte₀ byte = 256 - byte
+μ-loop first last n₀ byte₀ n byte = 256 - byte
 
 loop-holds : tie.Need-loop-holds Inv-loop μ-loop
 loop-holds c = search needs
@@ -17,6 +17,9 @@ cast-compare-byte c = search needs
 
 compare-byte-requires : tie.Need-compare-byte-requires Inv-loop μ-loop
 compare-byte-requires c κs = search needs
+
+wrapping-add-u32-requires : tie.Need-wrapping-add-u32-requires Inv-loop μ-loop
+wrapping-add-u32-requires c κs = search needs
 
 add-byte : tie.Need-add-byte Inv-loop μ-loop
 add-byte c = search needs
@@ -30,8 +33,8 @@ loop-again c = search needs
 returns : tie.Need-returns Inv-loop μ-loop
 returns c = search needs
 
-pub compare-bytes-spec : {M : Type 1} → statement M
-compare-bytes-spec =
+pub compare-byte-range-spec : {M : Type 1} → statement M
+compare-byte-range-spec =
     tie.close
     (tie.spec
     Inv-loop
@@ -39,6 +42,7 @@ compare-bytes-spec =
     loop-holds
     cast-compare-byte
     compare-byte-requires
+    wrapping-add-u32-requires
     add-byte
     loop-less
     loop-again

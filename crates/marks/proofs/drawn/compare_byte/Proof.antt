@@ -1,7 +1,7 @@
 use Rattle.marks.proofs.Composing.{byte-inside, byte-fits}
 use borrow.Author.Needs.{needs}
-use Rattle.marks.proofs.compare_byte.Statement.{statement}
-use Rattle.marks.proofs.compare_byte.Tie as tie
+use Rattle.marks.proofs.drawn.compare_byte.Statement.{statement}
+use Rattle.marks.proofs.drawn.compare_byte.Tie as tie
 
 slice-aggregate-push-byte-mark : tie.Need-slice-aggregate-push-byte-mark
 slice-aggregate-push-byte-mark c = search needs
@@ -9,14 +9,17 @@ slice-aggregate-push-byte-mark c = search needs
 push-byte-mark-requires : tie.Need-push-byte-mark-requires
 push-byte-mark-requires c κs = search needs
 
+slice-aggregate-compare-both : tie.Need-slice-aggregate-compare-both
+slice-aggregate-compare-both c = search needs
+
 array-share-prefix-mark : tie.Need-array-share-prefix-mark
 array-share-prefix-mark c = search byte-inside
 
-slice-aggregate-compare-mark : tie.Need-slice-aggregate-compare-mark
-slice-aggregate-compare-mark c = search byte-fits
+slice-aggregate-compare-both-2 : tie.Need-slice-aggregate-compare-both-2
+slice-aggregate-compare-both-2 c = search byte-fits
 
-compare-mark-requires : tie.Need-compare-mark-requires
-compare-mark-requires c κs = search needs
+compare-both-requires : tie.Need-compare-both-requires
+compare-both-requires c κs = search needs
 
 returns : tie.Need-returns
 returns c = search needs
@@ -27,7 +30,8 @@ compare-byte-spec =
     (tie.spec
     slice-aggregate-push-byte-mark
     push-byte-mark-requires
+    slice-aggregate-compare-both
     array-share-prefix-mark
-    slice-aggregate-compare-mark
-    compare-mark-requires
+    slice-aggregate-compare-both-2
+    compare-both-requires
     returns)

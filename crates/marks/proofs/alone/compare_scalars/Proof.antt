@@ -1,7 +1,7 @@
 use Prim.Native.Nat.{_-_, _≤_}
 use borrow.Author.Needs.{needs}
-use Rattle.marks.proofs.compare_scalars.Statement.{statement}
-use Rattle.marks.proofs.compare_scalars.Tie as tie
+use Rattle.marks.proofs.alone.compare_scalars.Statement.{statement}
+use Rattle.marks.proofs.alone.compare_scalars.Tie as tie
 
 abbrev Inv-loop : tie.InvT-loop
 Inv-loop code₀ code = code ≤ 0x1100FF

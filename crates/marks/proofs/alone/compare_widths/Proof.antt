@@ -1,7 +1,7 @@
 use Prim.Native.Nat.{_-_, _≤_}
 use borrow.Author.Needs.{needs}
-use Rattle.marks.proofs.compare_widths.Statement.{statement}
-use Rattle.marks.proofs.compare_widths.Tie as tie
+use Rattle.marks.proofs.alone.compare_widths.Statement.{statement}
+use Rattle.marks.proofs.alone.compare_widths.Tie as tie
 
 abbrev Inv-loop : tie.InvT-loop
 Inv-loop code mark offset width₀ width = width ≤ 11
