@@ -12,8 +12,8 @@ use lib.Dec.{leb, ltb}
 use borrow.Author.Tests.{leb-true, leb-false, ltb-true, ltb-false, le-ltb}
 use Rattle.buffer.specs.Numbers.Laws.{smaller-left, smaller-right, smaller-order}
 use Rattle.buffer.specs.Numbers.Parts.{part-cut}
-use Rattle.text.specs.Tests.{cases, both-true, or-false}
-use Rattle.text.specs.Each.{all-nil, all-cons, all-split}
+use Rattle.text.specs.Tests.{cases, or-false}
+use Rattle.text.specs.Each.{all-cons}
 use Rattle.text.specs.Utf8.{Scalar, ascii, asciis, decode, bytesOf}
 use Rattle.text.specs.Utf8.AsciiTexts.{asciis-bytes, asciis-cons, asciis-nil, asciis-size}
 use Rattle.text.specs.Class.{Profile}
@@ -25,15 +25,14 @@ use Rattle.text.specs.Utf8.Code.{runOf}
 use Rattle.text.specs.Class.Code.{profileOf, printable}
 use Rattle.text.specs.Class.Profile01.{ascii-classes}
 use Rattle.text.specs.TextParts.{textAt, Measured}
+use Rattle.text.specs.Printable.{allPrintable, ColumnsOf, PlaceOf}
+use Rattle.text.specs.Printable.Laws.{all-printable, part-printable}
+use Rattle.text.specs.declared.BytePlace.{BytePlace}
+use Rattle.text.specs.declared.Column.{Column}
 use Rattle.text.specs.declared.class.Profile as code
 use Rattle.text.specs.Cluster.Laws.{clusters-nil}
 use Rattle.drawing.specs.Clip.{clipEnd, clipStart, clip}
-use Rattle.drawing.specs.Clip.Contracts.{allPrintable, ColumnsClip, bytesIn, textIn, clipText, clipOf, Clipped}
-
-pub all-printable : (s : List ℕ) → allPrintable s ≡ true → Printable s
-unfolding allPrintable
-all-printable [] e = all-nil
-all-printable (b ∷ s) e = let w = both-true (printable b) (allPrintable s) e in all-cons (w .0) (all-printable s (w .1))
+use Rattle.drawing.specs.Clip.Contracts.{ColumnsClip, bytesIn, textIn, clipText, clipOf, Clipped}
 
 -- ---- the loop
 
@@ -52,10 +51,8 @@ printable-end s i h k = rw (drop-of-length-le s h) at k
 
 -- ---- their text
 
-part-printable : (n m : ℕ) (s : List ℕ) → Printable s → Printable (take n (drop m s))
-part-printable n m s h =
-    let d : Printable (drop m s) = all-split (take m s) (rw (← take-append-drop m s) at h) .1 in
-    all-split (take n (drop m s)) (rw (← take-append-drop n (drop m s)) at d) .0
+pub printable-text : (s : List ℕ) (b : Bool) → b ≡ allPrintable s → b ≡ true → allPrintable s ≡ true
+printable-text s b e t = sym e ∙ t
 
 module _ (f : code.Profile) where
   abbrev P : Profile
@@ -64,14 +61,11 @@ module _ (f : code.Profile) where
   a : AsciiClasses P
   a = ascii-classes f
 
-  pub columns-width : (s : List ℕ) → allPrintable s ≡ true → length s ≡ widthOf P (textAt s 0)
-  columns-width s p = let h = all-printable s p in rw (run-printable h) (sym (printable-width P a h))
+  pub columns-measured : (s : List ℕ) (w : Column) → allPrintable s ≡ true → ColumnsOf s w → Measured P s 0 (textAt s 0) (record { end = record { 0 = length s }; width = w })
+  columns-measured s w p c = record { end = rw (run-printable (all-printable s p), asciis-size s) (omega arith); width = c .width f; inside = omega arith; small = omega (arith, c .number) }
 
-  pub columns-measured : (s : List ℕ) → allPrintable s ≡ true → Measured P s 0 (textAt s 0) (record { end = record { 0 = length s }; width = record { 0 = length s } })
-  columns-measured s p = record { end = rw (run-printable (all-printable s p), asciis-size s) (omega arith); width = columns-width s p; inside = omega arith; small = omega arith }
-
-  pub measured-printable : (s : List ℕ) (b : Bool) → b ≡ allPrintable s → b ≡ true → Measured P s 0 (textAt s 0) (record { end = record { 0 = length s }; width = record { 0 = length s } })
-  measured-printable s b e t = columns-measured s (sym e ∙ t)
+  pub measured-printable : (s : List ℕ) (b : Bool) (w : Column) → b ≡ allPrintable s → b ≡ true → ColumnsOf s w → Measured P s 0 (textAt s 0) (record { end = record { 0 = length s }; width = w })
+  measured-printable s b w e t c = columns-measured s w (printable-text s b e t) c
 
   -- ---- clipping
 
@@ -117,11 +111,14 @@ module _ (f : code.Profile) where
       let n : length s ≤ width = omega (arith, ltb-false width (widthOf P (asciis s)) (q .1), printable-width P a h) in
       rw (t, o) (ap (λ (l : List ℕ). some (asciis l)) (sym (take-all width s n))))
 
-  pub columns-clipped : (offset width start end : ℕ) (s : List ℕ) → ColumnsClip s offset width → start ≡ cond (leb offset (length s)) offset (length s)
-      → end ≡ cond (leb (offset + width) (length s)) (offset + width) (length s)
-      → Clipped s (clip P offset width (textAt s 0)) (record { before = record { 0 = 0 }; start = record { 0 = start }; end = record { 0 = end }; behind = record { 0 = 0 }; torn = false })
+  pub columns-clipped : (offset width : ℕ) (start end : BytePlace) (s : List ℕ) → ColumnsClip s offset width → PlaceOf s offset start → PlaceOf s (offset + width) end
+      → Clipped s (clip P offset width (textAt s 0)) (record { before = record { 0 = 0 }; start = start; end = end; behind = record { 0 = 0 }; torn = false })
   unfolding clipText clipOf
-  columns-clipped offset width start end s ready p q =
+  columns-clipped offset width from to s ready at upto =
+      let start : ℕ = from .0 in
+      let end : ℕ = to .0 in
+      let p = at .number in
+      let q = upto .number in
       let h = all-printable s (ready .printable) in
       let b : bytesIn s start end ≡ take width (drop offset s) = part-cut s offset start p width end q in
       let r : textIn s start end ≡ asciis (take width (drop offset s)) = ap (λ (l : List ℕ). runOf (decode l)) b ∙ run-printable (part-printable width offset s h) in

@@ -24,6 +24,8 @@ use Rattle.text.specs.Utf8.Code.{firstSequence}
 use Rattle.text.specs.Class.Code.{profileOf, printable}
 use Rattle.text.specs.Utf8.Code.Laws.{scalar-at, none-at, none-past}
 use Rattle.text.specs.TextParts.{textAt}
+use Rattle.text.specs.Printable.{allPrintable, BytesOf}
+use Rattle.text.specs.Printable.Laws.{all-printable, spaces-printable}
 use Rattle.text.specs.declared.utf8.Sequence.{Sequence}
 use Rattle.drawing.specs.Clip.{spaces}
 use Rattle.drawing.specs.Marks.{byteMark, upperDigits, scalarMark}
@@ -33,7 +35,6 @@ use Rattle.drawing.specs.Attributes.{file, control}
 use Rattle.drawing.specs.Change as change
 use Rattle.drawing.specs.Change.{text, clipped, kindOf, body, encodeOne}
 use Rattle.drawing.specs.Draw.{writeMarks}
-use Rattle.drawing.specs.Clip.Contracts.{allPrintable}
 use Rattle.drawing.specs.Attributes.Code.{styleOf}
 use Rattle.drawing.specs.State.{stateOf, styling, Wrote}
 use Rattle.drawing.specs.Write.{ColumnsReady, windowedText, writingColumns, moved}
@@ -44,7 +45,7 @@ use Rattle.drawing.specs.declared.attributes.Style.the-variants.{File, C
 use Rattle.drawing.specs.declared.state.AttributeState.{AttributeState}
 use Rattle.drawing.specs.declared.state.Stepped.{Stepped}
 use Rattle.drawing.specs.declared.write.Window.{Window}
-use Rattle.drawing.proofs.Columns.{all-printable, clip-printable}
+use Rattle.drawing.proofs.Columns.{clip-printable}
 use Rattle.drawing.proofs.WindowTexts.{wrote-then, wrote-none, written-position, drawn-in, drawn-out}
 
 -- ---- digits
@@ -148,8 +149,8 @@ module _ (w : Window) (p v n : ℕ) where
         nothing : take (last - offset) (drop offset (markPart v n 0 n)) ≡ []
         nothing = ap (λ (m : ℕ). take m (drop offset (markPart v n 0 n))) z
 
-    pub mark-part : (k k₁ k₂ : Sink) → from ≤ to → k₁ ≡ emit k (le4 (to - from) ++ le2 1) → k₂ ≡ emit k₁ (markPart v n from (to - from)) → k₂ ≡ emit k (encodeOne (windowedText w p (markText v n)))
-    mark-part k k₁ k₂ h e f = then-emit k k₁ k₂ (le4 (to - from) ++ le2 1) (markPart v n from (to - from)) e f ∙ ap (emit k) (sym (sent-bytes (markPart v n from (to - from)) (between ∙ part-of v n from to h upto) (to - from) (sym (part-length v n from (to - from)))))
+    pub mark-part : (x : ℕ) (k k₁ k₂ : Sink) → from ≤ to → BytesOf (to - from) x → k₁ ≡ emit k (le4 x ++ le2 1) → k₂ ≡ emit k₁ (markPart v n from (to - from)) → k₂ ≡ emit k (encodeOne (windowedText w p (markText v n)))
+    mark-part x k k₁ k₂ h y e f = then-emit k k₁ k₂ (le4 x ++ le2 1) (markPart v n from (to - from)) e f ∙ ap (emit k) (sym (sent-bytes (markPart v n from (to - from)) (between ∙ part-of v n from to h upto) x (y .number ∙ sym (part-length v n from (to - from)))))
       where
         upto : to ≤ n
         upto = smaller-right l n to d
@@ -255,23 +256,22 @@ take-spaces zero m h = refl
 take-spaces (suc n) zero h = absurd (omega arith)
 take-spaces (suc n) (suc m) h = ap (λ (l : List ℕ). 0x20 ∷ l) (take-spaces n m (omega arith))
 
-spaces-printable : (n : ℕ) → allPrintable (replicate n 0x20) ≡ true
-unfolding allPrintable
-spaces-printable zero = refl
-spaces-printable (suc n) = spaces-printable n
+module _ (p n : ℕ) (b : BytesOf (8 - p % 8) n) where
+  pub tab-fits : n ≤ 8
+  tab-fits = omega (arith, b .number)
 
-pub tab-slice : (p : ℕ) → 8 - p % 8 ≡ length (take (8 - p % 8) (replicate {A = ℕ} 8 0x20))
-tab-slice p = sym (length-take-le (8 - p % 8) (replicate {A = ℕ} 8 0x20) (omega arith))
+  pub tab-slice : n ≡ length (take n (replicate {A = ℕ} 8 0x20))
+  tab-slice = sym (length-take-le n (replicate {A = ℕ} 8 0x20) tab-fits)
 
-pub tab-ready : (t : AttributeState) → t .position .0 + 16 < 2 ^ 64 → ColumnsReady (take (8 - t .position .0 % 8) (replicate {A = ℕ} 8 0x20)) t
-tab-ready t h = let n : ℕ = 8 - t .position .0 % 8 in record { printable = rw (take-spaces n 8 (omega arith)) (spaces-printable n); room = rw (← tab-slice (t .position .0)) (omega arith) }
+module _ (t : AttributeState) (n : ℕ) (b : BytesOf (8 - t .position .0 % 8) n) where
+  pub tab-ready : t .position .0 + 16 < 2 ^ 64 → ColumnsReady (take n (replicate {A = ℕ} 8 0x20)) t
+  tab-ready h = record { printable = rw (take-spaces n 8 (tab-fits (t .position .0) n b)) (spaces-printable n); room = rw (← tab-slice (t .position .0) n b) (omega (arith, b .number)) }
 
-pub tab-wrote : (w : Window) (l : List ℕ) (at : ℕ) (t : AttributeState) (l′ : List ℕ) (r : Stepped) → Wrote l at t (writingColumns w (take (8 - t .position .0 % 8) (replicate {A = ℕ} 8 0x20)) t File) l′ (r .at) (r .state) → Wrote l at t (tabbing w t) l′ (r .at) (r .state)
-unfolding styleOf
-tab-wrote w l at t l′ r h =
-    let n : ℕ = 8 - t .position .0 % 8 in
-    let e : textAt (take n (replicate {A = ℕ} 8 0x20)) 0 ≡ spaces n = rw (take-spaces n 8 (omega arith)) (run-printable (all-printable (replicate n 0x20) (spaces-printable n)) ∙ asciis-replicate n 0x20) in
-    rw e at h
+  pub tab-wrote : (w : Window) (l : List ℕ) (at : ℕ) (l′ : List ℕ) (r : Stepped) → Wrote l at t (writingColumns w (take n (replicate {A = ℕ} 8 0x20)) t File) l′ (r .at) (r .state) → Wrote l at t (tabbing w t) l′ (r .at) (r .state)
+  unfolding styleOf
+  tab-wrote w l at l′ r h =
+      let e : textAt (take n (replicate {A = ℕ} 8 0x20)) 0 ≡ spaces n = rw (take-spaces n 8 (tab-fits (t .position .0) n b)) (run-printable (all-printable (replicate n 0x20) (spaces-printable n)) ∙ asciis-replicate n 0x20) in
+      rw (← (b .number)) (rw e at h)
 
 module _ (w : Window) (kind byte : ℕ) (l : List ℕ) (at : ℕ) (t : AttributeState) (l′ : List ℕ) (r : Stepped) where
   pub composed-tab : kind ≡ 10 → Wrote l at t (tabbing w t) l′ (r .at) (r .state) → ComposedWrote w kind byte l at t l′ r

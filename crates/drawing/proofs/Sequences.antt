@@ -17,13 +17,12 @@ use Rattle.spans.specs.Sequence.Contracts.{sequenceOf}
 use Rattle.spans.specs.Sequence.Contracts as spans
 use Rattle.spans.specs.declared.sequence.Sequence as sequence
 use Rattle.spans.specs.declared.sequence.Sequence.the-variants as sequences
-use Rattle.drawing.specs.Attributes.{linked}
 use Rattle.drawing.specs.Draw.{State, renderSequence}
 use Rattle.drawing.specs.Reader.HiddenUris.{uriLength}
 use Rattle.drawing.specs.State.{stateOf}
 use Rattle.drawing.specs.Orders.{obeyed}
+use Rattle.drawing.specs.Hyperlink.{linkedTo}
 use Rattle.drawing.specs.Rendering.{Linkable, linkedBy, withLineDrawing, erasedToEnd, linkIn, recordSequence, SequenceDone}
-use Rattle.drawing.specs.declared.attributes.Attributes.{Attributes}
 use Rattle.drawing.specs.declared.state.AttributeState.{AttributeState}
 
 -- ---- the place of a hyperlink's URI lies near
@@ -41,15 +40,14 @@ linkable line place q h k e =
           omega (arith, parse-link s p n m g, parse-length s (hyperlink p n) m g, ap length (slice-is line place), length-drop (place + 1) line);
     }
 
--- ---- apply_hyperlink
+-- ---- the state after a hyperlink
 
 pub link-fits : (place : ℕ) (q : sequence.Sequence) (p n k : ℕ) → Linkable place q → q ≡ sequences.Hyperlink p n k → place + p < 18446744073709551616
 link-fits place q p n k l e = omega (arith, l .near, l .from p n k e)
 
-pub link-told : (crew : Bool) (t : AttributeState) (place : ℕ) (q : sequence.Sequence) (a : Attributes) (p n k m : ℕ) → q ≡ sequences.Hyperlink p n k → m ≡ uriLength crew n → a ≡ linked (t .attrs) (place + p) m
-    → record { attrs = a; drawing = t .drawing; changed = true; style = t .style; fill = t .fill; torn = t .torn; position = t .position } ≡ linkedBy crew t place q
+pub link-told : (crew : Bool) (t : AttributeState) (place : ℕ) (q : sequence.Sequence) (r : AttributeState) (p n k m : ℕ) → q ≡ sequences.Hyperlink p n k → m ≡ uriLength crew n → r ≡ linkedTo t (record { place = record { 0 = place + p }; len = m }) → r ≡ linkedBy crew t place q
 unfolding linkedBy
-link-told crew t place q a p n k m e g f = rw (e, f, g) refl
+link-told crew t place q r p n k m e g f = rw (e, f, g) refl
 
 pub on-link : (crew : Bool) (t r : AttributeState) (place : ℕ) (q x : sequence.Sequence) → q ≡ x → r ≡ linkedBy crew t place x → r ≡ linkedBy crew t place q
 on-link crew t r place q x e p = rw e p

@@ -17,13 +17,13 @@ use Rattle.spans.specs.Sgr.Contracts.{ordersAt}
 use Rattle.spans.specs.declared.sequence.Sequence as sequence
 use Rattle.spans.specs.declared.sequence.Sequence.the-variants as sequences
 use Rattle.drawing.specs.Marks.{byteMark, lineDrawn}
-use Rattle.drawing.specs.Attributes.{linked}
 use Rattle.drawing.specs.Change.{Change, clearToEnd, encode}
 use Rattle.drawing.specs.Change as change
 use Rattle.drawing.specs.Draw.{State, Sent, sent, writeTruncated, writeMarks, renderSequence, leftArrow, rightArrow, closeWindow, closeRows}
 use Rattle.drawing.specs.Reader.HiddenUris.{uriLength}
 use Rattle.drawing.specs.Attributes.Code.{styleOf}
 use Rattle.drawing.specs.State.{stateOf, Wrote, newState}
+use Rattle.drawing.specs.Hyperlink.{linkedTo}
 use Rattle.drawing.specs.LineDrawing.{shownText}
 use Rattle.drawing.specs.Marks.Contracts.{composedStyle, composedText}
 use Rattle.drawing.specs.declared.attributes.Style as code
@@ -44,14 +44,13 @@ currentOf n = cond (eqb n largest) none (some n)
 abbrev pub recordStyle : ℕ → ℕ → ℕ → code.Style
 recordStyle kind current matched = cond (eqb kind 1) File (cond (eqb current matched && not (eqb current largest)) CurrentMatch Match)
 
--- the state after a hyperlink at a place
+-- the state after the hyperlink that stands at a place
 pub record Linkable (place : ℕ) (q : sequence.Sequence) : Type 0 where
   pub near : place ≤ 32768
   pub from : (p n k : ℕ) → q ≡ sequences.Hyperlink p n k → p ≤ 65536
 
 unfoldable pub linkedBy : (crew : Bool) → AttributeState → ℕ → sequence.Sequence → AttributeState
-linkedBy crew t place (sequences.Hyperlink p n k) =
-    record { attrs = linked (t .attrs) (place + p) (uriLength crew n); drawing = t .drawing; changed = true; style = t .style; fill = t .fill; torn = t .torn; position = t .position }
+linkedBy crew t place (sequences.Hyperlink p n k) = linkedTo t (record { place = record { 0 = place + p }; len = uriLength crew n })
 linkedBy crew t place sequences.Missing = t
 linkedBy crew t place (sequences.Sgr n) = t
 linkedBy crew t place (sequences.EraseToEnd n) = t

@@ -9,6 +9,7 @@ use Rattle.text.specs.Utf8.{Scalar}
 use Rattle.text.specs.Class.{Profile}
 use Rattle.text.specs.Utf8.Code.{whole}
 use Rattle.text.specs.Class.Code.{profileOf, printable}
+use Rattle.text.specs.Printable.{allPrintable}
 use Rattle.text.specs.TextParts.{textAt, Measured}
 use Rattle.text.specs.declared.TextPart.{TextPart}
 use Rattle.drawing.specs.Clip.{clip}
@@ -20,7 +21,6 @@ use Rattle.drawing.specs.declared.attributes.Style as code
 use Rattle.drawing.specs.declared.state.AttributeState.{AttributeState}
 use Rattle.drawing.specs.declared.state.Drawn.{Drawn}
 use Rattle.drawing.specs.declared.write.Window.{Window}
-use Rattle.drawing.specs.Clip.Contracts.{allPrintable}
 use Rattle.drawing.specs.Attributes.Code.{styleOf}
 use Rattle.drawing.specs.State.{stateOf}
 use Rattle.drawing.specs.LineDrawing.{shownText}

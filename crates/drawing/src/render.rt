@@ -1,11 +1,12 @@
 // Drawing: src/line.rs, Span::render and Line::render.
+use super::attributes::Link;
 use super::attributes::Style;
-use super::attributes::linked;
 use super::attributes::plain;
 use super::change::push_attributes;
 use super::change::push_clear;
 use super::change::push_left_arrow;
 use super::change::push_right_arrow;
+use super::hyperlink::with_hyperlink;
 use super::mark::write_composed;
 use super::mark::write_marks;
 use super::orders::with_sgr_sequence;
@@ -64,8 +65,8 @@ fn uri_length(len: usize, crew: bool) -> usize
     if crew { 0 } else { len }
 }
 
-// AttributeState::apply_hyperlink, of the sequence at a place.
-fn apply_hyperlink(
+// The state after the hyperlink that stands at a place.
+fn render_hyperlink(
     state: AttributeState,
     place: BytePlace,
     sequence: Sequence,
@@ -74,20 +75,14 @@ fn apply_hyperlink(
     requires { ⌜ Linkable (place .0) sequence ⌝ }
     ensures { λ r. ⌜ r ≡ linkedBy crew state (place .0) sequence ⌝ }
 {
-    let attrs = state.attrs;
-    let own = state.style;
-    let fill = state.fill;
-    let position = state.position;
     match sequence {
-        Sequence::Hyperlink(from, len, n) => AttributeState {
-            attrs: linked(attrs, BytePlace(place.0 + from), uri_length(len, crew)),
-            drawing: state.drawing,
-            changed: true,
-            style: own,
-            fill: fill,
-            torn: state.torn,
-            position: position,
-        },
+        Sequence::Hyperlink(from, len, n) => with_hyperlink(
+            state,
+            Link {
+                place: BytePlace(place.0 + from),
+                len: uri_length(len, crew),
+            },
+        ),
         Sequence::Missing => state,
         Sequence::Sgr(n) => state,
         Sequence::EraseToEnd(n) => state,
@@ -157,7 +152,7 @@ fn render_sequence(
                 further: true,
             },
         ),
-        7 => apply_hyperlink(state, place, sequence_at(line, at, line.len()), crew),
+        7 => render_hyperlink(state, place, sequence_at(line, at, line.len()), crew),
         8 => with_line_drawing(state, byte_at(line, at + 2) == b'0'),
         13 => erase_to_end(state),
         _ => state,

@@ -21,7 +21,7 @@ fn compare(code: u32, mark: &[u8], offset: u8, width: u8) {
         start: Column(start),
         end: Column(end),
     };
-    let m = push_mark(&mut after, 0, code, mark.len(), window, Column(0));
+    let m = push_mark(&mut after, 0, code, Column(mark.len()), window, Column(0));
     if n == m {
         if same(&before, &after) {
             return;

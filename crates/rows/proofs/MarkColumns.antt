@@ -1,7 +1,7 @@
 -- The columns of a text's marks, scalar by scalar.
 use mathlib.Core.Path.{_≡_, sym, ap, _∙_}
 use mathlib.Core.Logic.{_≢_}
-use Prim.Native.Nat.{ℕ, _+_, _*_, _≤_, _<_}
+use Prim.Native.Nat.{ℕ, _+_, _-_, _*_, _≤_, _<_, _^_}
 use native.Mathlib.Omega.{arith}
 use mathlib.Core.List.{List, []}
 use lib.ListN.{length, drop}
@@ -32,6 +32,16 @@ module _ (text : List ℕ) (p n : ℕ) (k : Counted text p n) where
   module _ (u : Sequence) (here : p < length text) (read : u ≡ firstSequence (decode (drop p text))) where
     pub count-stop : u .len ≡ 0 → DrawnColumns text n
     count-stop z = count-done (none-at text p u here read z)
+
+    pub count-room : (m : ℕ) → m ≡ markColumns (u .code) → 10 * length text < 2 ^ 64 → n + m < 18446744073709551616
+    count-room m e r = omega (arith, k .small, e, mark-small (u .code), here)
+
+    module _ (z : u .len ≢ 0) where
+      pub count-fits : 10 * length text < 2 ^ 64 → p + u .len < 18446744073709551616
+      count-fits r = omega (arith, scalar-at text p u here read z .fits)
+
+      pub count-falls : length text - (p + u .len) < length text - p
+      count-falls = let a = scalar-at text p u here read z in omega (arith, a .fits, a .some)
 
     module _ (z : u .len ≢ 0) (m : ℕ) (e : m ≡ markColumns (u .code)) where
       pub count-turn : Counted text (p + u .len) (n + m)

@@ -1,4 +1,5 @@
 // The columns of marks.
+use text::Column;
 use text::utf8::decode;
 ghost use mathlib.Core.Path.{_≡_};
 ghost use Prim.Native.Nat.{_*_, _<_, _^_};
@@ -6,31 +7,32 @@ ghost use lib.ListN.{length};
 ghost use Rattle.rows.specs.Marks.{markColumns, DrawnColumns};
 
 // Of a scalar's mark: `<U+`, four digits or more, `>`.
-pub fn mark_columns(code: u32) -> usize
-    ensures { λ r. ⌜ r ≡ markColumns code ⌝ }
+pub fn mark_columns(code: u32) -> Column
+    ensures { λ r. ⌜ r .0 ≡ markColumns code ⌝ }
 {
     if code < 0x10000 {
-        return 8;
+        return Column(8);
     }
     if code < 0x100000 {
-        return 9;
+        return Column(9);
     }
-    10
+    Column(10)
 }
 
 // Of an Unprintable span: a mark for each scalar of its text.
-pub(crate) fn drawn_columns(text: &[u8]) -> usize
+pub(crate) fn drawn_columns(text: &[u8]) -> Column
     requires { ⌜ 10 * length (now text) < 2 ^ 64 ⌝ }
-    ensures { λ r. ⌜ DrawnColumns (now (text .entry)) r ⌝ }
+    ensures { λ r. ⌜ DrawnColumns (now (text .entry)) (r .0) ⌝ }
 {
-    let mut columns = 0;
+    let mut columns = Column(0);
     let mut p = 0;
     while p < text.len() {
         let u = decode(text, p);
         if u.len == 0 {
             return columns;
         }
-        columns += mark_columns(u.code);
+        let mark = mark_columns(u.code);
+        columns = Column(columns.0 + mark.0);
         p += u.len;
     }
     columns

@@ -291,8 +291,7 @@ fn unprintable(text: &[u8], rows: &mut [usize], wrapping: Wrapping, state: WrapS
     if wrapping.mode < 3 {
         return unbroken(rows, width, state, Column(8));
     }
-    let columns = drawn_columns(text);
-    unbroken(rows, width, state, Column(columns))
+    unbroken(rows, width, state, drawn_columns(text))
 }
 
 // The bytes that a record stands for, as far as the line has them.

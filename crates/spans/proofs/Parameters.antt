@@ -1,21 +1,23 @@
 -- The parameters of a style order: numbers that stay where they have passed 65,535 serve as well, and the scan of them.
 use mathlib.Core.Path.{_≡_, refl, sym, ap, _∙_}
+use mathlib.Core.Logic.{_≢_}
 use Prim.Native.Nat.{ℕ, suc, _+_, _-_, _*_, _%_, _≤_, _<_}
 use native.Mathlib.Numerals.{add-one}
 use native.Mathlib.Omega.{arith}
-use native.Mathlib.Nat.{zero-add}
-use mathlib.Core.Bool.{Bool, true, false, cond, _&&_}
+use native.Mathlib.Nat.{zero-add, add-zero}
+use mathlib.Core.Bool.{Bool, true, false, cond, _&&_, true≢false}
 use mathlib.Core.List.{List, [], _∷_, map}
-use lib.ListN.{length, drop, getD, drop-of-length-le, length-map}
-use lib.Seq.{drop-cons}
+use lib.ListN.{length, drop, getD, drop-of-length-le, length-drop, length-map}
+use lib.Seq.{drop-cons, getD-drop}
 use lib.Dec.{eqb, leb, ltb, leb→le}
 use borrow.Author.Tests.{eq-eqb, ne-eqb, le-leb, lt-leb, leb-true, leb-false}
 use Rattle.text.specs.Tests.{cases, and-T, true-T}
+use Rattle.text.specs.Places.{behind-byte}
 use Rattle.spans.specs.Sgr.{digit, parameters, allAtMost, allowed, meaningAfter, follow, ordersFrom, orders}
 use Rattle.spans.specs.Sequence.{leading, parameterByte}
-use Rattle.spans.specs.Sgr.Contracts.{more, numbers, Scanned, numbersAt, room, ParameterAt, parametersAt, ordersAt, ordersOf}
-use Rattle.spans.specs.declared.sgr.Parameter.{Parameter}
+use Rattle.spans.specs.Sgr.Contracts.{more, numbers, Scanned, parametersAt, ordersAt, ordersOf, onward, nextFrom, nextOrder, NextOrderAt}
 use Rattle.spans.specs.declared.sgr.Orders.{Orders}
+use Rattle.spans.specs.declared.sgr.NextOrder.{NextOrder}
 use Rattle.spans.specs.declared.sgr.NextOrder.the-variants.{Order, End}
 use Rattle.spans.specs.declared.sgr.Sgr.{Sgr}
 use Rattle.spans.specs.declared.sgr.Meaning.{Meaning}
@@ -220,68 +222,131 @@ module _ (s : List ℕ) (i count v : ℕ) (f : Bool) (z : Scanning s i count f v
   pub scan-stops : (d : Bool) → i < length s → d ≡ digit (getD s i 0) → d ≡ false → (getD s i 0 ≡ 0x3B → ⊥) → Scanned s (record { len = i; fine = (f && leb v 65535) && ltb count 32 })
   scan-stops d h p q n = let t : digit (getD s i 0) ≡ false = sym p ∙ q in scanned (bytes-stop s i h t n) (numbers-stop s i v h t n)
 
--- ---- one parameter
-
-pub record Digits (s : List ℕ) (at i v : ℕ) : Type 0 where
-  pub same : numbers v (drop i s) ≡ numbers 0 (drop at s)
-  pub up : at ≤ i
-
-pub digits-begin : (s : List ℕ) (at : ℕ) → Digits s at at 0
-digits-begin s at = record { same = refl; up = omega arith }
-
-module _ (s : List ℕ) (at i v : ℕ) (y : Digits s at i v) where
-  pub digits-more : (w : ℕ) (d : Bool) → i < length s → d ≡ digit (getD s i 0) → d ≡ true → w ≡ more v (getD s i 0) → Digits s at (i + 1) w
-  digits-more w d h p q r = record { same = rw (r, ← numbers-digit s i v h (sym p ∙ q)) (y .same); up = omega (arith, y .up) }
-
-  pub parameter-next : (d : Bool) → i < length s → d ≡ digit (getD s i 0) → d ≡ false → getD s i 0 ≡ 0x3B → ParameterAt s at (record { value = v; next = i + 1; further = true })
-  unfolding numbersAt room
-  parameter-next d h p q e = record { same = sym (numbers-next s i v h (sym p ∙ q) e) ∙ y .same; falls = omega (arith, y .up) }
-
-  parameter-last : numbers v (drop i s) ≡ v ∷ [] → ParameterAt s at (record { value = v; next = i; further = false })
-  unfolding numbersAt room
-  parameter-last e = record { same = sym e ∙ y .same; falls = omega arith }
-
-  pub parameter-stops : (d : Bool) → i < length s → d ≡ digit (getD s i 0) → d ≡ false → (getD s i 0 ≡ 0x3B → ⊥) → ParameterAt s at (record { value = v; next = i; further = false })
-  parameter-stops d h p q n = parameter-last (numbers-stop s i v h (sym p ∙ q) n)
-
-  pub parameter-past : length s ≤ i → ParameterAt s at (record { value = v; next = i; further = false })
-  parameter-past h = parameter-last (numbers-end s i v h)
-
 -- ---- the next order
 
-pub record Ordering (s : List ℕ) (c : Orders) (at : ℕ) (further : Bool) (w : ColorState) : Type 0 where
-  pub todo : ordersFrom w (numbersAt s further at) ≡ ordersAt s c
+module _ (s : List ℕ) (i b : ℕ) (e : b ≡ getD s i 0) where
+  first : (l : List ℕ) → drop i s ≡ l → b ≡ getD l 0 0
+  first l p = e ∙ ap (λ (n : ℕ). getD s n 0) (sym (add-zero i)) ∙ sym (getD-drop i s 0 0) ∙ ap (λ (m : List ℕ). getD m 0 0) p
 
-at-same : (w : ColorState) (s : List ℕ) (further : Bool) (i : ℕ) → ordersFrom w (numbersAt s further i) ≡ ordersFrom w (cond further (parameters 0 (drop i s)) [])
-unfolding numbersAt
-at-same w s true i = orders-same w (drop i s)
-at-same w s false i = refl
+  after : (x : ℕ) (l : List ℕ) → drop i s ≡ x ∷ l → drop (i + 1) s ≡ l
+  after x l p = ap (λ (n : ℕ). drop n s) (add-one i) ∙ behind-byte i s x l p
 
-pub ordering-begins : (s : List ℕ) (c : Orders) → Ordering s c (c .at) (c .further) Ready
-unfolding ordersAt orders parametersAt
-ordering-begins s c = record { todo = at-same Ready s (c .further) (c .at) }
+  inside : (l : List ℕ) → drop i s ≡ l → (b ≢ 0) → i < length s
+  inside [] p z = absurd (z (first [] p))
+  inside (x ∷ l) p z = omega (arith, length-drop i s, ap length p)
 
-module _ (s : List ℕ) (c : Orders) (at : ℕ) (further : Bool) (w : ColorState) (z : Ordering s c at further w) (p : Parameter) (t : Meaning) (f : further ≡ true) (h : ParameterAt s at p) (e : t ≡ meaningAfter w (p .value)) where
-  followed : follow t (λ w. ordersFrom w (numbersAt s (p .further) (p .next))) ≡ ordersAt s c
-  unfolding ordersFrom numbersAt
-  followed = ap (λ (t : Meaning). follow t (λ w. ordersFrom w (numbersAt s (p .further) (p .next)))) e ∙ ap (ordersFrom w) (h .same) ∙ (rw f at (z .todo))
+  pub digit-inside : digit b ≡ true → i < length s
+  digit-inside d = inside (drop i s) refl (λ z. true≢false (sym d ∙ ap digit z))
 
-  pub ordering-more : (x : ColorState) → t ≡ step.Group x → Ordering s c (p .next) (p .further) x
-  unfolding follow
-  ordering-more x g = record { todo = rw g at followed }
+  pub separator-inside : eqb b 0x3B ≡ true → i < length s
+  separator-inside d = inside (drop i s) refl (λ z. true≢false (sym d ∙ ap (λ (n : ℕ). eqb n 0x3B) z))
 
-  pub ordering-falls : room s (p .further) (p .next) < room s further at
-  unfolding room
-  ordering-falls = rw f (omega (arith, h .falls))
+  module _ (w : ColorState) (v : ℕ) where
+    one-more : (l : List ℕ) → drop i s ≡ l → digit b ≡ true → nextFrom w v i l ≡ nextFrom w (more v b) (i + 1) (drop (i + 1) s)
+    unfolding nextFrom
+    one-more [] p d = absurd (true≢false (sym d ∙ ap digit (first [] p)))
+    one-more (x ∷ l) p d = let q : x ≡ b = sym (first (x ∷ l) p) in rw (q, d, after x l p) refl
 
-  pub order-next : (o : Sgr) → t ≡ step.Order o → ordersOf s (Order o (record { at = p .next; further = p .further })) ≡ ordersAt s c
-  unfolding follow ordersOf ordersAt orders parametersAt
-  order-next o g = ap (λ (l : List Sgr). o ∷ l) (sym (at-same Ready s (p .further) (p .next))) ∙ rw g at followed
+    -- a parameter ends here, at a `;` where f
+    ended : (l : List ℕ) → drop i s ≡ l → digit b ≡ false → (f : Bool) → f ≡ eqb b 0x3B → (j : ℕ) → j ≡ cond f (i + 1) i
+        → nextFrom w v i l ≡ onward (meaningAfter w v) (record { at = j; further = f }) (λ x. cond f (nextFrom x 0 j (drop j s)) End)
+    unfolding nextFrom
+    ended [] p d f q j r = let k : f ≡ false = q ∙ ap (λ (n : ℕ). eqb n 0x3B) (first [] p) in rw (r, k) refl
+    ended (x ∷ l) p d true q j r = let y : x ≡ b = sym (first (x ∷ l) p) in rw (y, d, ← q, r, after x l p) refl
+    ended (x ∷ l) p d false q j r = let y : x ≡ b = sym (first (x ∷ l) p) in rw (y, d, ← q, r) refl
 
-  pub order-stops : t ≡ step.Unknown → ordersOf s End ≡ ordersAt s c
-  unfolding follow ordersOf
-  order-stops g = rw g at followed
+-- ---- the orders that it gives
 
-pub order-ends : (s : List ℕ) (c : Orders) (at : ℕ) (further : Bool) (w : ColorState) → Ordering s c at further w → further ≡ false → ordersOf s End ≡ ordersAt s c
-unfolding ordersFrom numbersAt ordersOf
-order-ends s c at further w z f = rw f at (z .todo)
+last-orders : (s : List ℕ) (i : ℕ) (t : Meaning) → ordersOf s (onward t (record { at = i; further = false }) (λ x. End)) ≡ follow t (λ x. ordersFrom x [])
+unfolding onward follow ordersOf ordersAt parametersAt orders ordersFrom
+last-orders s i (step.Order o) = refl
+last-orders s i (step.Group w) = refl
+last-orders s i step.Unknown = refl
+
+more-orders : (s : List ℕ) (i : ℕ) (l : List ℕ) (t : Meaning) → drop i s ≡ l → ((x : ColorState) → ordersOf s (nextFrom x 0 i l) ≡ ordersFrom x (numbers 0 l))
+    → ordersOf s (onward t (record { at = i; further = true }) (λ x. nextFrom x 0 i l)) ≡ follow t (λ x. ordersFrom x (numbers 0 l))
+unfolding onward follow ordersOf ordersAt parametersAt orders
+more-orders s i l (step.Order o) p ih = ap (λ (os : List Sgr). o ∷ os) (ap (λ (m : List ℕ). ordersFrom Ready (parameters 0 m)) p ∙ sym (orders-same Ready l))
+more-orders s i l (step.Group w) p ih = ih w
+more-orders s i l step.Unknown p ih = refl
+
+from-orders : (s l : List ℕ) → (w : ColorState) (v i : ℕ) → drop i s ≡ l → ordersOf s (nextFrom w v i l) ≡ ordersFrom w (numbers v l)
+unfolding nextFrom numbers ordersFrom
+from-orders s [] = λ w v i p. last-orders s i (meaningAfter w v)
+from-orders s (b ∷ l) = λ w v i p.
+    let t : drop (i + 1) s ≡ l = ap (λ (n : ℕ). drop n s) (add-one i) ∙ behind-byte i s b l p in
+    cases (digit b)
+    (λ d. rw d (from-orders s l w (more v b) (i + 1) t))
+    (λ d. cases (eqb b 0x3B)
+    (λ n. rw (d, n) (more-orders s (i + 1) l (meaningAfter w v) t (λ x. from-orders s l x 0 (i + 1) t)))
+    (λ n. rw (d, n) (last-orders s i (meaningAfter w v))))
+
+at-orders : (s : List ℕ) (i : ℕ) (further : Bool) → ordersOf s (cond further (nextFrom Ready 0 i (drop i s)) End) ≡ ordersFrom Ready (cond further (parameters 0 (drop i s)) [])
+unfolding ordersOf ordersFrom
+at-orders s i true = from-orders s (drop i s) Ready 0 i refl ∙ orders-same Ready (drop i s)
+at-orders s i false = refl
+
+pub next-order-at : (s : List ℕ) (c : Orders) (r : NextOrder) → r ≡ nextOrder s c → NextOrderAt s c r
+unfolding nextOrder ordersAt orders parametersAt
+next-order-at s c r e = record { orders = rw e (at-orders s (c .at) (c .further)); exact = e }
+
+-- ---- the loops
+
+-- the reading before a parameter at i, if there is one: no order was found yet
+pub record Reading (s : List ℕ) (c : Orders) (i : ℕ) (further : Bool) (w : ColorState) (next : NextOrder) : Type 0 where
+  pub todo : cond further (nextFrom w 0 i (drop i s)) End ≡ nextOrder s c
+  pub none : next ≡ End
+
+-- inside a parameter that begins at i₀
+pub record Digits (s : List ℕ) (w : ColorState) (i₀ v₀ i v : ℕ) : Type 0 where
+  pub same : nextFrom w v i (drop i s) ≡ nextFrom w v₀ i₀ (drop i₀ s)
+  pub up : i₀ ≤ i
+
+-- a bound that falls from parameter to parameter
+abbrev pub room : List ℕ → Bool → ℕ → ℕ
+room s further i = cond further (suc (length s - i)) 0
+
+pub reading-begins : (s : List ℕ) (c : Orders) → Reading s c (c .at) (c .further) Ready End
+unfolding nextOrder
+reading-begins s c = record { todo = refl; none = refl }
+
+pub digits-begin : (s : List ℕ) (w : ColorState) (i v : ℕ) → Digits s w i v i v
+digits-begin s w i v = record { same = refl; up = omega arith }
+
+module _ (s : List ℕ) (i b : ℕ) (d : Bool) (e : b ≡ getD s i 0) (p : d ≡ digit b) (q : d ≡ true) where
+  pub digit-here : i < length s
+  digit-here = digit-inside s i b e (sym p ∙ q)
+
+  pub digits-fall : length s - (i + 1) < length s - i
+  digits-fall = omega (arith, digit-here)
+
+  pub digits-more : (w : ColorState) (i₀ v₀ v u : ℕ) → Digits s w i₀ v₀ i v → u ≡ more v b → Digits s w i₀ v₀ (i + 1) u
+  digits-more w i₀ v₀ v u z r = record { same = rw r (sym (one-more s i b e w v (drop i s) refl (sym p ∙ q)) ∙ z .same); up = omega (arith, z .up) }
+
+module _ (s : List ℕ) (i b : ℕ) (d : Bool) (e : b ≡ getD s i 0) (f : Bool) (g : f ≡ eqb b 0x3B) where
+  module _ (j : ℕ) (r : j ≡ cond f (i + 1) i) (i₀ v : ℕ) (w : ColorState) (z : Digits s w i₀ 0 i v) where
+    pub reading-falls : (further : Bool) → further ≡ true → room s f j < room s further i₀
+    reading-falls further h = rw h (falls f g j r)
+      where
+        falls : (f : Bool) → f ≡ eqb b 0x3B → (j : ℕ) → j ≡ cond f (i + 1) i → room s f j < suc (length s - i₀)
+        falls true g j r = omega (arith, separator-inside s i b e (sym g), z .up)
+        falls false g j r = omega arith
+
+    module _ (c : Orders) (further : Bool) (next : NextOrder) (k : Reading s c i₀ further w next) (h : further ≡ true) (p : d ≡ digit b) (q : d ≡ false) (t : Meaning) (m : t ≡ meaningAfter w v) where
+      said : onward t (record { at = j; further = f }) (λ x. cond f (nextFrom x 0 j (drop j s)) End) ≡ nextOrder s c
+      said = rw m (sym (ended s i b e w v (drop i s) refl (sym p ∙ q) f g j r) ∙ z .same ∙ (rw h at (k .todo)))
+
+      pub reading-more : (x : ColorState) → t ≡ step.Group x → Reading s c j f x next
+      unfolding onward
+      reading-more x l = record { todo = rw l at said; none = k .none }
+
+      pub reading-order : (o : Sgr) → t ≡ step.Order o → NextOrderAt s c (Order o (record { at = j; further = f }))
+      unfolding onward
+      reading-order o l = next-order-at s c (Order o (record { at = j; further = f })) (rw l at said)
+
+      pub reading-stops : t ≡ step.Unknown → NextOrderAt s c next
+      unfolding onward
+      reading-stops l = next-order-at s c next (k .none ∙ (rw l at said))
+
+pub reading-ends : (s : List ℕ) (c : Orders) (i : ℕ) (further : Bool) (w : ColorState) (next : NextOrder) → Reading s c i further w next → further ≡ false → NextOrderAt s c next
+reading-ends s c i further w next k f = next-order-at s c next (k .none ∙ (rw f at (k .todo)))

@@ -16,7 +16,7 @@ use Rattle.text.specs.Places.{last-at, two-at}
 use Rattle.spans.specs.Sequence.{leading, past}
 use Rattle.spans.specs.Search.{EscapeRange, escapeRange, sequenceByte, escapeMatch, addEscape, escapesFrom, trimmed, escapes, lengthOf, searchedLength, inOrder, offsetFrom}
 use Rattle.spans.specs.Sequence.Contracts.{Skipped}
-use Rattle.spans.specs.Search.Contracts.{EscapeMatchReady, EscapeMatched, escapesAt, escapesOf, EscapeInside, NextEscape, EscapesLength, pairInOrder, offsetOn, OffsetsFrom, OffsetReady, OffsetAt}
+use Rattle.spans.specs.Search.Contracts.{EscapeMatchReady, EscapeMatched, escapesAt, escapesOf, EscapeInside, escapeOf, NextEscape, EscapesLength, pairInOrder, offsetOn, offsetsFrom, offsetsOn, OffsetsFrom, FirstOffsets, OffsetReady, OffsetAt}
 use Rattle.spans.specs.declared.search.Escape.{Escape}
 use Rattle.spans.specs.declared.search.Offsets.{Offsets}
 
@@ -99,16 +99,18 @@ module _ (s : List ℕ) (at i : ℕ) (z : EscapeLoop s at i) where
       record { same = ap (escapesAt s) (add-one i) ∙ sym (escapes-at s i n h (m .same) ∙ rw e) ∙ z .same; low = omega (arith, z .low) }
 
   pub escape-found : (n : ℕ) → i < length s → EscapeMatched s i n → (n ≡ 0 → ⊥) → NextEscape s at (record { from = i; upto = i + n; found = true })
-  unfolding escapesOf
+  unfolding escapesOf escapeOf
   escape-found n h m e =
+      let same : escapeRange i (i + n) ∷ escapesAt s (i + n) ≡ escapesAt s at = sym (escapes-at s i n h (m .same) ∙ segment-at s i n e) ∙ z .same in
       record {
-        same = sym (escapes-at s i n h (m .same) ∙ segment-at s i n e) ∙ z .same;
+        exact = ap escapeOf same;
+        same = same;
         lies = λ t. record { low = z .low; some = omega arith; inside = m .fits };
       }
 
-  pub escape-past : length s ≤ i → NextEscape s at (record { from = i; upto = i; found = false })
-  unfolding escapesOf
-  escape-past h = record { same = sym (escapes-none s i h) ∙ z .same; lies = λ t. absurd (let o : _≡_ {A = ℕ} 0 1 = cc in omega arith) }
+  pub escape-past : length s ≤ i → NextEscape s at (record { from = 0; upto = 0; found = false })
+  unfolding escapesOf escapeOf
+  escape-past h = let same : [] ≡ escapesAt s at = sym (escapes-none s i h) ∙ z .same in record { exact = ap escapeOf same; same = same; lies = λ t. absurd (let o : _≡_ {A = ℕ} 0 1 = cc in omega arith) }
 
 -- ---- trim_trailing_newline
 
@@ -266,26 +268,34 @@ module _ (m : List ℕ) (most i e : ℕ) (z : OrderLoop m most i e) where
 
 -- ---- convert_offset
 
-pub offsets-begin : (s : List ℕ) (e : Escape) → NextEscape s 0 e → OffsetsFrom s 0 (record { origin = 0; passed = 0; next = e })
-unfolding offsetOn
-offsets-begin s e m =
-    record {
-      same = λ x h. let k : x - 0 ≡ x = omega arith in rw k (ap (offsetFrom 0 x) (m .same));
-      passed = omega arith;
-      inside = omega arith;
-      lies = m .lies;
-    }
+-- a match that was looked for is the first of those from it on
+next-first : (s : List ℕ) (at : ℕ) (e : Escape) → NextEscape s at e → e ≡ escapeOf (escapesOf s e)
+next-first s at e m = m .exact ∙ ap escapeOf (sym (m .same))
 
-pub record OffsetLoop (s : List ℕ) (x : ℕ) (o : Offsets) (next : Escape) : Type 0 where
+pub offsets-begin : (s : List ℕ) (e : Escape) → NextEscape s 0 e → FirstOffsets s (record { origin = 0; passed = 0; next = e })
+unfolding offsetOn
+offsets-begin s e m = record {
+  exact = ap (λ (n : Escape). record { origin = 0; passed = 0; next = n }) (m .exact);
+  from = record {
+    same = λ x h. let k : x - 0 ≡ x = omega arith in rw k (ap (offsetFrom 0 x) (m .same));
+    passed = omega arith;
+    inside = omega arith;
+    lies = m .lies;
+    next = next-first s 0 e m;
+  };
+}
+
+pub record OffsetLoop (s : List ℕ) (x : ℕ) (o₀ o : Offsets) (next : Escape) : Type 0 where
+  pub on : offsetsOn s o x ≡ offsetsOn s o₀ x
   pub from : OffsetsFrom s x o
   pub kept : next ≡ o .next
   pub small : length s ≤ 65536
   pub near : x ≤ 65536
 
-pub offset-begins : (s : List ℕ) (o : Offsets) (x : ℕ) → OffsetReady s o x → OffsetLoop s x o (o .next)
-offset-begins s o x z = record { from = z .from; kept = refl; small = z .small; near = z .near }
+pub offset-begins : (s : List ℕ) (o : Offsets) (x : ℕ) → OffsetReady s o x → OffsetLoop s x o o (o .next)
+offset-begins s o x z = record { on = refl; from = z .from; kept = refl; small = z .small; near = z .near }
 
-module _ (s : List ℕ) (x : ℕ) (o : Offsets) (next : Escape) (z : OffsetLoop s x o next) where
+module _ (s : List ℕ) (x : ℕ) (o₀ o : Offsets) (next : Escape) (z : OffsetLoop s x o₀ o next) where
   -- what is left of an offset, in the code's bounds
   pub offset-fits : (o .passed ≤ x) × (o .origin + (x - o .passed) ≤ length s + x)
   offset-fits = let w = z .from in (w .passed, omega (arith, w .passed, w .inside))
@@ -294,8 +304,16 @@ module _ (s : List ℕ) (x : ℕ) (o : Offsets) (next : Escape) (z : OffsetLoop 
   unfolding offsetOn escapesOf offsetFrom
   at-end f = let k : o .next .found ≡ false = rw (z .kept) at f in rw k at (z .from .same x (omega arith))
 
-  pub offset-ends : next .found ≡ false → OffsetAt s x (record { value = o .origin + (x - o .passed); offsets = o })
-  offset-ends f = record { same = at-end f; near = offset-fits .1; from = z .from }
+  -- no match follows, or it lies behind the offset: the reading stays
+  stays-end : next .found ≡ false → o ≡ offsetsOn s o₀ x
+  unfolding offsetsOn offsetsFrom escapesOf
+  stays-end f =
+      let k : o .next .found ≡ false = rw (z .kept) at f in
+      let m : escapesOf s (o .next) ≡ [] = rw k refl in
+      ap (λ (e : Escape). record { origin = o .origin; passed = o .passed; next = e }) (z .from .next ∙ ap escapeOf m) ∙ ap (offsetsFrom (o .origin) (o .passed) x) (sym m) ∙ z .on
+
+  pub offset-ends : next .found ≡ false → OffsetAt s o₀ x (record { value = o .origin + (x - o .passed); offsets = o })
+  offset-ends f = record { same = at-end f; near = offset-fits .1; exact = stays-end f; from = z .from }
 
   module _ (f : next .found ≡ true) where
     found-next : o .next .found ≡ true
@@ -305,11 +323,18 @@ module _ (s : List ℕ) (x : ℕ) (o : Offsets) (next : Escape) (z : OffsetLoop 
     unfolding offsetOn escapesOf offsetFrom
     offset-more y = rw (found-next, z .kept)
 
-    pub offset-here : o .origin + (x - o .passed) < next .from → OffsetAt s x (record { value = o .origin + (x - o .passed); offsets = o })
+    offsets-more : offsetsOn s o x ≡ cond (ltb (o .origin + (x - o .passed)) (next .from)) o (offsetsFrom (next .upto) (o .passed + (next .from - o .origin)) x (escapesAt s (next .upto)))
+    unfolding offsetsOn offsetsFrom escapesOf
+    offsets-more =
+        let n : o .next ≡ record { from = next .from; upto = next .upto; found = true } = sym (z .kept) ∙ ap (λ (b : Bool). record { from = next .from; upto = next .upto; found = b }) f in
+        rw n refl
+
+    pub offset-here : o .origin + (x - o .passed) < next .from → OffsetAt s o₀ x (record { value = o .origin + (x - o .passed); offsets = o })
     offset-here h =
         record {
           same = sym (sym (z .from .same x (omega arith)) ∙ offset-more x ∙ rw (lt-ltb (o .origin + (x - o .passed)) (next .from) h));
           near = offset-fits .1;
+          exact = sym (offsets-more ∙ rw (lt-ltb (o .origin + (x - o .passed)) (next .from) h)) ∙ z .on;
           from = z .from;
         }
 
@@ -323,15 +348,17 @@ module _ (s : List ℕ) (x : ℕ) (o : Offsets) (next : Escape) (z : OffsetLoop 
     offset-passed h = omega (arith, lies-next .low, z .from .passed)
 
     pub offset-again : (e : Escape) → next .from ≤ o .origin + (x - o .passed) → NextEscape s (next .upto) e
-        → OffsetLoop s x (record { origin = next .upto; passed = o .passed + (next .from - o .origin); next = e }) e
-    unfolding offsetOn offsetFrom
+        → OffsetLoop s x o₀ (record { origin = next .upto; passed = o .passed + (next .from - o .origin); next = e }) e
+    unfolding offsetOn offsetFrom offsetsOn
     offset-again e h m =
         record {
+          on = ap (offsetsFrom (next .upto) (o .passed + (next .from - o .origin)) x) (m .same) ∙ sym (offsets-more ∙ rw (le-ltb (o .origin + (x - o .passed)) (next .from) h)) ∙ z .on;
           from = record {
             same = λ y k. sym (sym (z .from .same y k) ∙ offset-more y ∙ rw (le-ltb (o .origin + (y - o .passed)) (next .from) (omega (arith, h, k))) (later y (m .same)));
             passed = offset-passed h;
             inside = lies-next .inside;
             lies = m .lies;
+            next = next-first s (next .upto) e m;
           };
           kept = refl;
           small = z .small;

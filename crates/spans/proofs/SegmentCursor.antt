@@ -19,7 +19,7 @@ use Rattle.spans.specs.Spans.FirstSpan.{step-some}
 use Rattle.buffer.specs.Numbers.{smallerOf}
 use Rattle.buffer.specs.Numbers.Laws.{smaller-right}
 use Rattle.spans.specs.Reader.{isMatch, recordsFrom, matchIn, NextSpanReady, SpanStep}
-use Rattle.spans.specs.Search.Contracts.{OffsetsFrom, OffsetReady, OffsetAt}
+use Rattle.spans.specs.Search.Contracts.{OffsetsFrom, FirstOffsets, OffsetReady, OffsetAt}
 use Rattle.spans.specs.Segments.{spent, withoutNewline, pending, behindSegment, remaining, orderFrom, segmentsLeft, Sound, OutsideReady, OutsideBegun, InsideReady, AdvanceReady, Advanced, SpentSkipped, NextRecordReady, firstRecord, RecordStep, HasNext, BeginReady, Begun}
 use Rattle.spans.specs.declared.search.Offset.{Offset}
 use Rattle.spans.specs.declared.search.Offsets.{Offsets}
@@ -48,7 +48,7 @@ no-records P m t at h = ap (λ (l : List ℕ). map recordOf (spansAt P (matchIn 
 -- ---- offsets
 
 weaken : (s : List ℕ) (last x : ℕ) (o : Offsets) → OffsetsFrom s last o → last ≤ x → OffsetsFrom s x o
-weaken s last x o z h = record { same = λ y k. z .same y (omega arith); passed = omega (arith, z .passed); inside = z .inside; lies = z .lies }
+weaken s last x o z h = record { same = λ y k. z .same y (omega arith); passed = omega (arith, z .passed); inside = z .inside; lies = z .lies; next = z .next }
 
 most-fits : (line : List ℕ) → searchedLength line ≤ length line
 unfolding searchedLength
@@ -95,9 +95,9 @@ offset-ready line n last x o h e z l k =
     let f : n ≤ length line = trimmed-part line n e in
     record { from = rw e (weaken (withoutNewline line) last x o z l); small = rw (length-take-le n line f) (omega arith); near = omega (arith, most-fits line) }
 
-offset-is : (line : List ℕ) (n x : ℕ) (o : Offset) → n ≡ trimmed line → OffsetAt (take n line) x o → o .value ≡ offsetFrom 0 x (escapes line)
+offset-is : (line : List ℕ) (n x : ℕ) (b : Offsets) (o : Offset) → n ≡ trimmed line → OffsetAt (take n line) b x o → o .value ≡ offsetFrom 0 x (escapes line)
 unfolding escapes
-offset-is line n x o e z = rw (← e) (z .same)
+offset-is line n x b o e z = rw (← e) (z .same)
 
 -- ---- `outside`
 
@@ -112,13 +112,13 @@ module _ (line matches : List ℕ) (start number : ℕ) (c : Cursor) (z : Outsid
     pub open-ready : (n : ℕ) → n ≡ trimmed line → OffsetReady (take n line) (c .offsets) (getD matches (c .index) 0)
     open-ready n e = offset-ready line n (z .last) (getD matches (c .index) 0) (c .offsets) (z .small) e (z .from) (pair .low) (omega (arith, pair .ordered, pair .high))
 
-    pub open-pending : (n : ℕ) (o : Offset) → n ≡ trimmed line → OffsetAt (take n line) (getD matches (c .index) 0) o
+    pub open-pending : (n : ℕ) (o : Offset) → n ≡ trimmed line → OffsetAt (take n line) (c .offsets) (getD matches (c .index) 0) o
         → OutsideBegun line matches start number c (record { place = record { at = start; run = 0 }; end = o .value; matched = record { kind = 1; number = number }; index = c .index + 1; offsets = o .offsets; count = c .count })
     unfolding remaining behindSegment pending readMatches matchIn orderFrom segmentsLeft
     open-pending n o e k =
         let x : ℕ = getD matches (c .index) 0 in
         let p = pair in
-        let v : o .value ≡ offsetFrom 0 x (escapes line) = offset-is line n x o e k in
+        let v : o .value ≡ offsetFrom 0 x (escapes line) = offset-is line n x (c .offsets) o e k in
         record {
           same = λ P.
               let upto : ℕ = offsetFrom 0 (p .b) (escapes line) in
@@ -165,13 +165,13 @@ module _ (line matches : List ℕ) (c : Cursor) (z : InsideReady line matches c)
   pub close-ready : (n : ℕ) → n ≡ trimmed line → OffsetReady (take n line) (c .offsets) (getD matches (c .index) 0)
   close-ready n e = offset-ready line n (z .sound .last) (getD matches (c .index) 0) (c .offsets) (z .sound .small) e (z .sound .from) (second .low) (second .high)
 
-  pub close-pending : (n : ℕ) (o : Offset) → n ≡ trimmed line → OffsetAt (take n line) (getD matches (c .index) 0) o
+  pub close-pending : (n : ℕ) (o : Offset) → n ≡ trimmed line → OffsetAt (take n line) (c .offsets) (getD matches (c .index) 0) o
       → Advanced line matches c (record { place = record { at = c .end; run = 0 }; end = o .value; matched = record { kind = 2; number = c .matched .number }; index = c .index + 1; offsets = o .offsets; count = c .count })
   unfolding remaining behindSegment pending matchIn orderFrom segmentsLeft
   close-pending n o e k =
       let x : ℕ = getD matches (c .index) 0 in
       let m : Matched = record { kind = 2; number = c .matched .number } in
-      let v : o .value ≡ offsetFrom 0 x (escapes line) = offset-is line n x o e k in
+      let v : o .value ≡ offsetFrom 0 x (escapes line) = offset-is line n x (c .offsets) o e k in
       record {
         same = λ P.
             let C : List Span = readMatches P (escapes line) (o .value) (suc (c .matched .number)) (drop (c .index + 1) matches) line in
@@ -359,8 +359,8 @@ module _ (line matches : List ℕ) (z : BeginReady line matches) (n : ℕ) (e : 
   pub begin-small : length (take n line) ≤ 65536
   begin-small = rw (length-take-le n line (trimmed-part line n e)) (omega (arith, z .small, trimmed-part line n e))
 
-  pub begin-opens : (o : Offsets) (c : Cursor) → OffsetsFrom (take n line) 0 o → c .offsets ≡ o → c .index ≡ 0 → OutsideReady line matches 0 c
-  begin-opens o c w f g = record { small = z .small; last = 0; from = rw (f, ← e) w; order = rw g (z .order); index = omega arith; few = omega arith }
+  pub begin-opens : (o : Offsets) (c : Cursor) → FirstOffsets (take n line) o → c .offsets ≡ o → c .index ≡ 0 → OutsideReady line matches 0 c
+  begin-opens o c w f g = record { small = z .small; last = 0; from = rw (f, ← e) (w .from); order = rw g (z .order); index = omega arith; few = omega arith }
 
 whole-line : (P : Profile) (matches line : List ℕ) → readMatches P (escapes line) 0 0 matches line ≡ read P matches line
 unfolding readMatches readPart read spans

@@ -12,7 +12,7 @@ use lib.Dec.{eqb, leb}
 use Rattle.text.specs.Tests.{cases}
 use Rattle.spans.specs.Sgr.{parameters, orders}
 use Rattle.spans.specs.Sequence.{Sequence, ignored, Found, found, missing, leading, past, ifKnown, erase, final, charset, csi, uriByte, closed, osc, parse}
-use Rattle.spans.specs.Sgr.Contracts.{Scanned, ordersOf, ordersAt, parametersAt}
+use Rattle.spans.specs.Sgr.Contracts.{Scanned, ordersOf, ordersAt, parametersAt, NextOrderAt}
 use Rattle.spans.specs.Sequence.Contracts.{uriByteBut, sequenceOf, Skipped, uriAt}
 use Rattle.spans.specs.declared.sequence.Sequence as code
 use Rattle.spans.specs.declared.sequence.Sequence.the-variants.{Missing}
@@ -64,13 +64,13 @@ known-from : (os : List Sgr) (n : ℕ) (o : Sgr) (rest : List Sgr) → o ∷ res
 unfolding sequenceOf ifKnown
 known-from os n o rest e = rw (← e)
 
-pub known-some : (s : List ℕ) (n : ℕ) (x : NextOrder) (o : Sgr) (c : Orders) → ordersOf s x ≡ ordersAt s (record { at = 0; further = true }) → x ≡ Order o c → sequence.Sgr (3 + n) ≡ sequenceOf (ifKnown (orders (parameters 0 s)) n)
+pub known-some : (s : List ℕ) (n : ℕ) (x : NextOrder) (o : Sgr) (c : Orders) → NextOrderAt s (record { at = 0; further = true }) x → x ≡ Order o c → sequence.Sgr (3 + n) ≡ sequenceOf (ifKnown (orders (parameters 0 s)) n)
 unfolding ordersOf ordersAt parametersAt
-known-some s n x o c e f = known-from (orders (parameters 0 s)) n o (ordersAt s c) (rw f at e)
+known-some s n x o c e f = known-from (orders (parameters 0 s)) n o (ordersAt s c) (rw f at (e .orders))
 
-pub known-none : (s : List ℕ) (n : ℕ) (x : NextOrder) → ordersOf s x ≡ ordersAt s (record { at = 0; further = true }) → x ≡ End → Missing ≡ sequenceOf (ifKnown (orders (parameters 0 s)) n)
+pub known-none : (s : List ℕ) (n : ℕ) (x : NextOrder) → NextOrderAt s (record { at = 0; further = true }) x → x ≡ End → Missing ≡ sequenceOf (ifKnown (orders (parameters 0 s)) n)
 unfolding ordersOf ordersAt parametersAt sequenceOf ifKnown
-known-none s n x e f = let g : [] ≡ orders (parameters 0 s) = rw f at e in rw (← g)
+known-none s n x e f = let g : [] ≡ orders (parameters 0 s) = rw f at (e .orders) in rw (← g)
 
 -- `csi`, where the scan gave n, the final byte is f, and whether the parameters are allowed is w
 unfoldable pub csiOf : List ℕ → ℕ → ℕ → Bool → Found

@@ -5,9 +5,9 @@ ghost use Prim.Native.Nat.{_+_, _≤_, _<_};
 ghost use lib.ListN.{length};
 ghost use Rattle.spans.specs.Search.{sequenceByte, trimmed, searchedLength, inOrder};
 ghost use Rattle.spans.specs.Sequence.Contracts.{Skipped};
-ghost use Rattle.spans.specs.Search.Contracts.{EscapeMatched, EscapeMatchReady, NextEscape, EscapesLength, pairInOrder, OffsetsFrom, OffsetReady, OffsetAt};
+ghost use Rattle.spans.specs.Search.Contracts.{EscapeMatched, EscapeMatchReady, NextEscape, EscapesLength, pairInOrder, FirstOffsets, OffsetReady, OffsetAt};
 
-// A match of ESCAPE_SEQUENCE, or none.
+// A match of ESCAPE_SEQUENCE, or none: zeros.
 pub struct Escape {
     pub from: usize,
     pub upto: usize,
@@ -90,8 +90,8 @@ fn next_escape(s: &[u8], at: usize) -> Escape
         i += 1;
     }
     Escape {
-        from: i,
-        upto: i,
+        from: 0,
+        upto: 0,
         found: false,
     }
 }
@@ -177,7 +177,7 @@ pub(crate) fn in_order(matches: &[usize], most: usize) -> bool
 // convert_offset's beginning.
 pub(crate) fn first_offsets(s: &[u8]) -> Offsets
     requires { ⌜ length (now s) ≤ 65536 ⌝ }
-    ensures { λ r. ⌜ OffsetsFrom (now (s .entry)) 0 r ⌝ }
+    ensures { λ r. ⌜ FirstOffsets (now (s .entry)) r ⌝ }
 {
     let next = next_escape(s, 0);
     Offsets {
@@ -190,7 +190,7 @@ pub(crate) fn first_offsets(s: &[u8]) -> Offsets
 // convert_offset for an offset that is not before the last one.
 pub(crate) fn offset_at(s: &[u8], o: Offsets, x: usize) -> Offset
     requires { ⌜ OffsetReady (now s) o x ⌝ }
-    ensures { λ r. ⌜ OffsetAt (now (s .entry)) x r ⌝ }
+    ensures { λ r. ⌜ OffsetAt (now (s .entry)) o x r ⌝ }
 {
     let mut c = o;
     let mut next = o.next;

@@ -1,7 +1,10 @@
 // Style orders: the parameters behind `ESC [`, and what the known ones say (ECMA-48, SGR, as document 01 cuts it).
+use buffer::byte_at;
 ghost use mathlib.Core.Path.{_≡_};
+ghost use mathlib.Core.Bool.{true, cond};
+ghost use Prim.Native.Nat.{_+_, _<_, _^_};
 ghost use Rattle.spans.specs.Sgr.{digit, known, meaningOf, coloured, meaningAfter};
-ghost use Rattle.spans.specs.Sgr.Contracts.{more, eights, Scanned, ParameterAt, ordersAt, ordersOf};
+ghost use Rattle.spans.specs.Sgr.Contracts.{more, eights, Scanned, NextOrderAt};
 
 pub enum Color {
     Default,
@@ -54,13 +57,6 @@ pub enum Meaning {
 pub struct Scan {
     pub len: usize,
     pub fine: bool,
-}
-
-// A parameter, where the next one begins, and whether there is one.
-pub struct Parameter {
-    pub value: usize,
-    pub next: usize,
-    pub further: bool,
 }
 
 // Where a reading of orders stands: the next parameter's place, and whether there is one.
@@ -123,39 +119,6 @@ pub(crate) fn scan_parameters(s: &[u8]) -> Scan
     Scan {
         len: i,
         fine: fine & (v <= 65535) & (count < 32),
-    }
-}
-
-// The parameter at a place.
-fn parameter_at(s: &[u8], at: usize) -> Parameter
-    ensures { λ r. ⌜ ParameterAt (now (s .entry)) at r ⌝ }
-{
-    let mut i = at;
-    let mut v: usize = 0;
-    while i < s.len() {
-        let b = s[i];
-        if is_digit(b) {
-            v = with_digit(v, b);
-            i += 1;
-        } else {
-            if b == b';' {
-                return Parameter {
-                    value: v,
-                    next: i + 1,
-                    further: true,
-                };
-            }
-            return Parameter {
-                value: v,
-                next: i,
-                further: false,
-            };
-        }
-    }
-    Parameter {
-        value: v,
-        next: i,
-        further: false,
     }
 }
 
@@ -273,35 +236,58 @@ fn meaning_after(w: ColorState, p: usize) -> Meaning
     }
 }
 
-// The next order; none behind the last parameter or at the first unknown one.
-pub fn next_order(s: &[u8], c: Orders) -> NextOrder
-    ensures { λ r. ⌜ ordersOf (now (s .entry)) r ≡ ordersAt (now (s .entry)) c ⌝ }
+// Past the `;` at a place, where a further parameter follows it.
+fn past_separator(at: usize, further: bool) -> usize
+    requires { ⌜ (further ≡ true → at + 1 < 2 ^ 64) ⌝ }
+    ensures { λ r. ⌜ r ≡ cond further (at + 1) at ⌝ }
 {
-    let mut at = c.at;
+    if further {
+        return at + 1;
+    }
+    at
+}
+
+// The next order, and where the reading stands after it. The reading is left at an order and at the first unknown parameter, and ends
+// after the last one.
+pub fn next_order(s: &[u8], c: Orders) -> NextOrder
+    ensures { λ r. ⌜ NextOrderAt (now (s .entry)) c r ⌝ }
+{
+    let mut i = c.at;
     let mut further = c.further;
     let mut wait = ColorState::Ready;
-    while further {
-        let p = parameter_at(s, at);
-        let step = meaning_after(wait, p.value);
-        at = p.next;
-        further = p.further;
+    let mut next = NextOrder::End;
+    'params: while further {
+        let mut v: usize = 0;
+        'digits: loop {
+            let b = byte_at(s, i);
+            if is_digit(b) {
+                v = with_digit(v, b);
+                i += 1;
+            } else {
+                further = b == b';';
+                break 'digits;
+            }
+        }
+        i = past_separator(i, further);
+        let step = meaning_after(wait, v);
         match step {
             Meaning::Order(o) => {
-                return NextOrder::Order(
+                next = NextOrder::Order(
                     o,
                     Orders {
-                        at: at,
+                        at: i,
                         further: further,
                     },
                 );
+                break 'params;
             }
             Meaning::Group(w) => {
                 wait = w;
             }
             Meaning::Unknown => {
-                return NextOrder::End;
+                break 'params;
             }
         }
     }
-    NextOrder::End
+    next
 }

@@ -11,5 +11,6 @@ pub mod Calls
 pub mod Rules
 pub mod Scalar
 pub mod TextParts
+pub mod Printable
 pub mod Segmentation
 pub mod Backward

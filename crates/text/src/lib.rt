@@ -9,6 +9,7 @@ mod backward;
 mod cells;
 pub mod class;
 pub mod overstrike;
+pub mod printable;
 mod rules;
 pub mod scalar;
 pub mod segmentation;

@@ -68,7 +68,7 @@ pub(crate) fn continues_cluster(state: u8, c: u8) -> bool
     }
     // GB11
     if c == EXTENDED_PICTOGRAPHIC {
-        return (state == PICTOGRAPHIC_ZWJ) | (state == ZWJ);
+        return state == PICTOGRAPHIC_ZWJ;
     }
     // GB3, GB5
     (c == LF) & (state == CR)

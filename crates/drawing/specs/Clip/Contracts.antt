@@ -1,25 +1,20 @@
 -- What the contracts of src/clip.rt say beyond the definitions.
 use mathlib.Core.Path.{_≡_}
 use Prim.Native.Nat.{ℕ, _+_, _-_, _*_, _≤_, _<_, _^_}
-use mathlib.Core.Bool.{Bool, true, cond, _&&_}
-use mathlib.Core.List.{List, [], _∷_, _++_}
+use mathlib.Core.Bool.{true, cond}
+use mathlib.Core.List.{List, [], _++_}
 use mathlib.Core.Option.{Option, none, some}
 use lib.ListN.{length, take, drop}
 use Rattle.text.specs.Utf8.{Scalar, decode}
 use Rattle.text.specs.Class.{Profile}
 use Rattle.text.specs.Cluster.{clusters}
 use Rattle.text.specs.Utf8.Code.{runOf, whole}
-use Rattle.text.specs.Class.Code.{printable}
+use Rattle.text.specs.Printable.{allPrintable}
 use Rattle.text.specs.TextParts.{textAt, Measured}
 use Rattle.text.specs.declared.TextPart.{TextPart}
 use Rattle.drawing.specs.Clip.{spaces, clipEnd}
 use Rattle.drawing.specs.declared.clip.Clip.{Clip}
 use Rattle.drawing.specs.declared.clip.Cut.{Cut}
-
--- every byte is printable
-unfoldable pub allPrintable : List ℕ → Bool
-allPrintable [] = true
-allPrintable (b ∷ s) = printable b && allPrintable s
 
 -- the bytes of a text from a to e, and their scalars
 abbrev pub bytesIn : List ℕ → ℕ → ℕ → List ℕ
@@ -56,6 +51,11 @@ pub record ClipIn (s : List ℕ) (r : Clip) : Type 0 where
   pub valid : whole (bytesIn s (r .start .0) (r .end .0))
   pub before : r .before .0 ≤ 2 * r .start .0
   pub behind : r .behind .0 ≤ 2 * (length s - r .end .0)
+
+-- its bytes can be counted
+pub record ClipSmall (r : Clip) : Type 0 where
+  pub ordered : r .start .0 ≤ r .end .0
+  pub room : r .before .0 + (r .end .0 - r .start .0) + r .behind .0 < 2 ^ 64
 
 -- the clipped text that a clip stands for: none where it is torn
 unfoldable pub clipOf : List ℕ → Clip → Option (List Scalar)

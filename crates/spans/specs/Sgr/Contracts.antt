@@ -1,17 +1,20 @@
 -- What the contracts of src/sgr.rt say beyond the definitions.
 use mathlib.Core.Path.{_≡_, refl, ap}
-use Prim.Native.Nat.{ℕ, suc, _+_, _-_, _*_, _%_, _≤_}
-use mathlib.Core.Bool.{Bool, true, cond}
+use Prim.Native.Nat.{ℕ, _+_, _*_, _%_, _≤_}
+use mathlib.Core.Bool.{true, false, cond}
 use mathlib.Core.List.{List, [], _∷_}
 use lib.ListN.{length, drop}
 use lib.Dec.{eqb, leb}
-use Rattle.spans.specs.Sgr.{digit, parameters, allowed, Known, eight, orders}
+use Rattle.spans.specs.Sgr.{digit, parameters, allowed, Known, eight, meaningAfter, orders}
 use Rattle.spans.specs.Sequence.{leading, parameterByte}
 use Rattle.spans.specs.declared.sgr.Color.the-variants.{Palette}
 use Rattle.spans.specs.declared.sgr.Sgr.{Sgr}
 use Rattle.spans.specs.declared.sgr.Sgr.the-variants.{Foreground, Background}
 use Rattle.spans.specs.declared.sgr.Scan.{Scan}
-use Rattle.spans.specs.declared.sgr.Parameter.{Parameter}
+use Rattle.spans.specs.declared.sgr.ColorState.{ColorState}
+use Rattle.spans.specs.declared.sgr.ColorState.the-variants.{Ready}
+use Rattle.spans.specs.declared.sgr.Meaning.{Meaning}
+use Rattle.spans.specs.declared.sgr.Meaning.the-variants as meaning
 use Rattle.spans.specs.declared.sgr.Orders.{Orders}
 use Rattle.spans.specs.declared.sgr.NextOrder.{NextOrder}
 use Rattle.spans.specs.declared.sgr.NextOrder.the-variants.{Order, End}
@@ -37,20 +40,6 @@ pub record Scanned (s : List ℕ) (r : Scan) : Type 0 where
   pub fine : r .fine ≡ allowed (parameters 0 s)
   pub low : r .len ≤ length s
 
--- the numbers from place i on, if there are any
-unfoldable pub numbersAt : List ℕ → Bool → ℕ → List ℕ
-unfolding numbers
-numbersAt s further i = cond further (numbers 0 (drop i s)) []
-
--- a bound that falls from parameter to parameter
-unfoldable pub room : List ℕ → Bool → ℕ → ℕ
-room s further i = cond further (suc (length s - i)) 0
-
--- the parameter at place i
-pub record ParameterAt (s : List ℕ) (i : ℕ) (r : Parameter) : Type 0 where
-  pub same : r .value ∷ numbersAt s (r .further) (r .next) ≡ numbers 0 (drop i s)
-  pub falls : room s (r .further) (r .next) ≤ length s - i
-
 -- ---- what the parameters say
 
 -- the rows of eight colours each
@@ -71,6 +60,30 @@ unfoldable pub ordersOf : List ℕ → NextOrder → List Sgr
 unfolding ordersAt
 ordersOf s (Order o c) = o ∷ ordersAt s c
 ordersOf s End = []
+
+-- what a parameter says: an order, after which the reading stands at c; a part of a group, and the reading goes on; or nothing known
+unfoldable pub onward : Meaning → Orders → (ColorState → NextOrder) → NextOrder
+onward (meaning.Order o) c go = Order o c
+onward (meaning.Group w) c go = go w
+onward meaning.Unknown c go = End
+
+-- the reading of the bytes at place i, where w waits and v was read of a parameter
+unfoldable pub nextFrom : ColorState → (v i : ℕ) → List ℕ → NextOrder
+unfolding onward meaningAfter more
+nextFrom w v i [] = onward (meaningAfter w v) (record { at = i; further = false }) (λ x. End)
+nextFrom w v i (b ∷ s) =
+    let same : NextOrder = nextFrom w (more v b) (i + 1) s in
+    let next : NextOrder = onward (meaningAfter w v) (record { at = i + 1; further = true }) (λ x. nextFrom x 0 (i + 1) s) in
+    cond (digit b) same (cond (eqb b 0x3B) next (onward (meaningAfter w v) (record { at = i; further = false }) (λ x. End)))
+
+unfoldable pub nextOrder : List ℕ → Orders → NextOrder
+unfolding nextFrom
+nextOrder s c = cond (c .further) (nextFrom Ready 0 (c .at) (drop (c .at) s)) End
+
+-- the next order: the orders are those that the parameters give, and the reading stands where the definition's does
+pub record NextOrderAt (s : List ℕ) (c : Orders) (r : NextOrder) : Type 0 where
+  pub orders : ordersOf s r ≡ ordersAt s c
+  pub exact : r ≡ nextOrder s c
 
 module _ (s : List ℕ) where
   pub orders-from : (p : ℕ) → ordersAt s (record { at = p; further = true }) ≡ orders (parameters 0 (drop p s))

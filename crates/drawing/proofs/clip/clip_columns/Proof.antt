@@ -3,17 +3,17 @@ use borrow.Author.Needs.{needs}
 use Rattle.drawing.proofs.clip.clip_columns.Statement.{statement}
 use Rattle.drawing.proofs.clip.clip_columns.Tie as tie
 
-smaller-requires : tie.Need-smaller-requires
-smaller-requires c κs = search needs
+place-of-requires : tie.Need-place-of-requires
+place-of-requires c κs = search needs
 
-add-smaller : tie.Need-add-smaller
-add-smaller c = search needs
+add-t7 : tie.Need-add-t7
+add-t7 c = search needs
 
-smaller-requires-2 : tie.Need-smaller-requires-2
-smaller-requires-2 c κs = search needs
+place-of-requires-2 : tie.Need-place-of-requires-2
+place-of-requires-2 c κs = search needs
 
 returns : tie.Need-returns
 returns c = search columns-clipped
 
 pub clip-columns-spec : {M : Type 1} → statement M
-clip-columns-spec = tie.close (tie.spec smaller-requires add-smaller smaller-requires-2 returns)
+clip-columns-spec = tie.close (tie.spec place-of-requires add-t7 place-of-requires-2 returns)

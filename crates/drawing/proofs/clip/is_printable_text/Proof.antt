@@ -1,6 +1,6 @@
 use borrow.Author.Needs.{needs}
 use Rattle.drawing.proofs.Columns.{printable-on, printable-off, printable-end}
-use Rattle.drawing.specs.Clip.Contracts.{allPrintable}
+use Rattle.text.specs.Printable.{allPrintable}
 use lib.ListN.{length, drop}
 use native.Mathlib.Omega.{arith}
 use Prim.Native.Nat.{_-_, _≤_}

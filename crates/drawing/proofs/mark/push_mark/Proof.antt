@@ -25,6 +25,12 @@ same-length c = search needs
 returns : tie.Need-returns
 returns c = search mark-empty
 
+sub-t15 : tie.Need-sub-t15
+sub-t15 c = search needs
+
+bytes-of-requires : tie.Need-bytes-of-requires
+bytes-of-requires c κs = search needs
+
 push-head-requires-2 : tie.Need-push-head-requires-2
 push-head-requires-2 c κs = search needs
 
@@ -48,6 +54,8 @@ push-mark-spec =
     push-head-requires
     same-length
     returns
+    sub-t15
+    bytes-of-requires
     push-head-requires-2
     push-mark-bytes-requires
     same-length-2

@@ -15,8 +15,8 @@ with-sgr-sequence-requires c κs = search needs
 sequence-at-requires : tie.Need-sequence-at-requires
 sequence-at-requires c κs = search needs
 
-apply-hyperlink-requires : tie.Need-apply-hyperlink-requires
-apply-hyperlink-requires c κs = search linkable
+render-hyperlink-requires : tie.Need-render-hyperlink-requires
+render-hyperlink-requires c κs = search linkable
 
 add-byte-at : tie.Need-add-byte-at
 add-byte-at c = search needs
@@ -53,7 +53,7 @@ render-sequence-spec =
     add-t10
     with-sgr-sequence-requires
     sequence-at-requires
-    apply-hyperlink-requires
+    render-hyperlink-requires
     add-byte-at
     byte-at-requires
     with-line-drawing-requires

@@ -1,15 +1,12 @@
-use Rattle.rows.proofs.MarkColumns.{Counted, count-begin, count-end, count-stop, count-turn}
+use Rattle.rows.proofs.MarkColumns.{Counted, count-begin, count-end, count-stop, count-room, count-fits, count-falls, count-turn}
 use lib.ListN.{length}
-use native.Mathlib.Omega.{arith}
 use Prim.Native.Nat.{_-_}
-use Rattle.text.specs.Utf8.Code.Laws.{scalar-at}
-use Rattle.rows.specs.Marks.Laws.{mark-small}
 use borrow.Author.Needs.{needs}
 use Rattle.rows.proofs.marks.drawn_columns.Statement.{statement}
 use Rattle.rows.proofs.marks.drawn_columns.Tie as tie
 
 abbrev Inv-loop : tie.InvT-loop
-Inv-loop text columns₀ p₀ columns p = Counted text p columns
+Inv-loop text columns₀ p₀ columns p = Counted text p (columns .0)
 
 abbrev μ-loop : tie.MeasureT-loop
 μ-loop text columns₀ p₀ columns p = length text - p
@@ -26,14 +23,14 @@ returns c = search count-stop
 mark-columns-requires : tie.Need-mark-columns-requires Inv-loop μ-loop
 mark-columns-requires c κs = search needs
 
-add-columns : tie.Need-add-columns Inv-loop μ-loop
-add-columns c = omega (arith, c .before .before .before .before .before .loop .inv .small, mark-small (c .before .before .before .decode .result .code))
+add-t6 : tie.Need-add-t6 Inv-loop μ-loop
+add-t6 c = record { fits = search count-room }
 
 add-p : tie.Need-add-p Inv-loop μ-loop
-add-p c = omega (arith, scalar-at _ _ _ (c .before .before .before .before .before .loop-test .taken) (c .before .before .before .before .decode .ensures) (c .before .before .if1 .left) .fits)
+add-p c = record { fits = search count-fits }
 
 loop-less : tie.Need-loop-less Inv-loop μ-loop
-loop-less c = let a = scalar-at _ _ _ (c .before .before .before .before .before .loop-test .taken) (c .before .before .before .before .decode .ensures) (c .before .before .if1 .left) in omega (arith, a .fits, a .some)
+loop-less c = search count-falls
 
 loop-again : tie.Need-loop-again Inv-loop μ-loop
 loop-again c = search count-turn
@@ -51,7 +48,7 @@ drawn-columns-spec =
     decode-requires
     returns
     mark-columns-requires
-    add-columns
+    add-t6
     add-p
     loop-less
     loop-again

@@ -6,7 +6,7 @@ use Rattle.spans.proofs.search.offset_at.Statement.{statement}
 use Rattle.spans.proofs.search.offset_at.Tie as tie
 
 abbrev Inv-loop : tie.InvT-loop
-Inv-loop s x c₀ next₀ c next = OffsetLoop s x c next
+Inv-loop s x c₀ next₀ c next = OffsetLoop s x c₀ c next
 
 abbrev μ-loop : tie.MeasureT-loop
 μ-loop s x c₀ next₀ c next = length s - c .origin
@@ -33,7 +33,7 @@ next-escape-requires : tie.Need-next-escape-requires Inv-loop μ-loop
 next-escape-requires c κs = search needs
 
 sub-t8 : tie.Need-sub-t8 Inv-loop μ-loop
-sub-t8 c = let h = offset-order _ _ _ _ (c .before .before .before .before .before .before .before .before .loop .inv) (c .before .before .before .before .before .before .before .loop-test .taken) in search needs
+sub-t8 c = let h = offset-order _ _ _ _ _ (c .before .before .before .before .before .before .before .before .loop .inv) (c .before .before .before .before .before .before .before .loop-test .taken) in search needs
 
 add-t9 : tie.Need-add-t9 Inv-loop μ-loop
 add-t9 c = search needs

@@ -1,20 +1,20 @@
 use Rattle.drawing.proofs.Sequences.{link-fits, link-told, on-link}
 use Rattle.drawing.specs.Rendering.{linkedBy}
 use borrow.Author.Needs.{needs}
-use Rattle.drawing.proofs.render.apply_hyperlink.Statement.{statement}
-use Rattle.drawing.proofs.render.apply_hyperlink.Tie as tie
+use Rattle.drawing.proofs.render.render_hyperlink.Statement.{statement}
+use Rattle.drawing.proofs.render.render_hyperlink.Tie as tie
 
 enum-known-sequence : tie.Need-enum-known-sequence
 enum-known-sequence c = search needs
 
-add-t19 : tie.Need-add-t19
-add-t19 c = record { fits = search link-fits }
+add-t14 : tie.Need-add-t14
+add-t14 c = record { fits = search link-fits }
 
 uri-length-requires : tie.Need-uri-length-requires
 uri-length-requires c κs = search needs
 
-linked-requires : tie.Need-linked-requires
-linked-requires c κs = search needs
+with-hyperlink-requires : tie.Need-with-hyperlink-requires
+with-hyperlink-requires c κs = search needs
 
 enum-told : tie.Need-enum-told
 enum-told c = search needs
@@ -55,14 +55,14 @@ returns-6 : tie.Need-returns-6
 unfolding linkedBy
 returns-6 c = search on-link
 
-pub apply-hyperlink-spec : {M : Type 1} → statement M
-apply-hyperlink-spec =
+pub render-hyperlink-spec : {M : Type 1} → statement M
+render-hyperlink-spec =
     tie.close
     (tie.spec
     enum-known-sequence
-    add-t19
+    add-t14
     uri-length-requires
-    linked-requires
+    with-hyperlink-requires
     enum-told
     enum-known-sequence-2
     enum-known-sequence-3
