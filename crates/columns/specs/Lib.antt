@@ -1,3 +1,4 @@
 pub mod Columns
 pub mod Narrowest
 pub mod Fewest
+pub mod Heights

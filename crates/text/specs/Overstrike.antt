@@ -11,6 +11,7 @@ pub mod Noise
 pub mod Length
 pub mod Code
 pub mod Bytes
+pub mod Orders
 
 -- Overstrike
 pub data Style : Type 0 where

@@ -30,8 +30,8 @@ use Rattle.spans.specs.Spans.{spans}
 use Rattle.spans.specs.Calls.{readCall}
 use Rattle.drawing.specs.Marks.LineDrawn.{replacement-symbol, replaced-printable}
 use Rattle.picture.specs.Conditions.{Plain, composed, PlainComposed, WordBreakClasses, Unshared, UnsharedPiece}
-use Rattle.picture.specs.Picture.{RowsShow, RowsShowTheLine}
-use Rattle.picture.specs.Picture.Lines.{rowsShowLines}
+use Rattle.picture.specs.Picture.{OfLines, RowsShow, RowsShowTheLine, PagingShows, PagingShowsTheLine}
+use Rattle.picture.specs.Picture.Lines.{rowsShowLines, pagingShowsLines}
 
 -- ---- what drawing composes
 
@@ -64,11 +64,28 @@ module _ (p : code.Profile) where
 
 -- ---- the row picture of every accepted line
 
-showLines : (p : code.Profile) (line : List ℕ) → All Byte line → (conv places : ℕ) → readCall (profileOf p) conv places [] line .number ≡ 0 → RowsShow (profileOf p) (spans (profileOf p) (convert (profileOf p) line))
-showLines p line bytes conv places e =
-    rowsShowLines (profileOf p) (plain-composed (profileOf p) (ascii-classes p) (symbol-classes p) (symbol-columns p)) (classes p) (λ v. width-two p v _ refl) line bytes conv places e
-    (all-every (unshared-piece p) (runs (decode (convert (profileOf p) line))))
+module _ (p : code.Profile) where
+  abbrev P : Profile
+  P = profileOf p
+
+  -- what is asked of profiles and lines
+  of-lines : (Q : List ℕ → (conv places : ℕ) → Type 0) → OfLines P Q → (line : List ℕ) → All Byte line → (conv places : ℕ) → readCall P conv places [] line .number ≡ 0 → Q line conv places
+  of-lines Q f line bytes conv places e =
+      f (plain-composed P (ascii-classes p) (symbol-classes p) (symbol-columns p)) (classes p) (λ v. width-two p v _ refl) line bytes conv places e (all-every (unshared-piece p) (runs (decode (convert P line))))
+
+  showLines : (line : List ℕ) → All Byte line → (conv places : ℕ) → readCall P conv places [] line .number ≡ 0 → RowsShow P (spans P (convert P line))
+  showLines = of-lines (λ line conv places. RowsShow P (spans P (convert P line))) (rowsShowLines P)
+
+  pageLines : (line : List ℕ) → All Byte line → (conv places : ℕ) → readCall P conv places [] line .number ≡ 0 → PagingShows P conv places line
+  pageLines = of-lines (λ line conv places. PagingShows P conv places line) (pagingShowsLines P (ascii-classes p))
+
+abbrev first : code.Profile
+first = record { version = 0 }
 
 pub rowsShowTheLine : RowsShowTheLine
-rowsShowTheLine = let p : code.Profile = record { version = 0 } in
-    subst (λ (P : Profile). (line : List ℕ) → All Byte line → (conv places : ℕ) → readCall P conv places [] line .number ≡ 0 → RowsShow P (spans P (convert P line))) (profile-is p) (showLines p)
+rowsShowTheLine = subst (λ (P : Profile). (line : List ℕ) → All Byte line → (conv places : ℕ) → readCall P conv places [] line .number ≡ 0 → RowsShow P (spans P (convert P line))) (profile-is first) (showLines first)
+
+-- ---- paging by the calls
+
+pub pagingShowsTheLine : PagingShowsTheLine
+pagingShowsTheLine = subst (λ (P : Profile). (line : List ℕ) → All Byte line → (conv places : ℕ) → readCall P conv places [] line .number ≡ 0 → PagingShows P conv places line) (profile-is first) (pageLines first)

@@ -18,7 +18,7 @@ use Rattle.picture.specs.Picture.{Cell, shown, rowsShown}
 
 -- what the rows show, and what is shown Unwrapped
 abbrev byRows : Profile → ℕ → Mode → List Span → List Cell
-byRows P width mode ss = rowsShown P width mode none ss 0 (length (rows P width mode ss))
+byRows P width mode ss = rowsShown P 0 width mode none ss 0 (length (rows P width mode ss))
 
 abbrev whole : Profile → List Span → List Cell
 whole P ss = shown P (renderWrapped P 0 1 0 unwrapped none ss)

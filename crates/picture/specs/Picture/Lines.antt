@@ -1,4 +1,4 @@
--- The row picture of every accepted line: its spans are as the row picture asks, and its columns fit mode 0's row.
+-- The row picture of every accepted line, and paging: its spans are as the row picture asks, its columns fit mode 0's row, and its rows question 5.
 use mathlib.Core.Path.{_≡_, refl, sym, ap, _∙_}
 use Prim.Native.Nat.{ℕ, _+_, _*_, _≤_}
 use native.Mathlib.Omega.{arith}
@@ -26,9 +26,11 @@ use Rattle.spans.specs.Calls.Laws.{read-passed}
 use Rattle.rows.specs.Marks.{drawnColumns}
 use Rattle.rows.specs.Marks.Laws.{mark-small}
 use Rattle.columns.specs.Columns.{spanColumns, lastColumnFrom}
+use Rattle.columns.specs.Heights.Proof.{rows-of-bytes}
 use Rattle.picture.specs.Conditions.{Unshared, UnsharedPiece, UnsharedLine, Drawable}
-use Rattle.picture.specs.Picture.{RowsShowLines}
+use Rattle.picture.specs.Picture.{RowsShowLines, PagingShowsLines}
 use Rattle.picture.specs.Picture.AnyProfile.{rowPicture}
+use Rattle.picture.specs.Picture.Calls.{paging}
 
 -- ---- clusters
 
@@ -94,11 +96,16 @@ module _ (P : Profile) (narrow : (v : ℕ) → P .width v ≤ 2) where
 -- ---- lines
 
 pub rowsShowLines : (P : Profile) → RowsShowLines P
-rowsShowLines P composed classes narrow line bytes conv places e u mode n o width current =
+rowsShowLines P composed classes narrow line bytes conv places e u =
     let s : List ℕ = convert P line in
     let y = read-passed P conv places [] line e in
     let l : length s ≤ 0x8000 = omega (arith, y .short, convert-size P line) in
     let held : All (λ (x : Span). contentOf s (recordOf x) ≡ x .content) (spans P s) = rw (unmatched-spans P s) at (content P [] s) in
     let k = rw (unmatched-spans P s) at (few P [] s (y .ordered)) in
     rowPicture P composed classes (spans P s) (all-map (λ x h. drawable P s (converted-bytes P line bytes) x (h .0) (h .1)) (all-both held (spans-good P s u)))
-    (omega (arith, last-few P narrow (all-map (λ x h. span-few P narrow s l x h) held) 0)) mode n o width current
+    (omega (arith, last-few P narrow (all-map (λ x h. span-few P narrow s l x h) held) 0))
+
+-- a line has at most 8,193 rows, and question 5 admits 65,536
+pub pagingShowsLines : (P : Profile) → PagingShowsLines P
+pagingShowsLines P ascii composed classes narrow line bytes conv places e u =
+    paging P conv places line e (rowsShowLines P composed classes narrow line bytes conv places e u) (λ width mode. omega (arith, read-passed P conv places [] line e .short, rows-of-bytes P ascii width mode line))

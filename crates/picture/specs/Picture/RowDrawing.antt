@@ -13,9 +13,11 @@ use Rattle.rows.specs.Rows.{Row, row, Mode, rows}
 use Rattle.drawing.specs.declared.attributes.Attributes.{Attributes}
 use Rattle.drawing.specs.Attributes.{plain, styled}
 use Rattle.drawing.specs.Change.{whole}
+use Rattle.drawing.specs.Reader.Laws.{seen-whole}
 use Rattle.drawing.specs.Draw.{State, initial, renderSpans, endOf, startOf, closeRows, renderWrapped}
 use Rattle.columns.specs.Columns.Wrapping.{Run, last, next}
-use Rattle.picture.specs.Picture.{Cell, shownFrom, shown, rowsShown}
+use Rattle.picture.specs.Picture.{Cell, shownFrom, shown, rowChanges, rowsShown}
+use Rattle.picture.specs.Picture.Readers.{seenCells, shown-seen, seen-join}
 use Rattle.picture.specs.Picture.Window.{inside, inside-parts, SomeWidth}
 use Rattle.picture.specs.Picture.AttributesInForce.{InForce}
 use Rattle.picture.specs.Picture.LineCells.{renditionOf, cellWidth, lineCells}
@@ -76,32 +78,32 @@ module _ (P : Profile) (current : Option ℕ) (ss : List Span) where
     unfolding initial shown
     window start end room h f g = spans-draw P start end h current (closeRows room) (closed room) ss (renditionOf initial) initial plain begun refl (record { wide = wide; starts = f; ends = g })
 
-    module _ (width : ℕ) (mode : Mode) where
-      pub rows-whole : {z : ℕ} → Run (Boundary P cells) 0 z (rows P width mode ss) → (first count : ℕ) → 1 ≤ count → whole (renderWrapped P first count width mode current ss) ≡ true
-      unfolding renderWrapped
+    module _ (reader width : ℕ) (mode : Mode) where
+      pub rows-whole : {z : ℕ} → Run (Boundary P cells) 0 z (rows P width mode ss) → (first count : ℕ) → 1 ≤ count → whole (rowChanges P reader first count width mode current ss) ≡ true
+      unfolding rowChanges renderWrapped
       rows-whole r first count h =
           let rs : List Row = rows P width mode ss in
           let end : ℕ = endOf 0 (first + count - 1) rs in
           let start : ℕ = startOf end first rs in
           let s = run-start (Boundary P cells) r 0 first (first + count - 1) (omega arith) in
-          window start end (ltb (end - start) (width * count)) (s .0) (s .1) (run-end (Boundary P cells) r 0 (first + count - 1) .1) .1
+          seen-whole reader _ ∙ window start end (ltb (end - start) (width * count)) (s .0) (s .1) (run-end (Boundary P cells) r 0 (first + count - 1) .1) .1
 
       pub row-shows : (before : List Row) (a b : ℕ) (rest : List Row) → before ++ (row a b ∷ rest) ≡ rows P width mode ss → a ≤ b → Boundary P cells a → Boundary P cells b
-          → shown P (renderWrapped P (length before) 1 width mode current ss) ≡ inside (cellWidth P) a b 0 cells
-      unfolding renderWrapped
+          → shown P (rowChanges P reader (length before) 1 width mode current ss) ≡ seenCells reader (inside (cellWidth P) a b 0 cells)
+      unfolding rowChanges renderWrapped
       row-shows before a b rest e h f g =
           let n : length before + 1 - 1 ≡ length before = omega arith in
-          rw (← e, n, end-at (row a b) rest before 0, start-at (row a b) rest before b) (window a b (ltb (b - a) (width * 1)) h f g .0)
+          rw (← e, n, end-at (row a b) rest before 0, start-at (row a b) rest before b) (shown-seen P reader _ ∙ ap (seenCells reader) (window a b (ltb (b - a) (width * 1)) h f g .0))
 
       run-ordered : {a z : ℕ} {rs : List Row} → Run (Boundary P cells) a z rs → a ≤ z
       run-ordered (last h f g) = h
       run-ordered (next h f g r) = omega (arith, run-ordered r)
 
       pub rows-shown : {a z : ℕ} {rest : List Row} → Run (Boundary P cells) a z rest → (before : List Row) → before ++ rest ≡ rows P width mode ss
-          → rowsShown P width mode current ss (length before) (length rest) ≡ inside (cellWidth P) a z 0 cells
+          → rowsShown P reader width mode current ss (length before) (length rest) ≡ seenCells reader (inside (cellWidth P) a z 0 cells)
       unfolding rowsShown
-      rows-shown {a} {z} (last h f g) before e = ap (λ (l : List Cell). l ++ []) (row-shows before a z [] e h f g) ∙ append-nil (inside (cellWidth P) a z 0 cells)
+      rows-shown {a} {z} (last h f g) before e = ap (λ (l : List Cell). l ++ []) (row-shows before a z [] e h f g) ∙ append-nil (seenCells reader (inside (cellWidth P) a z 0 cells))
       rows-shown {a} {z} (next {b = b} {rs = rs} h f g r) before e =
           let n : length (before ++ (row a b ∷ [])) ≡ suc (length before) = length-append before (row a b ∷ []) ∙ omega arith in
           ap₂ (λ (x y : List Cell). x ++ y) (row-shows before a b rs e h f g) (rw n at (rows-shown r (before ++ (row a b ∷ [])) (append-assoc before (row a b ∷ []) rs ∙ e)))
-          ∙ inside-parts (cellWidth P) a b z 0 cells h (run-ordered r)
+          ∙ seen-join reader (inside (cellWidth P) a b 0 cells) (inside (cellWidth P) b z 0 cells) ∙ ap (seenCells reader) (inside-parts (cellWidth P) a b z 0 cells h (run-ordered r))

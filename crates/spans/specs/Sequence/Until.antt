@@ -1,4 +1,4 @@
--- A sequence ends before the next `ESC ]`, whatever stands behind it.
+-- A sequence ends before the next ESC, whatever stands after it, unless that is `\`.
 use mathlib.Core.Path.{_≡_, refl, sym, ap, ap₂, _∙_}
 use Prim.Native.Nat.{ℕ, suc, _+_, _-_, _*_, _≤_, _<_}
 use native.Mathlib.Omega.{arith}
@@ -29,9 +29,9 @@ neither true true f = refl
 neither true false f = refl
 neither false q f = refl
 
-module _ (t : List ℕ) where
+module _ (c : ℕ) (t : List ℕ) (other : eqb c 0x5C ≡ false) where
   abbrev stop : List ℕ
-  stop = 0x1B ∷ 0x5D ∷ t
+  stop = 0x1B ∷ c ∷ t
 
   -- the byte at a place up to there: the same, or ESC where it is missing
   data Until (a : List ℕ) (n : ℕ) : Type 0 where
@@ -45,7 +45,7 @@ module _ (t : List ℕ) where
       (λ l.
       let k = ltb-false n (length a) l in
       let e : n ≡ length a = omega arith in
-      outside e (rw e (getD-append-seam a 0x1B (0x5D ∷ t) 0)) (List·getD-eq-default a 0 k))
+      outside e (rw e (getD-append-seam a 0x1B (c ∷ t) 0)) (List·getD-eq-default a 0 k))
 
   csi-until : (a : List ℕ) → csi (a ++ stop) ≡ csi a
   unfolding csi leading
@@ -53,8 +53,8 @@ module _ (t : List ℕ) where
   csi-until (b ∷ a) = go (until (b ∷ a) (leading parameterByte (b ∷ a)) (leading-le parameterByte (b ∷ a)))
     where
       go : Until (b ∷ a) (leading parameterByte (b ∷ a)) → csi ((b ∷ a) ++ stop) ≡ csi (b ∷ a)
-      go (inside k e) = rw (leading-until parameterByte (b ∷ a) 0x1B (0x5D ∷ t) refl, parameters-until 0 (b ∷ a) 0x1B (0x5D ∷ t) refl, e)
-      go (outside k e f) = rw (leading-until parameterByte (b ∷ a) 0x1B (0x5D ∷ t) refl, e, f)
+      go (inside k e) = rw (leading-until parameterByte (b ∷ a) 0x1B (c ∷ t) refl, parameters-until 0 (b ∷ a) 0x1B (c ∷ t) refl, e)
+      go (outside k e f) = rw (leading-until parameterByte (b ∷ a) 0x1B (c ∷ t) refl, e, f)
 
   charset-until : (a : List ℕ) → charset (a ++ stop) ≡ charset a
   unfolding charset
@@ -63,7 +63,7 @@ module _ (t : List ℕ) where
 
   past-until : (p : ℕ → Bool) (a : List ℕ) (i : ℕ) → i ≤ length a → p 0x1B ≡ false → past p (a ++ stop) i ≡ past p a i
   unfolding past
-  past-until p a i h e = rw (drop-append-le i a stop h, leading-until p (drop i a) 0x1B (0x5D ∷ t) e)
+  past-until p a i h e = rw (drop-append-le i a stop h, leading-until p (drop i a) 0x1B (c ∷ t) e)
 
   past-most : (p : ℕ → Bool) (a : List ℕ) (i : ℕ) → i ≤ length a → past p a i ≤ length a
   unfolding past
@@ -79,7 +79,7 @@ module _ (t : List ℕ) where
 
       go : Until a e → closed m e (getD (a ++ stop) e 0) (getD (a ++ stop) (e + 1) 0) ≡ closed m e (getD a e 0) (getD a (e + 1) 0)
       go (inside k f) = rw f (next (until a (e + 1) (omega arith)))
-      go (outside k f g) = rw (f, g, k, getD-append-add a stop 1 0)
+      go (outside k f g) = rw (f, g, k, getD-append-add a stop 1 0, other)
 
   osc-until : (a : List ℕ) → osc (a ++ stop) ≡ osc a
   unfolding osc

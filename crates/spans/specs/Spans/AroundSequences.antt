@@ -1,11 +1,13 @@
 -- Reading around a sequence: clusters inside it are dropped, and clusters before `ESC ]` are read alike, whatever stands behind it.
-use mathlib.Core.Path.{_≡_, sym, ap, ap₂, _∙_}
+use mathlib.Core.Path.{_≡_, refl, sym, ap, ap₂, _∙_}
 use Prim.Native.Nat.{ℕ, zero, suc, _+_, _-_, _≤_}
 use native.Mathlib.Nat.{add-zero}
 use native.Mathlib.Omega.{arith}
+use mathlib.Core.Bool.{false}
 use mathlib.Core.List.{List, [], _∷_, _++_}
 use mathlib.Core.Option.{Option, none}
 use lib.ListN.{length}
+use lib.Dec.{eqb}
 use Rattle.text.specs.Utf8.{Scalar, ascii, decode, Piece, run, runs, bytesOf, reads}
 use Rattle.text.specs.Utf8.Laws.{pieceBytes}
 use Rattle.text.specs.Class.{Profile}
@@ -48,12 +50,14 @@ module _ (P : Profile) (m : Option ℕ) where
   unfolding readFrom bytesOf clusterKind reads escapeKind addCluster
   read-sequence p hs e n q = rw q
 
-  -- clusters before `ESC ]` are read alike, whatever stands behind it
-  module _ (cs ds : List (List Scalar)) (x y : List ℕ) (c : bytesOf (joinAll cs) ≡ 0x5D ∷ x) (d : bytesOf (joinAll ds) ≡ 0x5D ∷ y) (alike : (p : ℕ) → readFrom P m p 0 (esc ∷ cs) ≡ readFrom P m p 0 (esc ∷ ds)) where
-    kind-before : (g : List Scalar) (gs hs : List (List Scalar)) (z : List ℕ) → bytesOf (joinAll hs) ≡ 0x5D ∷ z → clusterKind P g (bytesOf (joinAll (gs ++ esc ∷ hs))) ≡ clusterKind P g (bytesOf (joinAll gs))
-    unfolding clusterKind joinAll bytesOf
-    kind-before g gs hs z e = let q = ap parse (join-append gs (esc ∷ hs) ∙ ap (λ (l : List ℕ). bytesOf (joinAll gs) ++ 0x1B ∷ l) e) ∙ parse-until z (bytesOf (joinAll gs)) in rw q
+  -- what a cluster is does not depend on an ESC after it and what follows that, unless it is `\`
+  pub kind-before : (b : ℕ) (z : List ℕ) → eqb b 0x5C ≡ false → (hs : List (List Scalar)) → bytesOf (joinAll hs) ≡ b ∷ z → (g : List Scalar) (gs : List (List Scalar))
+      → clusterKind P g (bytesOf (joinAll (gs ++ esc ∷ hs))) ≡ clusterKind P g (bytesOf (joinAll gs))
+  unfolding clusterKind joinAll bytesOf
+  kind-before b z o hs e g gs = let q = ap parse (join-append gs (esc ∷ hs) ∙ ap (λ (l : List ℕ). bytesOf (joinAll gs) ++ 0x1B ∷ l) e) ∙ parse-until b z o (bytesOf (joinAll gs)) in rw q
 
+  -- clusters before `ESC ]` are read alike, whatever stands after it
+  module _ (cs ds : List (List Scalar)) (x y : List ℕ) (c : bytesOf (joinAll cs) ≡ 0x5D ∷ x) (d : bytesOf (joinAll ds) ≡ 0x5D ∷ y) (alike : (p : ℕ) → readFrom P m p 0 (esc ∷ cs) ≡ readFrom P m p 0 (esc ∷ ds)) where
     pub read-before : (gs : List (List Scalar)) (p k : ℕ) → k ≤ length (bytesOf (joinAll gs)) → readFrom P m p k (gs ++ esc ∷ cs) ≡ readFrom P m p k (gs ++ esc ∷ ds)
     unfolding readFrom joinAll bytesOf
     read-before [] p zero h = alike p
@@ -61,7 +65,7 @@ module _ (P : Profile) (m : Option ℕ) where
     read-before (g ∷ gs) p zero h =
         let b : ℕ = length (bytesOf g) in
         let s : List ℕ = bytesOf (joinAll gs) in
-        rw (kind-before g gs cs x c, kind-before g gs ds y d)
+        rw (kind-before 0x5D x refl cs c g gs, kind-before 0x5D y refl ds d g gs)
         (add-same m p g b (length s) (clusterKind P g s) (λ k. readFrom P m (p + b) k (gs ++ esc ∷ cs)) (λ k. readFrom P m (p + b) k (gs ++ esc ∷ ds)) (kind-most P g s) (λ j l. read-before gs (p + b) j l))
     read-before (g ∷ gs) p (suc k) h =
         let l = join-length g gs in

@@ -53,7 +53,7 @@ runs-more c [] = refl
 runs-more c (wellFormed d ∷ ds) = ap (addToRun c) (runs-more d ds)
 runs-more c (illFormed b ∷ ds) = refl
 
-runs-split : (ds : List Decoded) → runs ds ≡ withRun (runOf ds) (runs (afterRun ds))
+pub runs-split : (ds : List Decoded) → runs ds ≡ withRun (runOf ds) (runs (afterRun ds))
 unfolding runs withRun runOf afterRun
 runs-split [] = refl
 runs-split (wellFormed c ∷ ds) = runs-more c ds
@@ -102,7 +102,7 @@ runs-damaged b s e = go (sequence (b ∷ s)) refl
 run-stops : (s : List ℕ) → runOf (decode (drop (length (bytesOf (runOf (decode s)))) s)) ≡ []
 run-stops s = ap runOf (sym (after-decode s)) ∙ after-none (decode s)
 
-runOf-wells : (s : List Scalar) (ds : List Decoded) → runOf (map wellFormed s ++ ds) ≡ s ++ runOf ds
+pub runOf-wells : (s : List Scalar) (ds : List Decoded) → runOf (map wellFormed s ++ ds) ≡ s ++ runOf ds
 unfolding runOf
 runOf-wells [] ds = refl
 runOf-wells (c ∷ s) ds = ap (λ (l : List Scalar). c ∷ l) (runOf-wells s ds)
@@ -141,7 +141,7 @@ module _ (s : List ℕ) (g r : List Scalar) (e : runOf (decode s) ≡ g ++ r) wh
   pub run-length : length (bytesOf (runOf (decode s))) ≡ length (bytesOf g) + length (bytesOf (runOf (decode (drop (length (bytesOf g)) s))))
   run-length = ap (λ (l : List Scalar). length (bytesOf l)) e ∙ ap length (bytesOf-append g r) ∙ length-append (bytesOf g) (bytesOf r) ∙ ap (λ (l : List Scalar). length (bytesOf g) + length (bytesOf l)) (sym run-rest)
 
-valid-few : {s : List Scalar} → All Valid s → length s ≤ length (bytesOf s)
+pub valid-few : {s : List Scalar} → All Valid s → length s ≤ length (bytesOf s)
 unfolding bytesOf
 valid-few all-nil = omega arith
 valid-few (all-cons {a = c} {s = s} v a) = simp length-append (omega (arith, v .some, valid-few a))
@@ -155,7 +155,7 @@ run-few s = omega (arith, valid-few (run-valid s), run-fits s)
 
 -- ---- a text in a line
 
-afterRun-wells : (s : List Scalar) (ds : List Decoded) → afterRun (map wellFormed s ++ ds) ≡ afterRun ds
+pub afterRun-wells : (s : List Scalar) (ds : List Decoded) → afterRun (map wellFormed s ++ ds) ≡ afterRun ds
 unfolding afterRun
 afterRun-wells [] ds = refl
 afterRun-wells (c ∷ s) ds = afterRun-wells s ds
