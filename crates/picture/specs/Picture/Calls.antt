@@ -24,7 +24,7 @@ use Rattle.drawing.specs.Change.{Change, whole, encode}
 use Rattle.drawing.specs.Draw.{renderWrapped}
 use Rattle.drawing.specs.Reader.{seenBy}
 use Rattle.drawing.specs.Calls.{Drawn, rowQuestions, rowCall}
-use Rattle.drawing.specs.Calls.Laws.{drawing-accepted}
+use Rattle.drawing.specs.Calls.Laws.{drawing-accepted, noneTorn, row-torn}
 use Rattle.picture.specs.Picture.{rowChanges, RowsShow, Picture, DrawsRow, PagingShows}
 
 -- every mode but 0 wraps
@@ -47,14 +47,14 @@ module _ (P : Profile) (conv places : ℕ) (line : List ℕ) (fine : readCall P 
     -- a row drawing that questions 18, 5 and 8 admit
     draws-row : (reader first : ℕ) (current : Option ℕ) → reader ≤ 1 → first ≤ 65535 → whole (rowChanges P reader first 1 width (modeOf mode) current found) ≡ true
         → DrawsRow P reader conv places first width mode current line (rowChanges P reader first 1 width (modeOf mode) current found)
-    unfolding rowChanges rowCall read
+    unfolding rowChanges read
     draws-row reader first current r f e room h =
         let draw : List Span → List Change = λ ss. seenBy reader (renderWrapped P first 1 width (modeOf mode) current ss) in
         let list : List ℕ = encode (draw found) in
         let five : Question = ask 5 (modeAndWidth mode width && (leb first 65535 && (leb 1 65535 && leb 1 1))) in
         let eight : Question = ask 8 (whole (draw found)) in
         let nine : Question = ask 9 (leb (length list) room) in
-        let a = drawing-accepted P reader conv places room [] (rowQuestions first 1 width mode) draw line (le-leb reader 1 r) fine
+        let a = row-torn P reader conv places room first 1 width mode current [] line ∙ drawing-accepted P reader conv places room [] (rowQuestions first 1 width mode) (noneTorn draw) draw line (le-leb reader 1 r) fine
         (decide-yes five (eight ∷ nine ∷ []) (rw (known, le-leb first 65535 f) refl) ∙ decide-yes eight (nine ∷ []) e ∙ decide-yes nine [] (le-leb (length list) room h) ∙ decide-nil) in
         record {
           accepted = ap (λ (d : Drawn). d .number) a;
