@@ -1,4 +1,4 @@
--- The parameters of a style order: numbers that stay where they have passed 65,535 serve as well, and the scan of them.
+-- The parameters of a style order: numbers that stay where they have passed 65,535 serve as well, the scan of them, and the reading of orders from them.
 use mathlib.Core.Path.{_≡_, refl, sym, ap, _∙_}
 use mathlib.Core.Logic.{_≢_}
 use Prim.Native.Nat.{ℕ, suc, _+_, _-_, _*_, _%_, _≤_, _<_}
@@ -224,12 +224,12 @@ module _ (s : List ℕ) (i count v : ℕ) (f : Bool) (z : Scanning s i count f v
 
 -- ---- the next order
 
+after : (s : List ℕ) (i x : ℕ) (l : List ℕ) → drop i s ≡ x ∷ l → drop (i + 1) s ≡ l
+after s i x l p = ap (λ (n : ℕ). drop n s) (add-one i) ∙ behind-byte i s x l p
+
 module _ (s : List ℕ) (i b : ℕ) (e : b ≡ getD s i 0) where
   first : (l : List ℕ) → drop i s ≡ l → b ≡ getD l 0 0
   first l p = e ∙ ap (λ (n : ℕ). getD s n 0) (sym (add-zero i)) ∙ sym (getD-drop i s 0 0) ∙ ap (λ (m : List ℕ). getD m 0 0) p
-
-  after : (x : ℕ) (l : List ℕ) → drop i s ≡ x ∷ l → drop (i + 1) s ≡ l
-  after x l p = ap (λ (n : ℕ). drop n s) (add-one i) ∙ behind-byte i s x l p
 
   inside : (l : List ℕ) → drop i s ≡ l → (b ≢ 0) → i < length s
   inside [] p z = absurd (z (first [] p))
@@ -245,14 +245,14 @@ module _ (s : List ℕ) (i b : ℕ) (e : b ≡ getD s i 0) where
     one-more : (l : List ℕ) → drop i s ≡ l → digit b ≡ true → nextFrom w v i l ≡ nextFrom w (more v b) (i + 1) (drop (i + 1) s)
     unfolding nextFrom
     one-more [] p d = absurd (true≢false (sym d ∙ ap digit (first [] p)))
-    one-more (x ∷ l) p d = let q : x ≡ b = sym (first (x ∷ l) p) in rw (q, d, after x l p) refl
+    one-more (x ∷ l) p d = let q : x ≡ b = sym (first (x ∷ l) p) in rw (q, d, after s i x l p) refl
 
     -- a parameter ends here, at a `;` where f
     ended : (l : List ℕ) → drop i s ≡ l → digit b ≡ false → (f : Bool) → f ≡ eqb b 0x3B → (j : ℕ) → j ≡ cond f (i + 1) i
         → nextFrom w v i l ≡ onward (meaningAfter w v) (record { at = j; further = f }) (λ x. cond f (nextFrom x 0 j (drop j s)) End)
     unfolding nextFrom
     ended [] p d f q j r = let k : f ≡ false = q ∙ ap (λ (n : ℕ). eqb n 0x3B) (first [] p) in rw (r, k) refl
-    ended (x ∷ l) p d true q j r = let y : x ≡ b = sym (first (x ∷ l) p) in rw (y, d, ← q, r, after x l p) refl
+    ended (x ∷ l) p d true q j r = let y : x ≡ b = sym (first (x ∷ l) p) in rw (y, d, ← q, r, after s i x l p) refl
     ended (x ∷ l) p d false q j r = let y : x ≡ b = sym (first (x ∷ l) p) in rw (y, d, ← q, r) refl
 
 -- ---- the orders that it gives
@@ -274,7 +274,7 @@ from-orders : (s l : List ℕ) → (w : ColorState) (v i : ℕ) → drop i s ≡
 unfolding nextFrom numbers ordersFrom
 from-orders s [] = λ w v i p. last-orders s i (meaningAfter w v)
 from-orders s (b ∷ l) = λ w v i p.
-    let t : drop (i + 1) s ≡ l = ap (λ (n : ℕ). drop n s) (add-one i) ∙ behind-byte i s b l p in
+    let t : drop (i + 1) s ≡ l = after s i b l p in
     cases (digit b)
     (λ d. rw d (from-orders s l w (more v b) (i + 1) t))
     (λ d. cases (eqb b 0x3B)

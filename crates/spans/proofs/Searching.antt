@@ -304,7 +304,7 @@ module _ (s : List ℕ) (x : ℕ) (o₀ o : Offsets) (next : Escape) (z : Offset
   unfolding offsetOn escapesOf offsetFrom
   at-end f = let k : o .next .found ≡ false = rw (z .kept) at f in rw k at (z .from .same x (omega arith))
 
-  -- no match follows, or it lies behind the offset: the reading stays
+  -- no match follows: the reading stays
   stays-end : next .found ≡ false → o ≡ offsetsOn s o₀ x
   unfolding offsetsOn offsetsFrom escapesOf
   stays-end f =
