@@ -1,6 +1,6 @@
 //! The sets of cases for each call.
 
-use crate::alphabets::{self, Alphabet, ATTRIBUTES, DRAWN as SPANS, SEARCHED, SHIFTED};
+use crate::alphabets::{self, Alphabet, ATTRIBUTES, DRAWN as SPANS, JOINED, SEARCHED, SHIFTED};
 use crate::calls::{self, MODES, WIDTHS};
 use crate::comparison::Set;
 use crate::lending;
@@ -194,7 +194,7 @@ impl CallSet {
 }
 
 fn convert() -> Vec<CallSet> {
-    use alphabets::{CLASSES, JOINED, STRUCK as CLUSTERS, STRUCK_BYTES};
+    use alphabets::{CLASSES, STRUCK as CLUSTERS, STRUCK_BYTES};
     let call = |_: &mut Random, _: &[u8]| Call::Convert;
     vec![
         CallSet::every("short lines of bytes", short(STRUCK_BYTES, 6), call),
@@ -209,7 +209,7 @@ fn convert() -> Vec<CallSet> {
 }
 
 fn read() -> Vec<CallSet> {
-    use alphabets::{CLASSES, JOINED, LEFT_OUT, LINKS, PARAMETERS, TELLING_BYTES};
+    use alphabets::{CLASSES, LEFT_OUT, LINKS, PARAMETERS, TELLING_BYTES};
     let plain = |_: &mut Random, _: &[u8]| calls::reading(Vec::new());
     let matched =
         |random: &mut Random, line: &[u8]| calls::reading(calls::any_matches(random, line));
@@ -238,7 +238,7 @@ fn read() -> Vec<CallSet> {
 
 /// Rows and height.
 fn wrapped(call: &str) -> Vec<CallSet> {
-    use alphabets::{JOINED, WIDTHS_OF_SPANS, WORDS};
+    use alphabets::{WIDTHS_OF_SPANS, WORDS};
     let any = match call {
         "rows" => calls::any_rows,
         _ => calls::any_height,

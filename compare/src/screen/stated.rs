@@ -229,7 +229,7 @@ fn statements() -> Vec<Statement> {
     // raised and lowered cells, and a wide one written in part
     said.push(leaves(&[a(&[(24, 1)]), t("a"), a(&[(24, 2)]), t("b")], 3, "a*|b*|_"));
     said.push(leaves(&[a(&[(24, 1)]), t("\u{6F22}\u{8}a")], 3, "_|a*|_"));
-    // GB11 joins nothing
+    // GB11 joins both in one cell of four columns
     said.push(leaves(&[t("\u{1F468}\u{200D}\u{1F469}")], 4, "\u{1F468}\u{200D}\u{1F469}|-|-|-"));
     said
 }
