@@ -25,7 +25,7 @@ use Rattle.rows.specs.Calls.Laws.{rows-refused, height-refused}
 use Rattle.drawing.specs.Change.{Change}
 use Rattle.drawing.specs.Draw.{render, renderWrapped}
 use Rattle.drawing.specs.Reader.{seenBy}
-use Rattle.drawing.specs.Calls.{Drawn, drawing, windowQuestions, rowQuestions, windowCall, rowCall}
+use Rattle.drawing.specs.Calls.{Drawn, drawing, windowQuestions, windowQuestion8, rowQuestions, rowQuestion8, windowCall, rowCall}
 use Rattle.drawing.specs.Calls.Laws.{drawing-unknown, drawing-unread}
 use Rattle.noise.specs.Calls.{Call, answer, noMatches, withoutMatches, convOf, placesOf}
 use Rattle.noise.specs.Calls as calls
@@ -86,11 +86,11 @@ module _ (P : Profile) where
       (accept 2 (leb (8 * length s) conv) (question3 [] d ∷ question4 places (spans P d) ∷ []) (leb-down _ (8 * length t) conv (a₂ .0) (omega arith))
       (accept 4 (leb (length (spans P d)) places) [] (leb-down _ (length (spans P c)) places (a₃ .0) k) refl))
 
-  drawn-reads : (v b k r : ℕ) (qs : List Question) (draw : List Span → List Change) (s : List ℕ) → drawing P v b k r [] qs draw s .number ≡ 0 → readCall P b k [] s .number ≡ 0
-  drawn-reads v b k r qs draw s e =
+  drawn-reads : (v b k r : ℕ) (qs : List Question) (eight : List Span → Question) (draw : List Span → List Change) (s : List ℕ) → drawing P v b k r [] qs eight draw s .number ≡ 0 → readCall P b k [] s .number ≡ 0
+  drawn-reads v b k r qs eight draw s e =
       cases (leb v 1)
-      (λ y. fine _ _ (λ i d. ap (λ (a : Drawn). a .number) (drawing-unread P v b k r [] qs draw s y i d)) e)
-      (λ y. absurd (let z : 0 ≡ 18 = sym e ∙ ap (λ (a : Drawn). a .number) (drawing-unknown P v b k r [] qs draw s y) in omega arith))
+      (λ y. fine _ _ (λ i d. ap (λ (a : Drawn). a .number) (drawing-unread P v b k r [] qs eight draw s y i d)) e)
+      (λ y. absurd (let z : 0 ≡ 18 = sym e ∙ ap (λ (a : Drawn). a .number) (drawing-unknown P v b k r [] qs eight draw s y) in omega arith))
 
   -- a call without matches, conversion apart, puts the questions of reading with its sizes: where it is accepted, so is reading
   accepted-reads : (c : Call) (n : ℕ) (s : List ℕ) → placesOf c ≡ some n → T (withoutMatches c) → answer P c s .number ≡ 0 → answer P (calls.read (convOf c) n []) s .number ≡ 0
@@ -100,9 +100,9 @@ module _ (P : Profile) where
   accepted-reads (calls.read b k (m ∷ ms)) n s p h e = absurd h
   accepted-reads (calls.rows b k x w y) n s p h e = as-many b s p (fine _ _ (λ i d. ap (λ (a : Wrapped). a .number) (rows-refused P b k s w y x i d)) e)
   accepted-reads (calls.height b k w y) n s p h e = as-many b s p (fine _ _ (λ i d. ap (λ (a : Read). a .number) (height-refused P b k s w y i d)) e)
-  accepted-reads (calls.drawWindow v b k r x y now []) n s p h e = as-many b s p (drawn-reads v b k r (windowQuestions x y) (λ ss. seenBy v (render P x y now ss)) s e)
+  accepted-reads (calls.drawWindow v b k r x y now []) n s p h e = as-many b s p (drawn-reads v b k r (windowQuestions x y) (windowQuestion8 P x y) (λ ss. seenBy v (render P x y now ss)) s e)
   accepted-reads (calls.drawWindow v b k r x y now (m ∷ ms)) n s p h e = absurd h
-  accepted-reads (calls.drawRow v b k r x i w y now []) n s p h e = as-many b s p (drawn-reads v b k r (rowQuestions x i w y) (λ ss. seenBy v (renderWrapped P x i w (modeOf y) now ss)) s e)
+  accepted-reads (calls.drawRow v b k r x i w y now []) n s p h e = as-many b s p (drawn-reads v b k r (rowQuestions x i w y) (rowQuestion8 P x i w y) (λ ss. seenBy v (renderWrapped P x i w (modeOf y) now ss)) s e)
   accepted-reads (calls.drawRow v b k r x i w y now (m ∷ ms)) n s p h e = absurd h
 
   -- every accepted call without matches, conversion apart, leaves the records of the converted line
