@@ -3,8 +3,7 @@ use mathlib.Core.Path.{_≡_, refl, sym, ap, subst, _∙_}
 use mathlib.Core.Logic.{_⊎_, inl, inr, ⊎-elim}
 use Prim.Native.Nat.{ℕ, _+_, _-_, _≤_}
 use native.Mathlib.Omega.{arith}
-use mathlib.Core.Bool.{Bool, cond}
-use mathlib.Core.List.{List, [], _∷_, _++_, append-assoc, append-nil, reverseAux}
+use mathlib.Core.List.{List, [], _∷_, _++_, append-assoc, reverseAux}
 use lib.ListN.{length, length-append}
 use Rattle.text.specs.Tests.{both, by-case}
 use Rattle.text.specs.Each.{All, all-nil, all-cons}
@@ -68,7 +67,7 @@ with-order a b {n} {s} w = ⊎-elim
 
 -- ---- the result, its last scalar first
 
--- at most n bytes and whole style orders; where an order stood in front of the bytes before it, these bytes and the order's are at most r
+-- n bytes and whole style orders; the bytes before an order and the order's own are together at most r
 data Held (r : ℕ) : ℕ → List Scalar → Type 0 where
   empty : Held r 0 []
   one : {n : ℕ} {out : List Scalar} (c : Scalar) → Held r n out → Held r (n + length (c .bytes)) (c ∷ out)
