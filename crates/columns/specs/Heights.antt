@@ -1,11 +1,15 @@
 -- How many rows a line has at most.
+use mathlib.Core.Path.{_≡_}
 use Prim.Native.Nat.{ℕ, _+_, _*_, _≤_}
+use mathlib.Core.Bool.{true}
 use mathlib.Core.List.{List, [], _∷_}
 use lib.ListN.{length}
 use Rattle.text.specs.Class.{Profile}
 use Rattle.text.specs.Overstrike.{convert}
 use Rattle.spans.specs.Spans.{Content, text, control, invalid, unprintable, escape, tab, crlf, lf, Span, spans}
+use Rattle.spans.specs.Calls.{readCall}
 use Rattle.rows.specs.Rows.{Mode, rows}
+use Rattle.rows.specs.Calls.{modeAndWidth, rowsCall}
 pub mod Wraps
 pub mod Reading
 pub mod Proof
@@ -34,3 +38,9 @@ RowsOfParts P = (width : ℕ) (mode : Mode) (ss : List Span) → length (rows P 
 -- a line of n bytes has at most 2 n + 1
 abbrev pub RowsOfBytes : Profile → Type 0
 RowsOfBytes P = (width : ℕ) (mode : Mode) (line : List ℕ) → length (rows P width mode (spans P (convert P line))) ≤ 2 * length line + 1
+
+-- so `rows` is never refused 6 where it is lent 4 n + 2 numbers
+abbrev pub RowListSize : Profile → Type 0
+RowListSize P =
+    (conv places numbers width mode : ℕ) (line : List ℕ) → readCall P conv places [] line .number ≡ 0 → modeAndWidth mode width ≡ true → 4 * length line + 2 ≤ numbers
+    → rowsCall P conv places numbers width mode line .number ≡ 0
