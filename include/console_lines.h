@@ -49,7 +49,7 @@ extern "C" {
  * The arguments are evaluated more than once. n is the line's bytes, at most 4,096. Only
  * CONSOLE_CONV_SIZE is asked for by a question, whatever the line needs; the other calls
  * take less where less is enough, and the refusal says so. That conv's and rows' room is enough
- * is proved (docs/PROOF.md, convert-size and rows-of-bytes); the others follow from the reasons
+ * is proved (docs/PROOF.md, convert-size and row-list-size); the others follow from the reasons
  * given and were tried on hostile lines (compare/sizes, docs/NOTES.md).
  *
  * All others rest on this: for each style order that conversion adds it gives up at least one

@@ -37,7 +37,8 @@ pub(crate) fn state_after(state: u8, c: u8) -> u8
     c
 }
 
-// Is there no boundary before a scalar of class c? By the class, most scalars first.
+// Is there no boundary before a scalar of class c? By the class and not in the standard's order: most scalars are OTHER, which one test
+// tells here, and eight there.
 pub(crate) fn continues_cluster(state: u8, c: u8) -> bool
     requires { ⌜ (state ≤ 15) × (c ≤ 12) ⌝ }
     ensures { λ r. ⌜ r ≡ joined state (stateContext state) c ⌝ }
