@@ -2,7 +2,7 @@
 use Prim.Native.Nat.{_%_, _+_, _-_, _/_, _<_, _≤_, ℕ}
 use native.Mathlib.Numerals.{add-one}
 use native.Mathlib.Omega.{arith}
-use mathlib.Core.Bool.{Bool, _&&_, cond, false, true}
+use mathlib.Core.Bool.{Bool, _&&_, and-false, cond, false, true}
 use mathlib.Core.List.{List, [], _++_, _∷_, reverse, reverse-reverse, reverseAux, reverseAux-append, reverseAux-eq}
 use mathlib.Core.Logic.{_≢_}
 use mathlib.Core.Path.{_∙_, _≡_, ap, refl, sym}
@@ -10,7 +10,7 @@ use lib.Dec.{eqb, leb, ltb}
 use lib.ListN.{drop, getD, length, length-set, set, take}
 use lib.Seq.{length-take-le, take-all, take-length, take-suc-set, take-take}
 use borrow.Author.Tests.{eq-eqb, eqb-false, eqb-true, le-ltb, lt-ltb, ltb-false, ne-eqb}
-use Rattle.text.specs.Backward.{Erased, KnownPlace, ErasedTo, back, backward, afterZwj, betweenIndicators, endsInPair, knownBefore, indicatorAt, needsContext, withoutLast}
+use Rattle.text.specs.Backward.{Erased, KnownPlace, ErasedTo, back, backward, afterZwj, betweenIndicators, endsInPair, knownBefore, indicatorAt, needsContext, pairBefore, withoutLast}
 use Rattle.text.specs.Class.{Profile, isControl, number}
 use Rattle.text.specs.Cluster.{Context, context, joins, start}
 use Rattle.text.specs.Utf8.Code.{firstSequence, sequenceOf, size, whole}
@@ -163,9 +163,11 @@ module _ (v : code.Profile) (t : List ℕ) (w : whole t) (some : length t ≢ 0)
       (λ b. rw (rw (l, b) at ch) (known-zero (profileOf v) (take q t))))
       (λ l. cases (leb (q - i) 128)
       (λ n. rw (rw (l, n) at ch) (known-front (profileOf v) t q i (ltb-false q i l) e))
-      (λ n. cases (needsContext (profileOf v) t q)
-      (λ b. rw (rw (l, n, b) at ch) (known-needed b))
-      (λ b. rw (rw (l, n, b) at ch) (known-front (profileOf v) t q i (ltb-false q i l) e))))
+      (λ n. cases (ltb (getD t q 0) 0x80)
+      (λ a. rw (rw (l, n, a) at ch) (known-front (profileOf v) t q i (ltb-false q i l) e))
+      (λ a. cases (needsContext (profileOf v) t q)
+      (λ b. rw (rw (l, n, a, b) at ch) (known-needed b))
+      (λ b. rw (rw (l, n, a, b) at ch) (known-front (profileOf v) t q i (ltb-false q i l) e)))))
 
   module _ (i : ℕ) (u : Sequence) (b : Bool) (e : KnownPlace (profileOf v) t i) (read : u ≡ firstSequence (decode (drop q t))) (test : b ≡ isControl (u .code)) where
     short : eqb q (length t) ≡ false
@@ -223,8 +225,20 @@ pair-long P t i r e z = pair P t i (sym e ∙ z) .long
 pub pair-inside : (P : Profile) (t : List ℕ) (i : ℕ) (r : Bool) → r ≡ endsInPair P t i → r ≡ true → length t - 8 < length t
 pair-inside P t i r e z = let l = pair-long P t i r e z in omega (arith, l)
 
--- a pair of regional indicators that ends in an known place
-pub pair-erased : (v : code.Profile) (t : List ℕ) (i : ℕ) (r : Bool) (j : ℕ) → whole t → (length t ≢ 0) → KnownPlace (profileOf v) t i → r ≡ endsInPair (profileOf v) t i → r ≡ true → j ≡ knownBefore (profileOf v) t (length t - 8) i → Erased (profileOf v) t i (record { at = length t - 8; known = j })
+-- before a pair nothing but another indicator makes the rules ask for more
+pair-known : (P : Profile) (t : List ℕ) (i j : ℕ) → Pair P t i → j ≡ pairBefore P t (length t - 8) → j ≡ knownBefore P t (length t - 8) i
+pair-known P t i j p e =
+    let l : ltb (length t - 8) i ≡ true = lt-ltb (length t - 8) i (omega (arith, p .long, p .here)) in
+    let c : packedAt P t (length t - 8) ≡ 212 = eqb-true _ 212 (p .other) in
+    let a : afterZwj P t (length t - 8) ≡ false = cases (eqb (length t - 8) 0) (λ y. rw y refl) (λ y. rw (y, c) (and-false (eqb (packedAt P t (back t (length t - 8)) / 8 % 16) 4))) in
+    cases (ltb (length t - 8) 4)
+    (λ m. rw (l, m, a) (rw m at e))
+    (λ m. cases (indicatorAt P t (length t - 8 - 4))
+    (λ b. rw (l, m, p .other, b) (rw (m, b) at e))
+    (λ b. rw (l, m, p .other, b, a) (rw (m, b) at e)))
+
+-- a pair of regional indicators that ends in a known place
+pub pair-erased : (v : code.Profile) (t : List ℕ) (i : ℕ) (r : Bool) (j : ℕ) → whole t → (length t ≢ 0) → KnownPlace (profileOf v) t i → r ≡ endsInPair (profileOf v) t i → r ≡ true → j ≡ pairBefore (profileOf v) t (length t - 8) → Erased (profileOf v) t i (record { at = length t - 8; known = j })
 pair-erased v t i r j w some e f z ch =
     let p = pair (profileOf v) t i (sym f ∙ z) in
     let n : KnownPlace (profileOf v) t (length t) = rw (p .here) at e in
@@ -235,7 +249,7 @@ pair-erased v t i r j w some e f z ch =
     let k = pair-by v t (n .rest) rev (n .place) (p .long) (p .last) (p .other) (ap (λ (y : Context). y .odd) (n .known)) in
     let back-is : reverse (runOf (decode t)) ≡ n .rest = ap reverse rev ∙ reverse-reverse (n .rest) in
     let q : length t - 8 ≡ size (withoutLast (profileOf v) (reverse (runOf (decode t)))) = sym (k .place) ∙ ap size (sym (k .without)) ∙ ap (λ (x : List Scalar). size (withoutLast (profileOf v) x)) (sym back-is) in
-    last-erased v t w some (length t - 8) q i (firstSequence (decode (drop (length t - 8) t))) false e refl (indicator-control v t (length t - 8) (p .other)) j ch refl
+    last-erased v t w some (length t - 8) q i (firstSequence (decode (drop (length t - 8) t))) false e refl (indicator-control v t (length t - 8) (p .other)) j (pair-known (profileOf v) t i j p ch) refl
 
 pub kept-empty : (P : Profile) (t : List ℕ) → length t ≡ 0 → ErasedTo P t 0
 unfolding backward backspace eraseFrom runOf decode decodeFrom

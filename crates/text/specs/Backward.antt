@@ -81,11 +81,15 @@ module _ (P : Profile) where
   abbrev pub needsContext : List ℕ → ℕ → Bool
   needsContext t q = cond (betweenIndicators t q) true (afterZwj t q)
 
-  -- the known place of a text without its last cluster, which begins at q
+  -- the known place of a text without its last cluster, which begins at q; before a byte below 80 the rules ask for no more
   abbrev pub knownBefore : List ℕ → ℕ → ℕ → ℕ
   knownBefore t q known =
       cond (ltb q known) (cond (needsContext t q) q 0)
-      (cond (leb (q - known) 128) known (cond (needsContext t q) q known))
+      (cond (leb (q - known) 128) known (cond (ltb (getD t q 0) 0x80) known (cond (needsContext t q) q known)))
+
+  -- where a pair of regional indicators begins at q
+  abbrev pub pairBefore : List ℕ → ℕ → ℕ
+  pairBefore t q = cond (ltb q 4) 0 (cond (indicatorAt t (q - 4)) q 0)
 
   -- the same behind an erasure that leaves the first n bytes
   abbrev pub knownAfter : List ℕ → ℕ → ℕ → ℕ

@@ -15,12 +15,13 @@ use super::utf8::is_tail;
 ghost use mathlib.Core.Path.{_≡_};
 ghost use Prim.Native.Nat.{_%_, _/_, _≤_, _<_};
 ghost use mathlib.Core.List.{reverse};
-ghost use lib.ListN.{length};
+ghost use lib.Dec.{ltb};
+ghost use lib.ListN.{length, getD};
 ghost use Rattle.text.specs.Utf8.{decode};
 ghost use Rattle.text.specs.Class.Code.{profileOf};
 ghost use Rattle.text.specs.Utf8.Code.{runOf, size, whole};
 ghost use Rattle.text.specs.Scalar.{packedAt};
-ghost use Rattle.text.specs.Backward.{back, ScalarStart, oddTo, pictographTo, joinsAt, withoutLast, KnownPlace, indicatorAt, endsInPair, betweenIndicators, afterZwj, needsContext, knownBefore, Erased};
+ghost use Rattle.text.specs.Backward.{back, ScalarStart, oddTo, pictographTo, joinsAt, withoutLast, KnownPlace, indicatorAt, endsInPair, betweenIndicators, afterZwj, needsContext, knownBefore, pairBefore, Erased};
 
 // Where a text ends after an erasure, and its known place: one up to there at which the rules go on as at a text's start, whatever stands
 // before it. A look back stops there, so that erasures take no longer the longer the text is.
@@ -204,6 +205,13 @@ fn needs_context(profile: Profile, t: &[u8], q: usize) -> bool
     is_after_zwj(profile, t, q)
 }
 
+// Is the byte at a place below 80, or missing?
+fn is_ascii(t: &[u8], at: usize) -> bool
+    ensures { λ r. ⌜ r ≡ ltb (getD (now (t .entry)) at 0) 0x80 ⌝ }
+{
+    byte_at(t, at) < 0x80
+}
+
 // The known place of the text without its last cluster, which begins at q: the one known while it is near, so that what is written and
 // erased after it does not move it.
 fn known_before(profile: Profile, t: &[u8], q: usize, known: usize) -> usize
@@ -219,10 +227,27 @@ fn known_before(profile: Profile, t: &[u8], q: usize, known: usize) -> usize
     if q - known <= 128 {
         return known;
     }
+    if is_ascii(t, q) {
+        return known;
+    }
     if needs_context(profile, t, q) {
         return q;
     }
     known
+}
+
+// The known place of the text without the pair of regional indicators that begins at q and ends it.
+fn known_before_pair(profile: Profile, t: &[u8], q: usize) -> usize
+    requires { ⌜ q < length (now t) ⌝ }
+    ensures { λ r. ⌜ r ≡ pairBefore (profileOf profile) (now (t .entry)) q ⌝ }
+{
+    if q < 4 {
+        return 0;
+    }
+    if is_indicator(profile, t, q - 4) {
+        return q;
+    }
+    0
 }
 
 // The erasure of a valid text's last cluster; nothing is erased where a backspace is added instead.
@@ -253,7 +278,7 @@ pub(crate) fn erase_last(profile: Profile, t: &[u8], known: usize) -> Erasure
     if ends_in_pair(profile, t, known) {
         return Erasure {
             at: n - 8,
-            known: known_before(profile, t, n - 8, known),
+            known: known_before_pair(profile, t, n - 8),
         };
     }
     let q = last_start(profile, t, known);

@@ -39,11 +39,11 @@ ends-in-pair-requires c κs = search needs
 sub-t16 : tie.Need-sub-t16
 sub-t16 c = search pair-long
 
-sub-known-before-2 : tie.Need-sub-known-before-2
-sub-known-before-2 c = search pair-long
+sub-known-before-pair : tie.Need-sub-known-before-pair
+sub-known-before-pair c = search pair-long
 
-known-before-requires-2 : tie.Need-known-before-requires-2
-known-before-requires-2 c κs = search pair-inside
+known-before-pair-requires : tie.Need-known-before-pair-requires
+known-before-pair-requires c κs = search pair-inside
 
 returns-4 : tie.Need-returns-4
 returns-4 c = search pair-erased
@@ -60,11 +60,11 @@ is-control-requires-2 c κs = search needs
 returns-5 : tie.Need-returns-5
 returns-5 c = search last-added
 
-known-before-requires-3 : tie.Need-known-before-requires-3
-known-before-requires-3 c κs = search kept-inside
+known-before-requires-2 : tie.Need-known-before-requires-2
+known-before-requires-2 c κs = search kept-inside
 
 returns-6 : tie.Need-returns-6
-returns-6 c = last-erased _ (c .before .before .before .before .before .before .before .before .before .before .before .before .args .t .now) (c .before .before .before .before .before .before .before .before .before .before .before .before .pre .0) (c .before .before .before .before .before .before .before .before .before .before .if1 .left) _ (c .before .before .before .before .last-start .ensures) (c .before .before .before .before .before .before .before .before .before .before .before .before .args .known) _ _ (c .before .before .before .before .before .before .before .before .before .before .before .before .pre .1) (c .before .before .before .decode .ensures) (c .before .before .is-control2 .ensures) _ (c .known-before3 .ensures) (c .before .if5 .left)
+returns-6 c = last-erased _ (c .before .before .before .before .before .before .before .before .before .before .before .before .args .t .now) (c .before .before .before .before .before .before .before .before .before .before .before .before .pre .0) (c .before .before .before .before .before .before .before .before .before .before .if1 .left) _ (c .before .before .before .before .last-start .ensures) (c .before .before .before .before .before .before .before .before .before .before .before .before .args .known) _ _ (c .before .before .before .before .before .before .before .before .before .before .before .before .pre .1) (c .before .before .before .decode .ensures) (c .before .before .is-control2 .ensures) _ (c .known-before2 .ensures) (c .before .if5 .left)
 
 pub erase-last-spec : {M : Type 1} → statement M
 erase-last-spec =
@@ -82,12 +82,12 @@ erase-last-spec =
     returns-3
     ends-in-pair-requires
     sub-t16
-    sub-known-before-2
-    known-before-requires-2
+    sub-known-before-pair
+    known-before-pair-requires
     returns-4
     last-start-requires
     decode-requires
     is-control-requires-2
     returns-5
-    known-before-requires-3
+    known-before-requires-2
     returns-6)

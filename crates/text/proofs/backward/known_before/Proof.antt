@@ -15,14 +15,20 @@ returns-2 c = search branch depth 10 fits 20000
 returns-3 : tie.Need-returns-3
 returns-3 c = search branch depth 10 fits 20000
 
-needs-context-requires-2 : tie.Need-needs-context-requires-2
-needs-context-requires-2 c κs = search needs
+is-ascii-requires : tie.Need-is-ascii-requires
+is-ascii-requires c κs = search needs
 
 returns-4 : tie.Need-returns-4
 returns-4 c = search branch depth 10 fits 20000
 
+needs-context-requires-2 : tie.Need-needs-context-requires-2
+needs-context-requires-2 c κs = search needs
+
 returns-5 : tie.Need-returns-5
 returns-5 c = search branch depth 10 fits 20000
+
+returns-6 : tie.Need-returns-6
+returns-6 c = search branch depth 10 fits 20000
 
 pub known-before-spec : {M : Type 1} → statement M
 known-before-spec =
@@ -32,6 +38,8 @@ known-before-spec =
     returns
     returns-2
     returns-3
-    needs-context-requires-2
+    is-ascii-requires
     returns-4
-    returns-5)
+    needs-context-requires-2
+    returns-5
+    returns-6)
