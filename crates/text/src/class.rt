@@ -166,6 +166,9 @@ pub(crate) fn class(profile: Profile, x: u32) -> u8
     if (0xAC00 <= x) & (x <= 0xD7A3) {
         return syllable_class(x);
     }
+    if (0x1F650 <= x) & (x <= 0x1F8FF) {
+        return OTHER;
+    }
     if (0x1FA00 <= x) & (x <= 0xE00FF) {
         return OTHER;
     }

@@ -34,13 +34,17 @@ returns-5 c = let w = in-range _ _ _ (c .before .if5 .taken) in syllable-class _
 
 returns-6 : tie.Need-returns-6
 unfolding quiet-test clear controls extends pictographs
-returns-6 c = let w = in-range _ _ _ (c .if6 .taken) in other-class _ 0x1FA00 0xE00FF _ tt (w .0) (w .1)
+returns-6 c = let w = in-range _ _ _ (c .if6 .taken) in other-class _ 0x1F650 0x1F8FF _ tt (w .0) (w .1)
+
+returns-7 : tie.Need-returns-7
+unfolding quiet-test clear controls extends pictographs
+returns-7 c = let w = in-range _ _ _ (c .if7 .taken) in other-class _ 0x1FA00 0xE00FF _ tt (w .0) (w .1)
 
 class-in-ranges-requires-2 : tie.Need-class-in-ranges-requires-2
 class-in-ranges-requires-2 c κs = search needs
 
-returns-7 : tie.Need-returns-7
-returns-7 c = search needs
+returns-8 : tie.Need-returns-8
+returns-8 c = search needs
 
 pub class-spec : {M : Type 1} → statement M
 class-spec =
@@ -55,5 +59,6 @@ class-spec =
     syllable-class-requires
     returns-5
     returns-6
+    returns-7
     class-in-ranges-requires-2
-    returns-7)
+    returns-8)
