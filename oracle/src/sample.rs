@@ -203,10 +203,13 @@ fn cut() -> Vec<Case> {
 
 /// A few lines at the limit of 4,096 bytes, and above it for each call.
 fn long_lines() -> Vec<Case> {
-    let pattern = b"ab c-d\t\xE6\xBC\xA2 ";
-    let line: Vec<u8> = pattern.iter().copied().cycle().take(4096).collect();
+    let repeated =
+        |pattern: &[u8]| -> Vec<u8> { pattern.iter().copied().cycle().take(4096).collect() };
+    let tabbed = repeated(b"ab c-d\t\xE6\xBC\xA2 ");
+    // one text: hundreds of spans drawn are more than the prover computes in one equation
+    let spaced = repeated(b"ab c-d \xE6\xBC\xA2 ");
     let above = vec![b'a'; 4097];
-    let accepted = [height(&line, 80, 2), draw_row(&line, 3, 2, 40, 1)];
+    let accepted = [height(&tabbed, 80, 2), draw_row(&spaced, 3, 2, 40, 1)];
     let refused = [
         convert(&above),
         read(&above, &[0, 1]),
