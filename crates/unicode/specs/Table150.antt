@@ -1,7 +1,8 @@
 -- The table of Unicode 15.0, as src/table_150.rt has it: parts of rows of three numbers. Written by tools/unicode-lookup.
 use Prim.Native.Nat.{ℕ}
-use mathlib.Core.List.{List, [], _∷_}
+use mathlib.Core.List.{List, [], _∷_, map}
 use lib.Dec.{T}
+use lib.ListN.{getD}
 use Rattle.unicode.specs.Table.{Row, rowsOf, joined, ascending}
 
 unfoldable pub part0 : List ℕ
@@ -1861,41 +1862,27 @@ part61 =
     0xe01f0 ∷ 0xe0fff ∷ 0x8 ∷
     []
 
-unfoldable pub group0 : List Row
-unfolding joined rowsOf part0 part1 part2 part3 part4 part5 part6 part7
-group0 = joined (rowsOf part0 ∷ rowsOf part1 ∷ rowsOf part2 ∷ rowsOf part3 ∷ rowsOf part4 ∷ rowsOf part5 ∷ rowsOf part6 ∷ rowsOf part7 ∷ [])
+-- the parts in order, in groups of 8
+unfoldable pub groups : List (List (List Row))
+unfolding rowsOf part0 part1 part2 part3 part4 part5 part6 part7 part8 part9 part10 part11 part12 part13 part14 part15 part16 part17 part18 part19 part20 part21 part22 part23 part24 part25 part26 part27 part28 part29 part30 part31 part32 part33 part34 part35 part36 part37 part38 part39 part40 part41 part42 part43 part44 part45 part46 part47 part48 part49 part50 part51 part52 part53 part54 part55 part56 part57 part58 part59 part60 part61
+groups =
+    (rowsOf part0 ∷ rowsOf part1 ∷ rowsOf part2 ∷ rowsOf part3 ∷ rowsOf part4 ∷ rowsOf part5 ∷ rowsOf part6 ∷ rowsOf part7 ∷ []) ∷
+    (rowsOf part8 ∷ rowsOf part9 ∷ rowsOf part10 ∷ rowsOf part11 ∷ rowsOf part12 ∷ rowsOf part13 ∷ rowsOf part14 ∷ rowsOf part15 ∷ []) ∷
+    (rowsOf part16 ∷ rowsOf part17 ∷ rowsOf part18 ∷ rowsOf part19 ∷ rowsOf part20 ∷ rowsOf part21 ∷ rowsOf part22 ∷ rowsOf part23 ∷ []) ∷
+    (rowsOf part24 ∷ rowsOf part25 ∷ rowsOf part26 ∷ rowsOf part27 ∷ rowsOf part28 ∷ rowsOf part29 ∷ rowsOf part30 ∷ rowsOf part31 ∷ []) ∷
+    (rowsOf part32 ∷ rowsOf part33 ∷ rowsOf part34 ∷ rowsOf part35 ∷ rowsOf part36 ∷ rowsOf part37 ∷ rowsOf part38 ∷ rowsOf part39 ∷ []) ∷
+    (rowsOf part40 ∷ rowsOf part41 ∷ rowsOf part42 ∷ rowsOf part43 ∷ rowsOf part44 ∷ rowsOf part45 ∷ rowsOf part46 ∷ rowsOf part47 ∷ []) ∷
+    (rowsOf part48 ∷ rowsOf part49 ∷ rowsOf part50 ∷ rowsOf part51 ∷ rowsOf part52 ∷ rowsOf part53 ∷ rowsOf part54 ∷ rowsOf part55 ∷ []) ∷
+    (rowsOf part56 ∷ rowsOf part57 ∷ rowsOf part58 ∷ rowsOf part59 ∷ rowsOf part60 ∷ rowsOf part61 ∷ []) ∷
+    []
 
-unfoldable pub group1 : List Row
-unfolding joined rowsOf part8 part9 part10 part11 part12 part13 part14 part15
-group1 = joined (rowsOf part8 ∷ rowsOf part9 ∷ rowsOf part10 ∷ rowsOf part11 ∷ rowsOf part12 ∷ rowsOf part13 ∷ rowsOf part14 ∷ rowsOf part15 ∷ [])
+abbrev pub group : ℕ → List Row
+group g = joined (getD groups g [])
 
-unfoldable pub group2 : List Row
-unfolding joined rowsOf part16 part17 part18 part19 part20 part21 part22 part23
-group2 = joined (rowsOf part16 ∷ rowsOf part17 ∷ rowsOf part18 ∷ rowsOf part19 ∷ rowsOf part20 ∷ rowsOf part21 ∷ rowsOf part22 ∷ rowsOf part23 ∷ [])
-
-unfoldable pub group3 : List Row
-unfolding joined rowsOf part24 part25 part26 part27 part28 part29 part30 part31
-group3 = joined (rowsOf part24 ∷ rowsOf part25 ∷ rowsOf part26 ∷ rowsOf part27 ∷ rowsOf part28 ∷ rowsOf part29 ∷ rowsOf part30 ∷ rowsOf part31 ∷ [])
-
-unfoldable pub group4 : List Row
-unfolding joined rowsOf part32 part33 part34 part35 part36 part37 part38 part39
-group4 = joined (rowsOf part32 ∷ rowsOf part33 ∷ rowsOf part34 ∷ rowsOf part35 ∷ rowsOf part36 ∷ rowsOf part37 ∷ rowsOf part38 ∷ rowsOf part39 ∷ [])
-
-unfoldable pub group5 : List Row
-unfolding joined rowsOf part40 part41 part42 part43 part44 part45 part46 part47
-group5 = joined (rowsOf part40 ∷ rowsOf part41 ∷ rowsOf part42 ∷ rowsOf part43 ∷ rowsOf part44 ∷ rowsOf part45 ∷ rowsOf part46 ∷ rowsOf part47 ∷ [])
-
-unfoldable pub group6 : List Row
-unfolding joined rowsOf part48 part49 part50 part51 part52 part53 part54 part55
-group6 = joined (rowsOf part48 ∷ rowsOf part49 ∷ rowsOf part50 ∷ rowsOf part51 ∷ rowsOf part52 ∷ rowsOf part53 ∷ rowsOf part54 ∷ rowsOf part55 ∷ [])
-
-unfoldable pub group7 : List Row
-unfolding joined rowsOf part56 part57 part58 part59 part60 part61
-group7 = joined (rowsOf part56 ∷ rowsOf part57 ∷ rowsOf part58 ∷ rowsOf part59 ∷ rowsOf part60 ∷ rowsOf part61 ∷ [])
-
+-- the parts one after the other
 unfoldable pub table150 : List Row
-unfolding joined group0 group1 group2 group3 group4 group5 group6 group7
-table150 = joined (group0 ∷ group1 ∷ group2 ∷ group3 ∷ group4 ∷ group5 ∷ group6 ∷ group7 ∷ [])
+unfolding joined groups
+table150 = joined (map joined groups)
 
 pub ascending150 : T (ascending table150)
 unfolding ascending table150

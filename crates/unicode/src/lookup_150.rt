@@ -1,7 +1,7 @@
 // The class and width of a scalar by Unicode 15.0. Written by tools/unicode-lookup.
 ghost use mathlib.Core.Path.{_≡_};
 ghost use Rattle.unicode.specs.Table.{kindIn};
-ghost use Rattle.unicode.specs.Table150.{table150, group0, group1, group2, group3, group4, group5, group6, group7};
+ghost use Rattle.unicode.specs.Table150.{table150, group};
 use super::rows::find_row;
 use super::table_150;
 
@@ -130,7 +130,7 @@ const FIRST_61: u32 = table_150::PART_61[0];
 
 // A group has so many parts; one is copied where it is looked in, since a constant that is borrowed is built where the function begins.
 fn group_0(x: u32) -> u32
-    ensures { λ r. ⌜ r ≡ kindIn group0 x ⌝ }
+    ensures { λ r. ⌜ r ≡ kindIn (group 0) x ⌝ }
 {
     if x < FIRST_1 {
         let rows = table_150::PART_0;
@@ -165,7 +165,7 @@ fn group_0(x: u32) -> u32
 }
 
 fn group_1(x: u32) -> u32
-    ensures { λ r. ⌜ r ≡ kindIn group1 x ⌝ }
+    ensures { λ r. ⌜ r ≡ kindIn (group 1) x ⌝ }
 {
     if x < FIRST_9 {
         let rows = table_150::PART_8;
@@ -200,7 +200,7 @@ fn group_1(x: u32) -> u32
 }
 
 fn group_2(x: u32) -> u32
-    ensures { λ r. ⌜ r ≡ kindIn group2 x ⌝ }
+    ensures { λ r. ⌜ r ≡ kindIn (group 2) x ⌝ }
 {
     if x < FIRST_17 {
         let rows = table_150::PART_16;
@@ -235,7 +235,7 @@ fn group_2(x: u32) -> u32
 }
 
 fn group_3(x: u32) -> u32
-    ensures { λ r. ⌜ r ≡ kindIn group3 x ⌝ }
+    ensures { λ r. ⌜ r ≡ kindIn (group 3) x ⌝ }
 {
     if x < FIRST_25 {
         let rows = table_150::PART_24;
@@ -270,7 +270,7 @@ fn group_3(x: u32) -> u32
 }
 
 fn group_4(x: u32) -> u32
-    ensures { λ r. ⌜ r ≡ kindIn group4 x ⌝ }
+    ensures { λ r. ⌜ r ≡ kindIn (group 4) x ⌝ }
 {
     if x < FIRST_33 {
         let rows = table_150::PART_32;
@@ -305,7 +305,7 @@ fn group_4(x: u32) -> u32
 }
 
 fn group_5(x: u32) -> u32
-    ensures { λ r. ⌜ r ≡ kindIn group5 x ⌝ }
+    ensures { λ r. ⌜ r ≡ kindIn (group 5) x ⌝ }
 {
     if x < FIRST_41 {
         let rows = table_150::PART_40;
@@ -340,7 +340,7 @@ fn group_5(x: u32) -> u32
 }
 
 fn group_6(x: u32) -> u32
-    ensures { λ r. ⌜ r ≡ kindIn group6 x ⌝ }
+    ensures { λ r. ⌜ r ≡ kindIn (group 6) x ⌝ }
 {
     if x < FIRST_49 {
         let rows = table_150::PART_48;
@@ -375,7 +375,7 @@ fn group_6(x: u32) -> u32
 }
 
 fn group_7(x: u32) -> u32
-    ensures { λ r. ⌜ r ≡ kindIn group7 x ⌝ }
+    ensures { λ r. ⌜ r ≡ kindIn (group 7) x ⌝ }
 {
     if x < FIRST_57 {
         let rows = table_150::PART_56;

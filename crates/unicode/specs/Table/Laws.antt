@@ -13,7 +13,7 @@ use Rattle.unicode.specs.Table.{Row, row, has, rowOf, ascending, ascendi
 abbrev pub none : ℕ → Row
 none x = row x x other 1
 
-and-T : (a b : Bool) → T (a && b) → T a × T b
+pub and-T : (a b : Bool) → T (a && b) → T a × T b
 and-T true b t = (tt, t)
 and-T false b t = absurd t
 
