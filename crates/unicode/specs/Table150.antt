@@ -1,9 +1,10 @@
 -- The table of Unicode 15.0, as src/table_150.rt has it: parts of rows of three numbers. Written by tools/unicode-lookup.
-use Prim.Native.Nat.{ℕ}
+use Prim.Native.Nat.{ℕ, _≤_}
 use mathlib.Core.List.{List, [], _∷_, map}
-use lib.Dec.{T}
+use lib.Dec.{T, leb, leb→le}
 use lib.ListN.{getD}
-use Rattle.unicode.specs.Table.{Row, rowsOf, joined, ascending}
+use Rattle.unicode.specs.Table.{Row, rowsOf, widthIn, joined, ascending}
+use Rattle.unicode.specs.Table.Laws.{every, each}
 
 unfoldable pub part0 : List ℕ
 part0 =
@@ -1887,3 +1888,7 @@ table150 = joined (map joined groups)
 pub ascending150 : T (ascending table150)
 unfolding ascending table150
 ascending150 = tt
+
+pub columns150 : (x : ℕ) → widthIn table150 x ≤ 2
+unfolding every table150
+columns150 x = leb→le _ 2 (each (λ r. leb (r .width) 2) table150 x tt tt)

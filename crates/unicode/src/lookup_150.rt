@@ -128,7 +128,7 @@ const FIRST_60: u32 = table_150::PART_60[0];
 
 const FIRST_61: u32 = table_150::PART_61[0];
 
-// A group has so many parts; one is copied where it is looked in, since a constant that is borrowed is built where the function begins.
+// Groups of 8 parts. A part is copied where it is looked in: constants that are borrowed are all built where a function begins.
 fn group_0(x: u32) -> u32
     ensures { λ r. ⌜ r ≡ kindIn (group 0) x ⌝ }
 {
@@ -401,7 +401,7 @@ fn group_7(x: u32) -> u32
     find_row(&rows, x)
 }
 
-// 4 times the class and the width.
+// The class and width of a scalar: 4 times the number of the class, and the width.
 pub fn find_150(x: u32) -> u32
     ensures { λ r. ⌜ r ≡ kindIn table150 x ⌝ }
 {

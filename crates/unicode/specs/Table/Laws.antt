@@ -1,13 +1,13 @@
 -- In an ascending table the rows before a row lie below it, and those after it above.
-use Prim.Native.Nat.{ℕ, suc, _≤_, _<_}
+use Prim.Native.Nat.{ℕ, suc, _/_, _%_, _≤_, _<_}
 use native.Mathlib.Omega.{arith}
-use mathlib.Core.Path.{_≡_, refl, sym, ap, _∙_}
+use mathlib.Core.Path.{_≡_, refl, ap, subst⁻¹, _∙_}
 use mathlib.Core.Bool.{Bool, true, false, cond, _&&_, and-false}
 use mathlib.Core.List.{List, [], _∷_, _++_}
 use borrow.Author.Tests.{le-leb, lt-leb}
 use lib.Dec.{T, leb, leb→le}
 use Rattle.unicode.specs.Classes.{other}
-use Rattle.unicode.specs.Table.{Row, row, has, rowOf, ascending, ascendingFrom}
+use Rattle.unicode.specs.Table.{Row, row, has, rowOf, classIn, widthIn, kindIn, ascending, ascendingFrom}
 
 -- in no row
 abbrev pub none : ℕ → Row
@@ -17,6 +17,11 @@ pub and-T : (a b : Bool) → T (a && b) → T a × T b
 and-T true b t = (tt, t)
 and-T false b t = absurd t
 
+pub cases {ℓ} : {X : Type ℓ} (b : Bool) → (b ≡ true → X) → (b ≡ false → X) → X
+cases true f g = f refl
+cases false f g = g refl
+
+-- what the first row and those after it have
 pub record First (b : ℕ) (r : Row) (t : List Row) : Type 0 where
   pub from : b ≤ r .low
   pub rises : r .low ≤ r .high
@@ -95,3 +100,24 @@ module _ (r : Row) (q : List Row) where
     pub after : r .high < x → rowOf (p ++ r ∷ q) x ≡ rowOf q x
     unfolding ascending rowOf
     after h = skip (omega (arith, rest-from p 0 a .rises)) ∙ rw (past r x h) refl
+
+-- ---- what the row of every scalar has
+
+unfoldable pub every : (Row → Bool) → List Row → Bool
+every q [] = true
+every q (r ∷ t) = q r && every q t
+
+pub each : (q : Row → Bool) (t : List Row) (x : ℕ) → T (every q t) → T (q (none x)) → T (q (rowOf t x))
+unfolding every rowOf
+each q [] x e n = n
+each q (r ∷ t) x e n =
+    let p = and-T (q r) (every q t) e in
+    cases (has r x) (λ h. subst⁻¹ (λ b. T (q (cond b r (rowOf t x)))) h (p .0)) (λ h. subst⁻¹ (λ b. T (q (cond b r (rowOf t x)))) h (each q t x (p .1) n))
+
+-- class and width out of one number
+module _ (t : List Row) (x : ℕ) (w : widthIn t x < 4) where
+  pub class-of : kindIn t x / 4 ≡ classIn t x
+  class-of = omega (arith, w)
+
+  pub width-of : kindIn t x % 4 ≡ widthIn t x
+  width-of = omega (arith, w)

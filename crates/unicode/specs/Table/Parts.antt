@@ -8,7 +8,7 @@ use borrow.Author.Tests.{lt-ltb, le-ltb, ltb-true, ltb-false}
 use lib.Dec.{T, ltb}
 use lib.ListN.{getD, List·getD-map}
 use Rattle.unicode.specs.Table.{Row, row, rowOf, kindOf, kindIn, ascending, ascendingFrom, joined}
-use Rattle.unicode.specs.Table.Laws.{First, and-T, first, first-back, skip, keep}
+use Rattle.unicode.specs.Table.Laws.{First, and-T, cases, first, first-back, skip, keep}
 
 -- its first scalar
 unfoldable pub begins : List Row → ℕ
@@ -58,10 +58,6 @@ unfolding joined ascending ascendingFrom
 part-ascends [] k a = tt
 part-ascends (t ∷ ts) zero a = front t (joined ts) a
 part-ascends (t ∷ ts) (suc k) a = part-ascends ts k (rest t (joined ts) a)
-
-cases {ℓ} : {X : Type ℓ} (b : Bool) → (b ≡ true → X) → (b ≡ false → X) → X
-cases true f g = f refl
-cases false f g = g refl
 
 append-none : (t : List Row) → t ++ [] ≡ t
 append-none [] = refl
