@@ -1,0 +1,2 @@
+pub mod FindRow
+pub mod Lookup150
