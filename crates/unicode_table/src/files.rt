@@ -1,6 +1,6 @@
 // The files that the arguments name, in the parts that the system hands over.
 ghost use Prim.Native.Nat.{_<_, _≤_};
-ghost use Rattle.unicode_table.specs.Files.{BytesRead, FileRead, AllRead};
+ghost use Rattle.unicode_table.specs.Files.{PartRead, PartsRead, FileRead, AllRead};
 use unicode_io::reading::Reading;
 use unicode_io::reading::begin;
 use unicode_io::reading::end_file;
@@ -15,7 +15,7 @@ pub(crate) struct Reach {
 
 // One part more; the file has ended where it is empty.
 fn more(cells: &mut [u32], fd: i32, path: &[u8], file: usize, before: Reading) -> Reach
-    ensures { λ r. ⌜ BytesRead file before (now (cells .entry)) (now (cells .exit)) r ⌝ }
+    ensures { λ r. ⌜ PartRead file before (now (cells .entry)) (now (cells .exit)) r ⌝ }
 {
     let mut buf = io::large_buffer();
     let got = libc::read(fd, &mut buf);
@@ -33,7 +33,7 @@ fn more(cells: &mut [u32], fd: i32, path: &[u8], file: usize, before: Reading) -
 
 // A file that is open. A proved loop has to end, so it counts its turns down, from a number that no run uses up.
 fn read_open(cells: &mut [u32], fd: i32, path: &[u8], file: usize, before: Reading) -> Reach
-    ensures { λ r. ⌜ BytesRead file before (now (cells .entry)) (now (cells .exit)) r ⌝ }
+    ensures { λ r. ⌜ PartsRead file before (now (cells .entry)) (now (cells .exit)) r ⌝ }
 {
     let mut state = Reach {
         reading: before,

@@ -5,7 +5,7 @@
 mod files;
 mod table;
 
-ghost use Prim.Native.Nat.{_≤_};
+ghost use Rattle.unicode_table.specs.Printed.{Begun, Made};
 use libc::STDERR_FILENO;
 use unicode_io::cells::classify;
 use unicode_io::reading::refusal_of;
@@ -17,21 +17,36 @@ fn usage() {
     );
 }
 
-// The table that so many files make, over cells of which none is filled yet.
-fn make(cells: &mut [u32], files: usize)
-    requires { ⌜ files ≤ 4 ⌝ }
+// Whether the files could be read, and whether the system took all that was printed.
+struct Outcome {
+    read: bool,
+    taken: bool,
+}
+
+// The table that so many files make, or a refusal.
+fn make(cells: &mut [u32], count: usize) -> Outcome
+    requires { ⌜ Begun (now cells) count ⌝ }
+    ensures { λ r. ⌜ Made count r ⌝ }
 {
-    let r = files::read_all(cells, files);
+    let r = files::read_all(cells, count);
     if r.failed {
-        return;
+        return Outcome {
+            read: false,
+            taken: false,
+        };
     }
     let refusal = refusal_of(r.reading);
     if 0 < refusal {
-        table::refuse(refusal);
-        return;
+        return Outcome {
+            read: true,
+            taken: table::refuse(refusal),
+        };
     }
     classify(cells);
-    table::print(cells);
+    Outcome {
+        read: true,
+        taken: table::print(cells),
+    }
 }
 
 fn main() {

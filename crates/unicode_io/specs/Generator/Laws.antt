@@ -14,7 +14,7 @@ use Rattle.unicode_io.specs.Names.{propertyOf, valueOf}
 use Rattle.unicode_io.specs.Names.Laws.{namesIn}
 use Rattle.unicode_io.specs.Line.{empty, entryOf}
 use Rattle.unicode_io.specs.Cells.{bitOf, isTaken, keptOf, classOf, widthOf, kindOf}
-use Rattle.unicode_io.specs.Reading.{State, stateOf, reading, lineEnded, bytesRead, fileEnded}
+use Rattle.unicode_io.specs.Reading.{State, stateOf, reading, lineEnded, bytesRead, fileEnded, refusalOf}
 use Rattle.unicode_io.specs.Rows.{rowsFrom}
 use Rattle.unicode_io.specs.Output.{tableText, refusal}
 use Rattle.unicode_io.specs.Entries.{says, nameAt, lineFrom, lineEntry, entriesFrom, entriesOf, malformed, overlap, classBy, widthBy, conjunctBy, kindBy, kindAt}
@@ -193,6 +193,14 @@ answer-same false false t u h = h refl
 -- what the program prints of a state after the last file
 abbrev pub printedOf : State → List ℕ
 printedOf s = answer (s .reading .malformed) (s .reading .overlap) (tableText (rowsFrom 0 (map kindOf (s .cells))))
+
+pub answer-refused : (m o : Bool) (table : List ℕ) (n : ℕ) → n ≡ refusalOf m o → 0 < n → refusal n ≡ answer m o table
+unfolding answer
+answer-refused m o table n e h = rw (← e, ne-eqb n 0 (λ z. omega (arith, z))) refl
+
+pub answer-table : (m o : Bool) (table : List ℕ) (n : ℕ) → n ≡ refusalOf m o → n ≤ 0 → table ≡ answer m o table
+unfolding answer
+answer-table m o table n e h = let z : n ≡ 0 = omega arith in rw (← e, eq-eqb n 0 z) refl
 
 or-false : (a : Bool) → a || false ≡ a
 or-false true = refl

@@ -1,22 +1,23 @@
 -- What the writers leave.
-use mathlib.Core.Path.{_≡_, refl, sym, ap, _∙_}
+use mathlib.Core.Path.{_≡_, refl, sym, ap, ap₂, _∙_}
 use Prim.Native.Nat.{ℕ, suc, _+_, _-_, _*_, _/_, _%_, _^_, _≤_, _<_}
 use native.Mathlib.Nat.{mod-lt}
 use native.Mathlib.Omega.{arith}
 use mathlib.Core.Bool.{Bool, true, false, cond, _||_}
 use mathlib.Core.List.{List, [], _∷_, _++_, append-assoc}
-use lib.ListN.{length, take, length-append}
+use lib.ListN.{length, take, drop, length-append}
+use lib.Seq.{take-append-seam}
 use lib.Dec.{eqb}
 use borrow.Author.Tests.{eq-eqb, ne-eqb}
 use Rattle.io.specs.Digits.{digits, Fewest}
 use Rattle.buffer.specs.Sink.{Sink, sink, put, emit}
-use Rattle.buffer.specs.Sink.Laws.{emit-none, emit-append, then-emit}
+use Rattle.buffer.specs.Sink.Laws.{emit-none, emit-append, then-emit, fitted}
 use Rattle.buffer.specs.Numbers.{smallerOf}
 use Rattle.buffer.specs.Numbers.Laws.{smaller-left}
 use Rattle.unicode_io.specs.Text.{ascii}
 use Rattle.unicode_io.specs.Digits.{decimal, hexadecimal}
 use Rattle.unicode_io.specs.Digits.Laws.{fewest-decimal, fewest-hexadecimal, decimal-length, hexadecimal-length}
-use Rattle.unicode_io.specs.Output.{numberLine, partSize, head, foot, numbers, headOf, footOf, rowText, refusal}
+use Rattle.unicode_io.specs.Output.{numberLine, partSize, head, foot, numbers, headOf, footOf, rowText, rowTexts, tableText, refusal}
 use Rattle.unicode_io.specs.declared.rows.Row.{Row}
 
 pub decimal-pushed : (n k : ℕ) (ds : List ℕ) (s z : Sink) → n < 10 ^ 20 → Fewest 10 1 n k → take k ds ≡ digits 10 k n → z ≡ emit s (take k ds) → z ≡ emit s (decimal n)
@@ -71,3 +72,67 @@ few-rows total size rest n h e k = omega (arith, smaller-left size rest n k)
 
 pub place-fits : (total i size : ℕ) → total < 18446744073709551616 → size ≡ partSize total → i % size + 1 < 18446744073709551616
 place-fits total i size h e = let k : i % size < size = mod-lt i (omega arith) in omega arith
+
+-- ---- a text that fits stands in the buffer
+
+pub text-pushed : (l xs l′ : List ℕ) (r : ℕ) → length xs ≤ length l → sink l′ r ≡ emit (sink l 0) xs → take r l′ ≡ xs
+text-pushed l xs l′ r h e = let f = fitted l xs l′ r e h in ap₂ take (f .0) (f .1) ∙ take-append-seam xs (drop (length xs) l)
+
+sum-length : (a b : List ℕ) (m n : ℕ) → length a ≤ m → length b ≤ n → length (a ++ b) ≤ m + n
+sum-length a b m n h k = omega (arith, length-append a b)
+
+number-length : (n : ℕ) → length (numberLine n) ≤ 24
+unfolding numberLine ascii
+number-length n = sum-length (ascii "    0x" ++ hexadecimal n) (ascii ",\n") 22 2 (sum-length (ascii "    0x") (hexadecimal n) 6 16 (omega arith) (hexadecimal-length n)) (omega arith)
+
+numbers-length : (r : Row) → length (numbers r) ≤ 72
+unfolding numbers
+numbers-length r = sum-length (numberLine (r .low) ++ numberLine (r .end - 1)) (numberLine (r .kind)) 48 24 (sum-length (numberLine (r .low)) (numberLine (r .end - 1)) 24 24 (number-length (r .low)) (number-length (r .end - 1))) (number-length (r .kind))
+
+head-length : (part rows : ℕ) → length (head part rows) ≤ 76
+unfolding head ascii
+head-length part rows =
+    let a : List ℕ = ascii "pub(crate) const PART_" in
+    let c : List ℕ = ascii ": [u32; " in
+    let e : List ℕ = ascii "] = [\n" in
+    sum-length (a ++ decimal part ++ c ++ decimal (rows * 3)) e 70 6
+    (sum-length (a ++ decimal part ++ c) (decimal (rows * 3)) 50 20 (sum-length (a ++ decimal part) c 42 8 (sum-length a (decimal part) 22 20 (omega arith) (decimal-length part)) (omega arith)) (decimal-length (rows * 3)))
+    (omega arith)
+
+or-none : (t : Bool) (x : List ℕ) (n : ℕ) → length x ≤ n → length (cond t x []) ≤ n
+or-none true x n h = h
+or-none false x n h = omega arith
+
+head-of-length : (total i : ℕ) → length (headOf total i) ≤ 76
+unfolding headOf
+head-of-length total i = or-none (eqb (i % partSize total) 0) _ 76 (head-length (i / partSize total) (smallerOf (partSize total) (total - i)))
+
+foot-length : length foot ≤ 3
+unfolding foot ascii
+foot-length = omega arith
+
+foot-of-length : (total i : ℕ) → length (footOf total i) ≤ 3
+unfolding footOf
+foot-of-length total i = or-none (eqb (i % partSize total + 1) (partSize total) || eqb (total - i) 1) foot 3 foot-length
+
+pub row-length : (total i : ℕ) (r : Row) → length (rowText total i r) ≤ 256
+unfolding rowText
+row-length total i r = omega (arith, sum-length (headOf total i ++ numbers r) (footOf total i) 148 3 (sum-length (headOf total i) (numbers r) 76 72 (head-of-length total i) (numbers-length r)) (foot-of-length total i))
+
+pub refusal-length : (n : ℕ) → length (refusal n) ≤ 64
+unfolding refusal ascii
+refusal-length n = omega (arith, sum-length (ascii "refused " ++ decimal n) (ascii "\n") 28 1 (sum-length (ascii "refused ") (decimal n) 8 20 (omega arith) (decimal-length n)) (omega arith))
+
+-- ---- row by row
+
+pub texts-none : (total i : ℕ) → rowTexts total i [] ≡ []
+unfolding rowTexts
+texts-none total i = refl
+
+pub texts-more : (total i : ℕ) (r : Row) (rs : List Row) → rowTexts total i (r ∷ rs) ≡ rowText total i r ++ rowTexts total (suc i) rs
+unfolding rowTexts
+texts-more total i r rs = refl
+
+pub table-texts : (rs : List Row) → rowTexts (length rs) 0 rs ≡ tableText rs
+unfolding tableText
+table-texts rs = refl

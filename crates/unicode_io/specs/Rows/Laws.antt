@@ -202,6 +202,10 @@ module _ (kinds : List ℕ) (at : ℕ) (r : Row) (e : r ≡ nextRow at kinds) wh
       (λ (p : (low < length kinds) × (r ≡ row low (low + suc more) (getD kinds low 0))). omega (arith, ap (λ (x : Row). x .end) (p .1), leading-most (getD kinds low 0) (drop (suc low) kinds), length-drop (suc low) kinds))
       (λ (p : (length kinds ≤ low) × (r ≡ row low low 45)). omega (arith, ap (λ (x : Row). x .end) (p .1), leading-most 45 (drop at kinds), length-drop at kinds)) view
 
+pub no-rows : (rs : List Row) → length rs ≡ 0 → rs ≡ []
+no-rows [] e = refl
+no-rows (r ∷ rs) e = absurd (omega arith)
+
 pub record Counting (kinds : List ℕ) (n at : ℕ) : Type 0 where
   pub work : n + length (rowsFrom at (drop at kinds)) ≡ length (rowsFrom 0 kinds)
   pub few : n ≤ at

@@ -1,4 +1,5 @@
-use mathlib.Core.Path.{sym}
+use Rattle.unicode_table.specs.Printed.Laws.{begun}
+use mathlib.Core.Path.{refl, sym}
 use Prim.Native.Nat.{ℕ}
 use lib.ListN.{length-replicate}
 use borrow.Author.Needs.{needs}
@@ -27,7 +28,7 @@ sub-make : tie.Need-sub-make
 sub-make c = search needs
 
 make-requires : tie.Need-make-requires
-make-requires c κs = search needs
+make-requires c κs = begun 1114112 _ refl (search needs) (search needs)
 
 returns-3 : tie.Need-returns-3
 returns-3 c = search needs

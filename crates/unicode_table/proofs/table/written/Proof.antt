@@ -1,5 +1,6 @@
 use mathlib.Core.Path.{sym}
 use lib.Seq.{length-take-le}
+use Rattle.unicode_table.specs.Printed.Laws.{handed-all, handed-lost, not-handed}
 use borrow.Author.Needs.{needs}
 use Rattle.unicode_table.proofs.table.written.Statement.{statement}
 use Rattle.unicode_table.proofs.table.written.Tie as tie
@@ -11,7 +12,7 @@ write-all-requires : tie.Need-write-all-requires
 write-all-requires c κs = search needs
 
 returns : tie.Need-returns
-returns c = search needs
+returns c = search handed-all
 
 slice-aggregate-fail : tie.Need-slice-aggregate-fail
 slice-aggregate-fail c = search needs
@@ -20,10 +21,10 @@ fail-requires : tie.Need-fail-requires
 fail-requires c κs = search needs
 
 returns-2 : tie.Need-returns-2
-returns-2 c = search needs
+returns-2 c = search handed-lost
 
 returns-3 : tie.Need-returns-3
-returns-3 c = search needs
+returns-3 c = search not-handed
 
 pub written-spec : {M : Type 1} → statement M
 written-spec =
