@@ -5,8 +5,7 @@ use mathlib.Core.Bool.{Bool, true, false, cond, _&&_, _||_}
 use mathlib.Core.List.{List, [], _∷_, _++_}
 use lib.Dec.{eqb, leb}
 use Rattle.unicode_io.specs.Names.{propertyOf}
-use Rattle.unicode_io.specs.Line.{empty, withByte, entryOf}
-use Rattle.unicode_io.specs.declared.line.Line.{Line}
+use Rattle.unicode_io.specs.Grammar.{lineOf}
 use Rattle.unicode_io.specs.declared.line.Entry.{Entry}
 pub mod Laws
 pub mod Cell
@@ -16,19 +15,12 @@ pub mod Bytes
 
 -- ---- the entries of a file
 
-unfoldable pub lineFrom : Line → List ℕ → Line
-lineFrom l [] = l
-lineFrom l (b ∷ bs) = lineFrom (withByte l b) bs
-
-abbrev pub lineEntry : ℕ → List ℕ → Entry
-lineEntry file line = entryOf file (lineFrom empty line)
-
 -- a line ends at a newline or at the file's end
 unfoldable pub entriesFrom : ℕ → (line : List ℕ) → (found : List Entry) → List ℕ → List Entry
-unfolding lineFrom
-entriesFrom file line found [] = lineEntry file line ∷ found
+unfolding lineOf
+entriesFrom file line found [] = lineOf file line ∷ found
 entriesFrom file line found (b ∷ bs) =
-    let next : List Entry = entriesFrom file [] (lineEntry file line ∷ found) bs in
+    let next : List Entry = entriesFrom file [] (lineOf file line ∷ found) bs in
     let more : List Entry = entriesFrom file (line ++ b ∷ []) found bs in
     cond (eqb b 0x0A) next more
 

@@ -7,7 +7,7 @@ use lib.Dec.{eqb}
 use Rattle.unicode_io.specs.Reading.{refusalOf}
 use Rattle.unicode_io.specs.Rows.{rowsFrom}
 use Rattle.unicode_io.specs.Output.{tableText, refusal}
-use Rattle.unicode_io.specs.Entries.{entriesOf, malformed, overlap, kindAt}
+use Rattle.unicode_io.specs.Entries.{entriesFrom, entriesOf, malformed, overlap, kindAt}
 use Rattle.unicode_io.specs.declared.line.Entry.{Entry}
 pub mod Laws
 
@@ -22,11 +22,12 @@ unfolding kindsFrom
 tableOf breaks widths emojis derived = tableText (rowsFrom 0 (kindsFrom (kindAt breaks widths emojis derived) 0 0x110000))
 
 unfoldable pub answer : (wrong twice : Bool) → List ℕ → List ℕ
+unfolding refusal
 answer wrong twice table = cond (eqb (refusalOf wrong twice) 0) table (refusal (refusalOf wrong twice))
 
 -- three files
 unfoldable pub generated3 : (breaks widths emojis : List ℕ) → List ℕ
-unfolding answer tableOf
+unfolding answer tableOf entriesFrom malformed overlap
 generated3 b w e =
     let breaks : List Entry = entriesOf 0 b in
     let widths : List Entry = entriesOf 1 w in
@@ -35,7 +36,7 @@ generated3 b w e =
 
 -- four files
 unfoldable pub generated4 : (breaks widths emojis derived : List ℕ) → List ℕ
-unfolding answer tableOf
+unfolding answer tableOf entriesFrom malformed overlap
 generated4 b w e d =
     let breaks : List Entry = entriesOf 0 b in
     let widths : List Entry = entriesOf 1 w in

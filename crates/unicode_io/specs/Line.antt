@@ -1,5 +1,4 @@
--- A line of a file, byte by byte: spaces and a `#` comment aside, nothing, or one scalar or a rising `..` range of 4 to 6 capital hexadecimal
--- digits up to 10FFFF, `;` and a name that the file publishes. Spaces may stand between these parts, and around a `;` of a name.
+-- A line of a file as the code reads it, byte by byte, by a table of stages. Grammar says what a line is, and that they agree.
 use Prim.Native.Nat.{ℕ, _+_, _*_, _%_}
 use mathlib.Core.Bool.{Bool, true, false, cond, _&&_, _||_}
 use mathlib.Core.List.{List, [], _∷_}
@@ -81,6 +80,10 @@ withByte l b =
     (cond (eqb (nextStage (l .stage) b) 5) (withHigh l b)
     (cond (inName (l .stage) (nextStage (l .stage) b) b) (withName l (nextStage (l .stage) b) b)
     (atStage l (nextStage (l .stage) b))))))
+
+unfoldable pub lineFrom : Line → List ℕ → Line
+lineFrom l [] = l
+lineFrom l (b ∷ bs) = lineFrom (withByte l b) bs
 
 -- ---- what a line is: 0 nothing, 1 an entry, 2 a line of another form
 

@@ -9,43 +9,43 @@ use lib.Dec.{eqb, leb, ltb}
 use Rattle.unicode_io.specs.Text.{ascii}
 pub mod Laws
 
--- each name is followed by a space. Grapheme_Cluster_Break's stand in the order of the classes' numbers
-unfoldable pub breakNames : List ℕ
+-- Grapheme_Cluster_Break's stand in the order of the classes' numbers
+unfoldable pub breakNames : List (List ℕ)
 unfolding ascii
-breakNames = ascii "CR LF Control Extend ZWJ L V T LV LVT Regional_Indicator Prepend SpacingMark "
+breakNames = ascii "CR" ∷ ascii "LF" ∷ ascii "Control" ∷ ascii "Extend" ∷ ascii "ZWJ" ∷ ascii "L" ∷ ascii "V" ∷ ascii "T" ∷ ascii "LV" ∷ ascii "LVT" ∷ ascii "Regional_Indicator" ∷ ascii "Prepend" ∷ ascii "SpacingMark" ∷ []
 
-unfoldable pub widthNames : List ℕ
+unfoldable pub widthNames : List (List ℕ)
 unfolding ascii
-widthNames = ascii "A H N Na F W "
+widthNames = ascii "A" ∷ ascii "H" ∷ ascii "N" ∷ ascii "Na" ∷ ascii "F" ∷ ascii "W" ∷ []
 
-unfoldable pub emojiNames : List ℕ
+unfoldable pub emojiNames : List (List ℕ)
 unfolding ascii
-emojiNames = ascii "Emoji Emoji_Presentation Emoji_Modifier Emoji_Modifier_Base Emoji_Component Extended_Pictographic "
+emojiNames = ascii "Emoji" ∷ ascii "Emoji_Presentation" ∷ ascii "Emoji_Modifier" ∷ ascii "Emoji_Modifier_Base" ∷ ascii "Emoji_Component" ∷ ascii "Extended_Pictographic" ∷ []
 
 -- the spaces around the semicolon of Indic_Conjunct_Break's lines are left out
-unfoldable pub derivedNames : List ℕ
+unfoldable pub derivedNames : List (List ℕ)
 unfolding ascii
-derivedNames = ascii "Alphabetic Case_Ignorable Cased Changes_When_Casefolded Changes_When_Casemapped Changes_When_Lowercased Changes_When_Titlecased Changes_When_Uppercased Default_Ignorable_Code_Point Grapheme_Base Grapheme_Extend Grapheme_Link ID_Continue ID_Start Lowercase Math Uppercase XID_Continue XID_Start InCB;Linker InCB;Consonant InCB;Extend "
+derivedNames = ascii "Alphabetic" ∷ ascii "Case_Ignorable" ∷ ascii "Cased" ∷ ascii "Changes_When_Casefolded" ∷ ascii "Changes_When_Casemapped" ∷ ascii "Changes_When_Lowercased" ∷ ascii "Changes_When_Titlecased" ∷ ascii "Changes_When_Uppercased" ∷ ascii "Default_Ignorable_Code_Point" ∷ ascii "Grapheme_Base" ∷ ascii "Grapheme_Extend" ∷ ascii "Grapheme_Link" ∷ ascii "ID_Continue" ∷ ascii "ID_Start" ∷ ascii "Lowercase" ∷ ascii "Math" ∷ ascii "Uppercase" ∷ ascii "XID_Continue" ∷ ascii "XID_Start" ∷ ascii "InCB;Linker" ∷ ascii "InCB;Consonant" ∷ ascii "InCB;Extend" ∷ []
 
-unfoldable pub namesOf : ℕ → List ℕ
+unfoldable pub namesOf : ℕ → List (List ℕ)
+unfolding breakNames widthNames emojiNames derivedNames
 namesOf file = cond (eqb file 0) breakNames (cond (eqb file 1) widthNames (cond (eqb file 2) emojiNames derivedNames))
 
--- how many bytes of the word agree with a name so far; one more than it has once one does not
-unfoldable pub agreeing : List ℕ → ℕ → ℕ → ℕ
-agreeing word at b = cond (ltb at (length word) && eqb (getD word at 0) b) (at + 1) (length word + 1)
+unfoldable pub same : List ℕ → List ℕ → Bool
+same [] [] = true
+same [] (y ∷ ys) = false
+same (x ∷ xs) [] = false
+same (x ∷ xs) (y ∷ ys) = eqb x y && same xs ys
 
--- the number of a word among the names of a list; 0 where it is none of them
-unfoldable pub numberFrom : List ℕ → ℕ → ℕ → List ℕ → ℕ
-unfolding agreeing
-numberFrom word number at [] = 0
-numberFrom word number at (b ∷ bs) =
-    let after : ℕ = numberFrom word (number + 1) 0 bs in
-    let within : ℕ = numberFrom word number (agreeing word at b) bs in
-    cond (eqb b 0x20) (cond (eqb at (length word)) number after) within
+-- the number of a word among names, counted from n on; 0 where it is none of them
+unfoldable pub position : List ℕ → ℕ → List (List ℕ) → ℕ
+unfolding same
+position word n [] = 0
+position word n (x ∷ xs) = let further : ℕ = position word (n + 1) xs in cond (same word x) n further
 
 unfoldable pub nameNumber : ℕ → List ℕ → ℕ
-unfolding namesOf numberFrom
-nameNumber file word = numberFrom word 1 0 (namesOf file)
+unfolding namesOf position
+nameNumber file word = position word 1 (namesOf file)
 
 -- the property of a name: Grapheme_Cluster_Break and East_Asian_Width are one each, of the other files each name is one, but
 -- Indic_Conjunct_Break's values are one together
@@ -60,3 +60,21 @@ valueOf file name =
     (cond (eqb file 1) (cond (leb 5 name) 16 0)
     (cond (eqb file 2) (cond (eqb name 6) 32 0)
     (cond (leb 20 name) (64 * (name - 19)) 0)))
+
+-- ---- as the code looks for a word: the names in one text, each with a space after it
+
+unfoldable pub joined : List (List ℕ) → List ℕ
+joined [] = []
+joined (x ∷ xs) = x ++ 0x20 ∷ joined xs
+
+-- how many bytes of the word agree with a name so far; one more than it has once one does not
+unfoldable pub agreeing : List ℕ → ℕ → ℕ → ℕ
+agreeing word at b = cond (ltb at (length word) && eqb (getD word at 0) b) (at + 1) (length word + 1)
+
+unfoldable pub numberFrom : List ℕ → ℕ → ℕ → List ℕ → ℕ
+unfolding agreeing
+numberFrom word number at [] = 0
+numberFrom word number at (b ∷ bs) =
+    let next : ℕ = numberFrom word (number + 1) 0 bs in
+    let within : ℕ = numberFrom word number (agreeing word at b) bs in
+    cond (eqb b 0x20) (cond (eqb at (length word)) number next) within

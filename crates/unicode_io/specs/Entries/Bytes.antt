@@ -10,10 +10,12 @@ use lib.Dec.{eqb, leb, ltb}
 use borrow.Author.Tests.{eq-eqb, ne-eqb, eqb-true, eqb-false, leb-true, ltb-true}
 use Rattle.unicode_io.specs.Names.{nameNumber}
 use Rattle.unicode_io.specs.Names.Laws.{namesIn, name-few, name-most}
-use Rattle.unicode_io.specs.Line.{empty, withByte, entryOf, ranged, isScalar, entry, nothing, otherForm}
+use Rattle.unicode_io.specs.Grammar.{lineOf}
+use Rattle.unicode_io.specs.Grammar.Laws.{line-is}
+use Rattle.unicode_io.specs.Line.{empty, withByte, lineFrom, entryOf, ranged, isScalar, entry, nothing, otherForm}
 use Rattle.unicode_io.specs.Reading.{State, stateOf, reading, withEntry, lineEnded, byteRead, bytesRead, takenByEntry, fillEntry}
 use Rattle.unicode_io.specs.Reading.Laws.{ended-nothing, ended-other, ended-overlapped, ended-entry, byte-newline, byte-more}
-use Rattle.unicode_io.specs.Entries.{isEntry, meet, meetsAny, overlap, malformed, lineFrom, lineEntry, entriesFrom}
+use Rattle.unicode_io.specs.Entries.{isEntry, meet, meetsAny, overlap, malformed, entriesFrom}
 use Rattle.unicode_io.specs.Entries.Fill.{never, and-left, and-right}
 use Rattle.unicode_io.specs.Entries.Steps.{Good, AllGood, Tells, tells-past, tells-entry, taken-meets}
 use Rattle.unicode_io.specs.declared.line.Number.{Number}
@@ -46,7 +48,7 @@ good-ranged file low high name f m = by-cases (isScalar low) (eqb (high .digits)
     by-cases true false false v a b c = good-other file
     by-cases false t u v a b c = good-other file
 
-pub good-line : (file : ℕ) (l : Line) → Good file (entryOf file l)
+good-line : (file : ℕ) (l : Line) → Good file (entryOf file l)
 unfolding entryOf
 good-line file l = by-cases (eqb (l .stage) 0) (leb 8 (l .stage) && leb (l .stage) 9) (eqb (nameNumber file (take (l .count) (l .name))) 0)
   where
@@ -55,6 +57,9 @@ good-line file l = by-cases (eqb (l .stage) 0) (leb 8 (l .stage) && leb (l .stag
     by-cases false true true = good-other file
     by-cases false true false = good-ranged file (l .low) (l .high) (nameNumber file (take (l .count) (l .name))) (name-few file (take (l .count) (l .name))) (name-most file (take (l .count) (l .name)))
     by-cases false false u = good-other file
+
+pub good-of : (file : ℕ) (line : List ℕ) → Good file (lineOf file line)
+good-of file line = subst (Good file) (line-is file line) (good-line file (lineFrom empty line))
 
 -- ---- entry by entry
 
@@ -148,11 +153,11 @@ unfolding lineFrom
 line-more [] b l = refl
 line-more (x ∷ line) b l = line-more line b (withByte l x)
 
-entries-last : (file : ℕ) (line : List ℕ) (es : List Entry) → entriesFrom file line es [] ≡ lineEntry file line ∷ es
+entries-last : (file : ℕ) (line : List ℕ) (es : List Entry) → entriesFrom file line es [] ≡ lineOf file line ∷ es
 unfolding entriesFrom
 entries-last file line es = refl
 
-entries-newline : (file : ℕ) (line : List ℕ) (es : List Entry) (b : ℕ) (bs : List ℕ) → eqb b 0x0A ≡ true → entriesFrom file line es (b ∷ bs) ≡ entriesFrom file [] (lineEntry file line ∷ es) bs
+entries-newline : (file : ℕ) (line : List ℕ) (es : List Entry) (b : ℕ) (bs : List ℕ) → eqb b 0x0A ≡ true → entriesFrom file line es (b ∷ bs) ≡ entriesFrom file [] (lineOf file line ∷ es) bs
 unfolding entriesFrom
 entries-newline file line es b bs e = rw e refl
 
@@ -186,8 +191,8 @@ ended-line file e s = by-cases (eqb (e .kind) 0) (eqb (e .kind) 2) (s .reading .
     by-cases false false false = refl
 
 module _ (file : ℕ) (kept : ℕ → ℕ) (room : (x : ℕ) → kept x ≤ 63) (m₀ o₀ : Bool) where
-  ended : (s : State) (line : List ℕ) (es : List Entry) → s .reading .line ≡ lineFrom empty line → Stands file kept m₀ o₀ es s → Stands file kept m₀ o₀ (lineEntry file line ∷ es) (lineEnded file s)
-  ended s line es l h = subst (λ (x : Line). Stands file kept m₀ o₀ (entryOf file x ∷ es) (lineEnded file s)) l (stands-more file kept room m₀ o₀ es s h (entryOf file (s .reading .line)) (good-line file (s .reading .line)))
+  ended : (s : State) (line : List ℕ) (es : List Entry) → s .reading .line ≡ lineFrom empty line → Stands file kept m₀ o₀ es s → Stands file kept m₀ o₀ (lineOf file line ∷ es) (lineEnded file s)
+  ended s line es l h = subst (λ (e : Entry). Stands file kept m₀ o₀ (e ∷ es) (lineEnded file s)) (ap (entryOf file) l ∙ line-is file line) (stands-more file kept room m₀ o₀ es s h (entryOf file (s .reading .line)) (good-line file (s .reading .line)))
 
   pub file-stands : (bs : List ℕ) (s : State) (line : List ℕ) (es : List Entry) → s .reading .line ≡ lineFrom empty line → Stands file kept m₀ o₀ es s → Stands file kept m₀ o₀ (entriesFrom file line es bs) (lineEnded file (bytesRead file s bs))
   file-stands [] s line es l h = rw (entries-last file line es, bytes-none file s) (ended s line es l h)
@@ -197,7 +202,7 @@ module _ (file : ℕ) (kept : ℕ → ℕ) (room : (x : ℕ) → kept x ≤ 63) 
       by-case true e hyp =
           let next : lineEnded file s ≡ byteRead file s b = byte-newline file (s .reading) (s .cells) b (lineEnded file s .reading) (lineEnded file s .cells) (eqb-true b 0x0A e) refl in
           rw (entries-newline file line es b bs e, bytes-more file s b bs, ← next)
-          (hyp (lineEnded file s) [] (lineEntry file line ∷ es) (ended-line file (entryOf file (s .reading .line)) s ∙ sym line-empty) (ended s line es l h))
+          (hyp (lineEnded file s) [] (lineOf file line ∷ es) (ended-line file (entryOf file (s .reading .line)) s ∙ sym line-empty) (ended s line es l h))
       by-case false e hyp =
           let line′ : Line = withByte (s .reading .line) b in
           let s′ : State = stateOf (reading line′ (s .reading .malformed) (s .reading .overlap)) (s .cells) in

@@ -12,15 +12,16 @@ use lib.Dec.{eqb, leb, ltb}
 use borrow.Author.Tests.{eq-eqb, ne-eqb, eqb-true, eqb-false, leb-true, leb-false}
 use Rattle.unicode_io.specs.Names.{propertyOf, valueOf}
 use Rattle.unicode_io.specs.Names.Laws.{namesIn}
-use Rattle.unicode_io.specs.Line.{empty, entryOf}
+use Rattle.unicode_io.specs.Grammar.{lineOf}
+use Rattle.unicode_io.specs.Line.{empty, lineFrom, entryOf}
 use Rattle.unicode_io.specs.Cells.{bitOf, isTaken, keptOf, classOf, widthOf, kindOf}
 use Rattle.unicode_io.specs.Reading.{State, stateOf, reading, lineEnded, bytesRead, fileEnded, refusalOf}
 use Rattle.unicode_io.specs.Rows.{rowsFrom}
 use Rattle.unicode_io.specs.Output.{tableText, refusal}
-use Rattle.unicode_io.specs.Entries.{says, nameAt, lineFrom, lineEntry, entriesFrom, entriesOf, malformed, overlap, classBy, widthBy, conjunctBy, kindBy, kindAt}
+use Rattle.unicode_io.specs.Entries.{says, nameAt, entriesFrom, entriesOf, malformed, overlap, classBy, widthBy, conjunctBy, kindBy, kindAt}
 use Rattle.unicode_io.specs.Entries.Cell.{covered, valued, Holds}
 use Rattle.unicode_io.specs.Entries.Steps.{Good, AllGood, Tells}
-use Rattle.unicode_io.specs.Entries.Bytes.{Stands, file-stands, ended-line, good-line}
+use Rattle.unicode_io.specs.Entries.Bytes.{Stands, file-stands, ended-line, good-of}
 use Rattle.unicode_io.specs.Generator.{kindsFrom, tableOf, answer, generated3, generated4}
 use Rattle.unicode_io.specs.declared.line.Entry.{Entry}
 
@@ -92,10 +93,10 @@ ended-empty file s = ended-line file (entryOf file (s .reading .line)) s
 
 good-from : (file : ℕ) (bs line : List ℕ) (found : List Entry) → AllGood file found → AllGood file (entriesFrom file line found bs)
 unfolding entriesFrom
-good-from file [] line found g = (good-line file (lineFrom empty line), g)
-good-from file (b ∷ bs) line found g = by-case (eqb b 0x0A) (good-from file bs [] (lineEntry file line ∷ found) (good-line file (lineFrom empty line), g)) (good-from file bs (line ++ b ∷ []) found g)
+good-from file [] line found g = (good-of file line, g)
+good-from file (b ∷ bs) line found g = by-case (eqb b 0x0A) (good-from file bs [] (lineOf file line ∷ found) (good-of file line, g)) (good-from file bs (line ++ b ∷ []) found g)
   where
-    by-case : (t : Bool) → AllGood file (entriesFrom file [] (lineEntry file line ∷ found) bs) → AllGood file (entriesFrom file (line ++ b ∷ []) found bs) → AllGood file (cond t (entriesFrom file [] (lineEntry file line ∷ found) bs) (entriesFrom file (line ++ b ∷ []) found bs))
+    by-case : (t : Bool) → AllGood file (entriesFrom file [] (lineOf file line ∷ found) bs) → AllGood file (entriesFrom file (line ++ b ∷ []) found bs) → AllGood file (cond t (entriesFrom file [] (lineOf file line ∷ found) bs) (entriesFrom file (line ++ b ∷ []) found bs))
     by-case true p q = p
     by-case false p q = q
 
