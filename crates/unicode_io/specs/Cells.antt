@@ -44,7 +44,7 @@ keptOf c = c % 256
 
 -- a break class goes before Extended_Pictographic
 unfoldable pub classOf : ℕ → ℕ
-classOf c = cond (eqb (c % 16) 0) (cond (eqb (c / 32 % 2) 1) 14 11) (cond (leb (c % 16) 11) (c % 16 - 1) (c % 16))
+classOf c = cond (eqb (c % 16) 0) (cond (eqb (c / 32 % 2) 1) 12 11) (cond (leb (c % 16) 11) (c % 16 - 1) (c % 16 + 1))
 
 -- CR, LF, Control, Extend, ZWJ, V and T have width 0; else W and F have 2, others 1
 unfoldable pub widthOf : ℕ → ℕ

@@ -61,9 +61,10 @@ unfoldable pub nameAt : ℕ → ℕ → List Entry → ℕ → ℕ
 nameAt file p [] x = 0
 nameAt file p (e ∷ es) x = cond (says file p x e) (e .name) (nameAt file p es x)
 
--- a break class goes before Extended_Pictographic; 11 is no class
+-- the class by the numbers of the names in their files, in the segmenter's numbers: CR to Regional_Indicator 0 to 10, none 11,
+-- Extended_Pictographic 12, Prepend 13, SpacingMark 14; a break class goes before Extended_Pictographic
 unfoldable pub classBy : ℕ → ℕ → ℕ
-classBy break emoji = cond (eqb break 0) (cond (eqb emoji 6) 14 11) (cond (leb break 11) (break - 1) break)
+classBy break emoji = cond (eqb break 0) (cond (eqb emoji 6) 12 11) (cond (leb break 11) (break - 1) (break + 1))
 
 -- CR, LF, Control, Extend, ZWJ, V and T have width 0; else F and W have 2, others 1
 unfoldable pub widthBy : ℕ → ℕ → ℕ

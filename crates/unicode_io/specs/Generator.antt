@@ -4,7 +4,6 @@ use Prim.Native.Nat.{ℕ, zero, suc}
 use mathlib.Core.Bool.{Bool, true, false, cond, _||_}
 use mathlib.Core.List.{List, [], _∷_}
 use lib.Dec.{eqb}
-use Rattle.unicode_io.specs.Reading.{refusalOf}
 use Rattle.unicode_io.specs.Rows.{rowsFrom}
 use Rattle.unicode_io.specs.Output.{tableText, refusal}
 use Rattle.unicode_io.specs.Entries.{entriesFrom, entriesOf, malformed, overlap, kindAt}
@@ -20,6 +19,10 @@ kindsFrom f at (suc n) = f at ∷ kindsFrom f (suc at) n
 unfoldable pub tableOf : (breaks widths emojis derived : List Entry) → List ℕ
 unfolding kindsFrom
 tableOf breaks widths emojis derived = tableText (rowsFrom 0 (kindsFrom (kindAt breaks widths emojis derived) 0 0x110000))
+
+-- 13 goes before 14; 0: no refusal
+abbrev pub refusalOf : (malformed overlap : Bool) → ℕ
+refusalOf malformed overlap = cond malformed 13 (cond overlap 14 0)
 
 unfoldable pub answer : (wrong twice : Bool) → List ℕ → List ℕ
 unfolding refusal

@@ -19,9 +19,14 @@ numberLine n = ascii "    0x" ++ hexadecimal n ++ ascii ",\n"
 abbrev pub partSize : ℕ → ℕ
 partSize total = total / 64 + 1
 
+-- a blank line stands between two constants
+unfoldable pub gap : ℕ → List ℕ
+unfolding ascii
+gap part = cond (eqb part 0) [] (ascii "\n")
+
 unfoldable pub head : ℕ → ℕ → List ℕ
-unfolding ascii decimal
-head part rows = ascii "pub(crate) const PART_" ++ decimal part ++ ascii ": [u32; " ++ decimal (rows * 3) ++ ascii "] = [\n"
+unfolding ascii decimal gap
+head part rows = gap part ++ ascii "pub(crate) const PART_" ++ decimal part ++ ascii ": [u32; " ++ decimal (rows * 3) ++ ascii "] = [\n"
 
 unfoldable pub foot : List ℕ
 unfolding ascii

@@ -54,7 +54,3 @@ bytesRead file s (b ∷ bs) = bytesRead file (byteRead file s b) bs
 -- the end of a file ends its last line, and what is kept of the cells goes on to the next
 abbrev pub fileEnded : ℕ → State → State
 fileEnded file s = stateOf (lineEnded file s .reading) (map keptOf (lineEnded file s .cells))
-
--- 13 is asked of every line of every file before 14 of any; 0: no refusal
-abbrev pub refusalOf : (malformed overlap : Bool) → ℕ
-refusalOf malformed overlap = cond malformed 13 (cond overlap 14 0)

@@ -9,7 +9,7 @@ use Rattle.unicode_io.specs.Text.{ascii}
 use Rattle.unicode_io.specs.Line.{entry, nothing, otherForm}
 use Rattle.unicode_io.specs.Grammar.{lineOf}
 use Rattle.unicode_io.specs.Rows.{row, rowsFrom}
-use Rattle.unicode_io.specs.Output.{tableText, refusal}
+use Rattle.unicode_io.specs.Output.{headOf, tableText, refusal}
 use Rattle.unicode_io.specs.Generator.{generated3}
 use Rattle.unicode_io.specs.Entries.{entriesFrom, entriesOf, malformed, overlap, kindBy, kindAt}
 use Rattle.unicode_io.specs.declared.line.Entry.{Entry}
@@ -67,8 +67,8 @@ unmet : overlaps 1 "0041..0045;W\n0046..0050;F" ∷ overlaps 2 "0041;Emoji\n0041
 unfolding overlap entriesFrom ascii
 unmet = refl
 
--- no class; L and W; V; Extended_Pictographic and W; Extend before Extended_Pictographic; a Consonant
-kinds : kindBy 0 0 0 0 ∷ kindBy 6 6 0 0 ∷ kindBy 7 6 0 0 ∷ kindBy 0 6 6 0 ∷ kindBy 4 1 6 0 ∷ kindBy 0 3 0 21 ∷ [] ≡ 45 ∷ 22 ∷ 24 ∷ 58 ∷ 12 ∷ 173 ∷ []
+-- no class; L and W; V; Extended_Pictographic and W; Extend before Extended_Pictographic; a Consonant; Regional_Indicator, Prepend, SpacingMark
+kinds : kindBy 0 0 0 0 ∷ kindBy 6 6 0 0 ∷ kindBy 7 6 0 0 ∷ kindBy 0 6 6 0 ∷ kindBy 4 1 6 0 ∷ kindBy 0 3 0 21 ∷ kindBy 11 1 0 0 ∷ kindBy 12 1 0 0 ∷ kindBy 13 3 0 0 ∷ [] ≡ 45 ∷ 22 ∷ 24 ∷ 50 ∷ 12 ∷ 173 ∷ 41 ∷ 53 ∷ 57 ∷ []
 unfolding kindBy
 kinds = refl
 
@@ -83,6 +83,11 @@ text = refl
 refused : refusal 13 ≡ ascii "refused 13\n"
 unfolding refusal ascii
 refused = refl
+
+-- 65 rows are parts of two; the third begins the second part
+part : headOf 65 2 ≡ ascii "\npub(crate) const PART_1: [u32; 6] = [\n"
+unfolding headOf ascii
+part = refl
 
 -- ---- files
 

@@ -84,14 +84,14 @@ fn class(cell: u32) -> u32
     let c = cell % 16;
     if c == 0 {
         if cell / 32 % 2 == 1 {
-            return 14;
+            return 12;
         }
         return 11;
     }
     if c <= 11 {
         return c - 1;
     }
-    c
+    c + 1
 }
 
 fn width(cell: u32) -> u32

@@ -3,7 +3,7 @@ ghost use mathlib.Core.Path.{_≡_};
 ghost use Prim.Native.Nat.{_-_, _≤_};
 ghost use Rattle.buffer.specs.Sink.{sink, emit};
 ghost use Rattle.unicode_io.specs.Digits.{decimal, hexadecimal};
-ghost use Rattle.unicode_io.specs.Output.{numberLine, partSize, head, numbers, headOf, footOf, rowText, refusal};
+ghost use Rattle.unicode_io.specs.Output.{numberLine, partSize, gap, head, numbers, headOf, footOf, rowText, refusal};
 use super::rows::Row;
 use buffer::push_bytes;
 use buffer::smaller;
@@ -51,11 +51,22 @@ fn push_numbers(out: &mut [u8], at: usize, row: Row) -> usize
     push_number(out, b, row.kind as usize)
 }
 
+// A blank line stands between two constants.
+fn push_gap(out: &mut [u8], at: usize, part: usize) -> usize
+    ensures { λ r. ⌜ sink (now (out .exit)) r ≡ emit (sink (now (out .entry)) at) (gap part) ⌝ }
+{
+    if part == 0 {
+        return at;
+    }
+    push_bytes(out, at, b"\n")
+}
+
 fn push_head(out: &mut [u8], at: usize, part: usize, rows: usize) -> usize
     requires { ⌜ rows ≤ 1152921504606846976 ⌝ }
     ensures { λ r. ⌜ sink (now (out .exit)) r ≡ emit (sink (now (out .entry)) at) (head part rows) ⌝ }
 {
-    let a = push_bytes(out, at, b"pub(crate) const PART_");
+    let g = push_gap(out, at, part);
+    let a = push_bytes(out, g, b"pub(crate) const PART_");
     let b = push_decimal(out, a, part);
     let c = push_bytes(out, b, b": [u32; ");
     let d = push_decimal(out, c, rows * 3);

@@ -128,11 +128,11 @@ bit-end bit i n e h k = let q : i ≡ n = omega arith in rw q at e
 
 -- ---- kinds
 
-pub class-small : (c : ℕ) → classOf c ≤ 15
+pub class-small : (c : ℕ) → classOf c ≤ 16
 unfolding classOf
 class-small c = by-cases (eqb (c % 16) 0) (eqb (c / 32 % 2) 1) (leb (c % 16) 11)
   where
-    by-cases : (s t u : Bool) → cond s (cond t 14 11) (cond u (c % 16 - 1) (c % 16)) ≤ 15
+    by-cases : (s t u : Bool) → cond s (cond t 12 11) (cond u (c % 16 - 1) (c % 16 + 1)) ≤ 16
     by-cases true true u = omega arith
     by-cases true false u = omega arith
     by-cases false t true = omega arith

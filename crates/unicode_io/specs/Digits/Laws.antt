@@ -10,6 +10,7 @@ use lib.ListN.{length, length-append}
 use lib.Dec.{eqb, leb, ltb}
 use borrow.Author.Tests.{ne-eqb, ltb-true, ltb-false, leb-true, leb-false}
 use Rattle.io.specs.Digits.{digits, glyph, Fewest}
+use Rattle.unicode_io.specs.Tests.{le-or-lt}
 use Rattle.unicode_io.specs.Digits.{withoutZeros, decimal, hexadecimal}
 
 zero-dropped : (l : List ℕ) → 0 < length l → withoutZeros (0x30 ∷ l) ≡ withoutZeros l
@@ -32,11 +33,6 @@ digit-kept x (y ∷ l) h = rw (ne-eqb x 0x30 h)
 one-kept : (x : ℕ) → withoutZeros (x ∷ []) ≡ x ∷ []
 unfolding withoutZeros
 one-kept x = refl
-
-le-or-lt : (a b : ℕ) → (a ≤ b) ⊎ (b < a)
-le-or-lt zero b = inl (omega arith)
-le-or-lt (suc a) zero = inr (omega arith)
-le-or-lt (suc a) (suc b) = ⊎-elim (λ (p : a ≤ b). inl (omega arith)) (λ (q : b < a). inr (omega arith)) (le-or-lt a b)
 
 module _ (b : ℕ) (base : 0 < b) where
   digits-length : (k n : ℕ) → length (digits b k n) ≡ k

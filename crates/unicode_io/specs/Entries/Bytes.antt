@@ -8,6 +8,7 @@ use mathlib.Core.List.{List, [], _∷_, _++_}
 use lib.ListN.{length, take, getD}
 use lib.Dec.{eqb, leb, ltb}
 use borrow.Author.Tests.{eq-eqb, ne-eqb, eqb-true, eqb-false, leb-true, ltb-true}
+use Rattle.unicode_io.specs.Tests.{never, and-left, and-right}
 use Rattle.unicode_io.specs.Names.{nameNumber}
 use Rattle.unicode_io.specs.Names.Laws.{namesIn, name-few, name-most}
 use Rattle.unicode_io.specs.Grammar.{lineOf}
@@ -16,7 +17,6 @@ use Rattle.unicode_io.specs.Line.{empty, withByte, lineFrom, entryOf, ra
 use Rattle.unicode_io.specs.Reading.{State, stateOf, reading, withEntry, lineEnded, byteRead, bytesRead, takenByEntry, fillEntry}
 use Rattle.unicode_io.specs.Reading.Laws.{ended-nothing, ended-other, ended-overlapped, ended-entry, byte-newline, byte-more}
 use Rattle.unicode_io.specs.Entries.{isEntry, meet, meetsAny, overlap, malformed, entriesFrom}
-use Rattle.unicode_io.specs.Entries.Fill.{never, and-left, and-right}
 use Rattle.unicode_io.specs.Entries.Steps.{Good, AllGood, Tells, tells-past, tells-entry, taken-meets}
 use Rattle.unicode_io.specs.declared.line.Number.{Number}
 use Rattle.unicode_io.specs.declared.line.Line.{Line}

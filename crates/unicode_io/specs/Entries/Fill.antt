@@ -8,6 +8,7 @@ use mathlib.Core.List.{List, [], _∷_, _++_, map}
 use lib.ListN.{length, take, drop, getD}
 use lib.Dec.{eqb, leb, ltb}
 use borrow.Author.Tests.{eq-eqb, ne-eqb, eqb-true, eqb-false, lt-ltb, le-ltb, le-leb, lt-leb, leb-true, leb-false}
+use Rattle.unicode_io.specs.Tests.{never, and-left, and-right}
 use Rattle.unicode_io.specs.Names.{propertyOf}
 use Rattle.unicode_io.specs.Cells.{isTaken, filled, takenIn, fill, taken}
 use Rattle.unicode_io.specs.Entries.{isEntry, says, meet, meetsAny}
@@ -96,9 +97,6 @@ front-some bit (suc n) (x ∷ l) e = by-case (isTaken bit x) refl e (front-some 
     by-case true p q hyp = record { at = 0; from = omega arith; to = omega arith; is = p }
     by-case false p q hyp = let s = hyp q in record { at = suc (s .at); from = omega arith; to = omega (arith, s .to); is = s .is }
 
-pub never : false ≡ true → ⊥
-never e = let y : _≡_ {A = ℕ} 0 1 = cc in omega arith
-
 none-taken : (bit n : ℕ) → takenIn bit (take n []) ≡ true → ⊥
 unfolding takenIn
 none-taken bit zero e = never e
@@ -142,14 +140,6 @@ pub record Found (file p : ℕ) (e : Entry) (es : List Entry) : Type 0 where
   pub from : e .low ≤ at
   pub to : at ≤ e .high
   pub is : covered file p es at ≡ true
-
-pub and-left : (s t : Bool) → s && t ≡ true → s ≡ true
-and-left true t q = refl
-and-left false t q = q
-
-pub and-right : (s t : Bool) → s && t ≡ true → t ≡ true
-and-right true t q = q
-and-right false t q = absurd (never q)
 
 abbrev pub Rising : Entry → Type 0
 Rising e = isEntry e ≡ true → e .low ≤ e .high

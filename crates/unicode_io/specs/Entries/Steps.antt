@@ -8,6 +8,7 @@ use mathlib.Core.List.{List, [], _∷_}
 use lib.ListN.{length, getD}
 use lib.Dec.{eqb, leb}
 use borrow.Author.Tests.{eq-eqb, ne-eqb, eqb-true, eqb-false, le-leb, lt-leb, leb-true, leb-false}
+use Rattle.unicode_io.specs.Tests.{never, and-left, and-right, le-or-lt}
 use Rattle.unicode_io.specs.Names.{propertyOf, valueOf}
 use Rattle.unicode_io.specs.Names.Laws.{namesIn}
 use Rattle.unicode_io.specs.Cells.{bitOf, isTaken, filled, fill, taken}
@@ -15,7 +16,7 @@ use Rattle.unicode_io.specs.Line.{empty}
 use Rattle.unicode_io.specs.Reading.{State, stateOf, reading, weightOf, fillEntry, takenByEntry, withEntry}
 use Rattle.unicode_io.specs.Entries.{isEntry, says, meet, meetsAny, overlap, malformed}
 use Rattle.unicode_io.specs.Entries.Cell.{covered, inRange, Holds, held-past, held-here}
-use Rattle.unicode_io.specs.Entries.Fill.{Some, Found, Rising, and-left, and-right, never, met-at, meets-at, fill-in, fill-out, fill-length, taken-none, taken-some}
+use Rattle.unicode_io.specs.Entries.Fill.{Some, Found, Rising, met-at, meets-at, fill-in, fill-out, fill-length, taken-none, taken-some}
 use Rattle.unicode_io.specs.declared.line.Entry.{Entry}
 use Rattle.unicode_io.specs.declared.reading.Reading.{Reading}
 
@@ -30,11 +31,6 @@ pub record Good (file : ℕ) (e : Entry) : Type 0 where
 abbrev pub AllGood : ℕ → List Entry → Type 0
 AllGood file [] = Unit {0}
 AllGood file (e ∷ es) = Good file e × AllGood file es
-
-le-or-lt : (a b : ℕ) → (a ≤ b) ⊎ (b < a)
-le-or-lt zero b = inl (omega arith)
-le-or-lt (suc a) zero = inr (omega arith)
-le-or-lt (suc a) (suc b) = ⊎-elim (λ (p : a ≤ b). inl (omega arith)) (λ (q : b < a). inr (omega arith)) (le-or-lt a b)
 
 covered-first : (file p x : ℕ) (f : Entry) (es : List Entry) → says file p x f ≡ true → covered file p (f ∷ es) x ≡ true
 unfolding covered

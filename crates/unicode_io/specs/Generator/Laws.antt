@@ -15,14 +15,14 @@ use Rattle.unicode_io.specs.Names.Laws.{namesIn}
 use Rattle.unicode_io.specs.Grammar.{lineOf}
 use Rattle.unicode_io.specs.Line.{empty, lineFrom, entryOf}
 use Rattle.unicode_io.specs.Cells.{bitOf, isTaken, keptOf, classOf, widthOf, kindOf}
-use Rattle.unicode_io.specs.Reading.{State, stateOf, reading, lineEnded, bytesRead, fileEnded, refusalOf}
+use Rattle.unicode_io.specs.Reading.{State, stateOf, reading, lineEnded, bytesRead, fileEnded}
 use Rattle.unicode_io.specs.Rows.{rowsFrom}
 use Rattle.unicode_io.specs.Output.{tableText, refusal}
 use Rattle.unicode_io.specs.Entries.{says, nameAt, entriesFrom, entriesOf, malformed, overlap, classBy, widthBy, conjunctBy, kindBy, kindAt}
 use Rattle.unicode_io.specs.Entries.Cell.{covered, valued, Holds}
 use Rattle.unicode_io.specs.Entries.Steps.{Good, AllGood, Tells}
 use Rattle.unicode_io.specs.Entries.Bytes.{Stands, file-stands, ended-line, good-of}
-use Rattle.unicode_io.specs.Generator.{kindsFrom, tableOf, answer, generated3, generated4}
+use Rattle.unicode_io.specs.Generator.{refusalOf, kindsFrom, tableOf, answer, generated3, generated4}
 use Rattle.unicode_io.specs.declared.line.Entry.{Entry}
 
 -- ---- from file to file

@@ -10,6 +10,7 @@ use lib.ListN.{length, take, set, getD, replicate, length-append, length-set}
 use lib.Seq.{take-suc-set}
 use lib.Dec.{eqb, leb, ltb}
 use borrow.Author.Tests.{eqb-true, eqb-false, ltb-true, ltb-false, leb-true, leb-false, lt-ltb, le-ltb, le-leb, ne-eqb}
+use Rattle.unicode_io.specs.Tests.{never, and-left, and-right}
 use Rattle.unicode_io.specs.Names.{nameNumber}
 use Rattle.unicode_io.specs.Names.Laws.{long-none, spaced-none, ended-none, empty-none}
 use Rattle.unicode_io.specs.Line.{isHex, hexValue, kindOf, stages, nextStage, withDigit, isScalar, empty, atStage, inComment, withLow, withHigh, withName, inName, withByte, lineFrom, nothing, otherForm, entry, ranged, entryOf}
@@ -17,17 +18,6 @@ use Rattle.unicode_io.specs.Grammar.{uncommented, unspaced, digitsOf, af
 use Rattle.unicode_io.specs.declared.line.Number.{Number}
 use Rattle.unicode_io.specs.declared.line.Line.{Line}
 use Rattle.unicode_io.specs.declared.line.Entry.{Entry}
-
-never : false ≡ true → ⊥
-never e = let y : _≡_ {A = ℕ} 0 1 = cc in omega arith
-
-and-left : (a b : Bool) → a && b ≡ true → a ≡ true
-and-left true b e = refl
-and-left false b e = e
-
-and-right : (a b : Bool) → a && b ≡ true → b ≡ true
-and-right true b e = e
-and-right false b e = absurd (never e)
 
 -- ---- kinds of bytes
 

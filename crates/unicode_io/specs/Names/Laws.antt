@@ -9,6 +9,7 @@ use lib.ListN.{length, getD, drop, length-drop, drop-of-length-le}
 use lib.Seq.{drop-cons}
 use lib.Dec.{eqb, leb, ltb}
 use borrow.Author.Tests.{eq-eqb, ne-eqb, eqb-true, eqb-false, lt-ltb, le-ltb, ltb-true, ltb-false, lt-leb}
+use Rattle.unicode_io.specs.Tests.{never, and-both}
 use Rattle.unicode_io.specs.Text.{ascii}
 use Rattle.unicode_io.specs.Names.{breakNames, widthNames, emojiNames, derivedNames, namesOf, agreeing, numberFrom, nameNumber, propertyOf, valueOf, same, position, joined}
 
@@ -63,13 +64,6 @@ allOf p (x ∷ xs) = p x && allOf p xs
 abbrev pub unbroken : List ℕ → Bool
 unbroken [] = true
 unbroken (b ∷ s) = cond (eqb b 0x20) false (unbroken s)
-
-never : false ≡ true → ⊥
-never e = let y : _≡_ {A = ℕ} 0 1 = cc in omega arith
-
-and-both : (a b : Bool) → a && b ≡ true → (a ≡ true) × (b ≡ true)
-and-both true b e = (refl, e)
-and-both false b e = absurd (never e)
 
 same-is : (a b : List ℕ) → same a b ≡ true → a ≡ b
 unfolding same

@@ -17,7 +17,7 @@ use Rattle.buffer.specs.Numbers.Laws.{smaller-left}
 use Rattle.unicode_io.specs.Text.{ascii}
 use Rattle.unicode_io.specs.Digits.{decimal, hexadecimal}
 use Rattle.unicode_io.specs.Digits.Laws.{fewest-decimal, fewest-hexadecimal, decimal-length, hexadecimal-length}
-use Rattle.unicode_io.specs.Output.{numberLine, partSize, head, foot, numbers, headOf, footOf, rowText, rowTexts, tableText, refusal}
+use Rattle.unicode_io.specs.Output.{numberLine, partSize, head, foot, numbers, headOf, footOf, gap, rowText, rowTexts, tableText, refusal}
 use Rattle.unicode_io.specs.declared.rows.Row.{Row}
 
 pub decimal-pushed : (n k : ℕ) (ds : List ℕ) (s z : Sink) → n < 10 ^ 20 → Fewest 10 1 n k → take k ds ≡ digits 10 k n → z ≡ emit s (take k ds) → z ≡ emit s (decimal n)
@@ -38,9 +38,17 @@ pub numbers-pushed : (row : Row) (s a b z : Sink) (last : ℕ) → last ≡ row 
 unfolding numbers
 numbers-pushed row s a b z last e p q r = three s a b z _ _ _ p (rw e at q) r
 
-pub head-pushed : (part rows : ℕ) (s a b c d z : Sink) → a ≡ emit s (ascii "pub(crate) const PART_") → b ≡ emit a (decimal part) → c ≡ emit b (ascii ": [u32; ") → d ≡ emit c (decimal (rows * 3)) → z ≡ emit d (ascii "] = [\n") → z ≡ emit s (head part rows)
+pub gap-due : (part : ℕ) (s z : Sink) → (part ≡ 0 → ⊥) → z ≡ emit s (ascii "\n") → z ≡ emit s (gap part)
+unfolding gap
+gap-due part s z n p = rw (ne-eqb part 0 n) p
+
+pub no-gap : (part : ℕ) (s : Sink) → part ≡ 0 → s ≡ emit s (gap part)
+unfolding gap
+no-gap part s e = rw (eq-eqb part 0 e) (sym (emit-none s))
+
+pub head-pushed : (part rows : ℕ) (s g a b c d z : Sink) → g ≡ emit s (gap part) → a ≡ emit g (ascii "pub(crate) const PART_") → b ≡ emit a (decimal part) → c ≡ emit b (ascii ": [u32; ") → d ≡ emit c (decimal (rows * 3)) → z ≡ emit d (ascii "] = [\n") → z ≡ emit s (head part rows)
 unfolding head
-head-pushed part rows s a b c d z p q r t u = three s c d z _ _ _ (three s a b c _ _ _ p q r) t u
+head-pushed part rows s g a b c d z o p q r t u = three s c d z _ _ _ (three s a b c _ _ _ (then-emit s g a _ _ o p) q r) t u
 
 pub refusal-pushed : (n : ℕ) (s a b z : Sink) → a ≡ emit s (ascii "refused ") → b ≡ emit a (decimal n) → z ≡ emit b (ascii "\n") → z ≡ emit s (refusal n)
 unfolding refusal
@@ -89,23 +97,33 @@ numbers-length : (r : Row) → length (numbers r) ≤ 72
 unfolding numbers
 numbers-length r = sum-length (numberLine (r .low) ++ numberLine (r .end - 1)) (numberLine (r .kind)) 48 24 (sum-length (numberLine (r .low)) (numberLine (r .end - 1)) 24 24 (number-length (r .low)) (number-length (r .end - 1))) (number-length (r .kind))
 
-head-length : (part rows : ℕ) → length (head part rows) ≤ 76
+or-none : (t : Bool) (x : List ℕ) (n : ℕ) → length x ≤ n → length (cond t x []) ≤ n
+or-none true x n h = h
+or-none false x n h = omega arith
+
+gap-length : (part : ℕ) → length (gap part) ≤ 1
+unfolding gap ascii
+gap-length part = by-case (eqb part 0)
+  where
+    by-case : (t : Bool) → length (cond t [] (ascii "\n")) ≤ 1
+    by-case true = omega arith
+    by-case false = omega arith
+
+head-length : (part rows : ℕ) → length (head part rows) ≤ 77
 unfolding head ascii
 head-length part rows =
     let a : List ℕ = ascii "pub(crate) const PART_" in
     let c : List ℕ = ascii ": [u32; " in
     let e : List ℕ = ascii "] = [\n" in
-    sum-length (a ++ decimal part ++ c ++ decimal (rows * 3)) e 70 6
-    (sum-length (a ++ decimal part ++ c) (decimal (rows * 3)) 50 20 (sum-length (a ++ decimal part) c 42 8 (sum-length a (decimal part) 22 20 (omega arith) (decimal-length part)) (omega arith)) (decimal-length (rows * 3)))
+    sum-length (gap part ++ a ++ decimal part ++ c ++ decimal (rows * 3)) e 71 6
+    (sum-length (gap part ++ a ++ decimal part ++ c) (decimal (rows * 3)) 51 20
+    (sum-length (gap part ++ a ++ decimal part) c 43 8 (sum-length (gap part ++ a) (decimal part) 23 20 (sum-length (gap part) a 1 22 (gap-length part) (omega arith)) (decimal-length part)) (omega arith))
+    (decimal-length (rows * 3)))
     (omega arith)
 
-or-none : (t : Bool) (x : List ℕ) (n : ℕ) → length x ≤ n → length (cond t x []) ≤ n
-or-none true x n h = h
-or-none false x n h = omega arith
-
-head-of-length : (total i : ℕ) → length (headOf total i) ≤ 76
+head-of-length : (total i : ℕ) → length (headOf total i) ≤ 77
 unfolding headOf
-head-of-length total i = or-none (eqb (i % partSize total) 0) _ 76 (head-length (i / partSize total) (smallerOf (partSize total) (total - i)))
+head-of-length total i = or-none (eqb (i % partSize total) 0) _ 77 (head-length (i / partSize total) (smallerOf (partSize total) (total - i)))
 
 foot-length : length foot ≤ 3
 unfolding foot ascii
@@ -117,7 +135,7 @@ foot-of-length total i = or-none (eqb (i % partSize total + 1) (partSize total) 
 
 pub row-length : (total i : ℕ) (r : Row) → length (rowText total i r) ≤ 256
 unfolding rowText
-row-length total i r = omega (arith, sum-length (headOf total i ++ numbers r) (footOf total i) 148 3 (sum-length (headOf total i) (numbers r) 76 72 (head-of-length total i) (numbers-length r)) (foot-of-length total i))
+row-length total i r = omega (arith, sum-length (headOf total i ++ numbers r) (footOf total i) 149 3 (sum-length (headOf total i) (numbers r) 77 72 (head-of-length total i) (numbers-length r)) (foot-of-length total i))
 
 pub refusal-length : (n : ℕ) → length (refusal n) ≤ 64
 unfolding refusal ascii

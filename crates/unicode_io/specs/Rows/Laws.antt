@@ -11,13 +11,9 @@ use lib.ListN.{length, drop, getD, length-drop, drop-of-length-le}
 use lib.Seq.{drop-cons, drop-drop, getD-drop}
 use lib.Dec.{eqb, ltb, eqb-refl}
 use borrow.Author.Tests.{eq-eqb, ne-eqb, eqb-true, eqb-false, lt-ltb, le-ltb, ltb-true, ltb-false}
+use Rattle.unicode_io.specs.Tests.{le-or-lt}
 use Rattle.unicode_io.specs.Rows.{row, grown, runs, shown, rowsFrom, leading, rowAt, nextRow}
 use Rattle.unicode_io.specs.declared.rows.Row.{Row}
-
-le-or-lt : (a b : ℕ) → (a ≤ b) ⊎ (b < a)
-le-or-lt zero b = inl (omega arith)
-le-or-lt (suc a) zero = inr (omega arith)
-le-or-lt (suc a) (suc b) = ⊎-elim (λ (p : a ≤ b). inl (omega arith)) (λ (q : b < a). inr (omega arith)) (le-or-lt a b)
 
 -- ---- the end of a run, place by place
 

@@ -12,12 +12,12 @@ use borrow.Author.Tests.{eq-eqb, ne-eqb, eqb-true, eqb-false}
 use Rattle.buffer.specs.Sink.{sink, emit}
 use Rattle.unicode_io.specs.Line.{empty}
 use Rattle.unicode_io.specs.Cells.{kindOf}
-use Rattle.unicode_io.specs.Reading.{State, stateOf, reading, refusalOf}
+use Rattle.unicode_io.specs.Reading.{State, stateOf, reading}
 use Rattle.unicode_io.specs.Rows.{rowsFrom, nextRow}
 use Rattle.unicode_io.specs.Rows.Laws.{next-some, next-none, no-rows}
 use Rattle.unicode_io.specs.Output.{rowText, rowTexts, tableText, refusal}
 use Rattle.unicode_io.specs.Output.Laws.{row-length, refusal-length, text-pushed, texts-none, texts-more, table-texts}
-use Rattle.unicode_io.specs.Generator.{answer, generated3, generated4}
+use Rattle.unicode_io.specs.Generator.{refusalOf}
 use Rattle.unicode_io.specs.Generator.Laws.{printedOf, answer-refused, answer-table, prints-three, prints-four}
 use Rattle.unicode_io.specs.declared.rows.Row.{Row}
 use Rattle.unicode_io.specs.declared.reading.Reading.{Reading}

@@ -19,9 +19,12 @@ returns-3 : tie.Need-returns-3
 unfolding classOf
 returns-3 c = search branch depth 10 fits 20000
 
+add-result : tie.Need-add-result
+add-result c = search needs
+
 returns-4 : tie.Need-returns-4
 unfolding classOf
 returns-4 c = search branch depth 10 fits 20000
 
 pub class-spec : {M : Type 1} → statement M
-class-spec = tie.close (tie.spec returns returns-2 sub-result returns-3 returns-4)
+class-spec = tie.close (tie.spec returns returns-2 sub-result returns-3 add-result returns-4)

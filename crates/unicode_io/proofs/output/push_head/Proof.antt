@@ -4,6 +4,9 @@ use borrow.Author.Needs.{needs}
 use Rattle.unicode_io.proofs.output.push_head.Statement.{statement}
 use Rattle.unicode_io.proofs.output.push_head.Tie as tie
 
+push-gap-requires : tie.Need-push-gap-requires
+push-gap-requires c κs = search needs
+
 slice-aggregate-push-bytes : tie.Need-slice-aggregate-push-bytes
 slice-aggregate-push-bytes c = search needs
 
@@ -41,12 +44,14 @@ returns c = let c₁ = c .before .before in
     let c₃ = c₂ .before .before .before .before in
     let c₄ = c₃ .before .before .before .before .before in
     let c₅ = c₄ .before .before .before .before in
-    head-pushed _ _ _ _ _ _ _ _ (c₅ .push-bytes .ensures) (c₄ .push-decimal .ensures) (c₃ .push-bytes2 .ensures) (c₂ .push-decimal2 .ensures) (c₁ .push-bytes3 .ensures)
+    let c₆ = c₅ .before .before .before .before .before in
+    head-pushed _ _ _ _ _ _ _ _ _ (c₆ .push-gap .ensures) (c₅ .push-bytes .ensures) (c₄ .push-decimal .ensures) (c₃ .push-bytes2 .ensures) (c₂ .push-decimal2 .ensures) (c₁ .push-bytes3 .ensures)
 
 pub push-head-spec : {M : Type 1} → statement M
 push-head-spec =
     tie.close
     (tie.spec
+    push-gap-requires
     slice-aggregate-push-bytes
     push-bytes-requires
     push-decimal-requires
