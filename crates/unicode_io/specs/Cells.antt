@@ -1,4 +1,4 @@
--- A cell for each scalar. Its low byte holds what the files said of it so far; each bit above stands for a property of the file that is read.
+-- What the code keeps: a cell for each scalar. Its low byte holds what the files said of it so far; each bit above stands for a property of the file that is read.
 use Prim.Native.Nat.{ℕ, zero, suc, _+_, _-_, _*_, _/_, _%_, _^_}
 use mathlib.Core.Path.{_≡_}
 use mathlib.Core.Bool.{Bool, true, false, cond, _&&_, _||_}

@@ -1,4 +1,4 @@
--- A file's bytes, one by one, and the cells that its entries fill.
+-- What the code does: a file's bytes one by one, and the cells that its entries fill.
 use Prim.Native.Nat.{ℕ, _+_}
 use mathlib.Core.Bool.{Bool, true, false, cond}
 use mathlib.Core.List.{List, [], _∷_, map}

@@ -1,4 +1,4 @@
--- The readings' inputs, computed.
+-- Lines, files, rows and texts, computed.
 use mathlib.Core.Path.{_≡_, refl}
 use Prim.Native.Nat.{ℕ}
 use Prim.Native.String.{String}

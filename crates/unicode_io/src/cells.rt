@@ -67,7 +67,7 @@ pub(crate) fn fill_range(cells: &mut [u32], low: usize, high: usize, bit: u32, w
     fill_all(&mut cells[low..high + 1], bit, weight)
 }
 
-// The bits of a file's properties go before the next file.
+// The bits of a file's properties are cleared before the next file.
 pub fn next_file(cells: &mut [u32])
     ensures { λ _. ⌜ now (cells .exit) ≡ map keptOf (now (cells .entry)) ⌝ }
 {
