@@ -1,14 +1,24 @@
 -- A line of a file: spaces and a `#` comment aside, nothing, or one scalar or a rising `..` range of 4 to 6 capital hexadecimal digits up to
 -- 10FFFF, `;` and a name that the file publishes.
-use Prim.Native.Nat.{ℕ, _+_, _*_}
+use Prim.Native.Nat.{ℕ, _+_, _*_, _%_}
 use mathlib.Core.Bool.{Bool, cond, _&&_, _||_}
 use mathlib.Core.List.{List, [], _∷_}
 use lib.ListN.{length}
 use lib.Dec.{eqb, leb, ltb}
 use Rattle.unicode_io.specs.Names.{nameNumber}
-use Rattle.unicode_io.specs.Line.{isHex, hexValue, entry, nothing, otherForm}
 use Rattle.unicode_io.specs.declared.line.Entry.{Entry}
 pub mod Laws
+
+-- ---- what a line is: 0 nothing, 1 an entry, 2 a line of another form
+
+abbrev pub nothing : Entry
+nothing = record { kind = 0; low = 0; high = 0; name = 0 }
+
+abbrev pub otherForm : Entry
+otherForm = record { kind = 2; low = 0; high = 0; name = 0 }
+
+abbrev pub entry : ℕ → ℕ → ℕ → Entry
+entry low high name = record { kind = 1; low = low; high = high; name = name }
 
 -- ---- spaces and a comment aside
 
@@ -22,6 +32,12 @@ unspaced [] = []
 unspaced (b ∷ s) = let more : List ℕ = unspaced s in cond (eqb b 0x20) more (b ∷ s)
 
 -- ---- a scalar, or a range
+
+abbrev pub isHex : ℕ → Bool
+isHex b = (leb 0x30 b && leb b 0x39) || (leb 0x41 b && leb b 0x46)
+
+abbrev pub hexValue : ℕ → ℕ
+hexValue b = cond (leb b 0x39) (b % 16) (b % 16 + 9)
 
 unfoldable pub digitsOf : List ℕ → List ℕ
 digitsOf [] = []

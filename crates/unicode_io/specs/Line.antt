@@ -4,17 +4,12 @@ use mathlib.Core.Bool.{Bool, true, false, cond, _&&_, _||_}
 use mathlib.Core.List.{List, [], _∷_}
 use lib.ListN.{take, getD, set, replicate}
 use lib.Dec.{eqb, leb, ltb}
+use Rattle.unicode_io.specs.Grammar.{isHex, hexValue, nothing, otherForm, entry}
 use Rattle.unicode_io.specs.Names.{nameNumber}
 use Rattle.unicode_io.specs.declared.line.Number.{Number}
 use Rattle.unicode_io.specs.declared.line.Line.{Line}
 use Rattle.unicode_io.specs.declared.line.Entry.{Entry}
 pub mod Laws
-
-abbrev pub isHex : ℕ → Bool
-isHex b = (leb 0x30 b && leb b 0x39) || (leb 0x41 b && leb b 0x46)
-
-abbrev pub hexValue : ℕ → ℕ
-hexValue b = cond (leb b 0x39) (b % 16) (b % 16 + 9)
 
 -- the kinds of bytes: space, digit, `.`, `;`, any other
 abbrev pub kindOf : ℕ → ℕ
@@ -85,16 +80,7 @@ unfoldable pub lineFrom : Line → List ℕ → Line
 lineFrom l [] = l
 lineFrom l (b ∷ bs) = lineFrom (withByte l b) bs
 
--- ---- what a line is: 0 nothing, 1 an entry, 2 a line of another form
-
-abbrev pub nothing : Entry
-nothing = record { kind = 0; low = 0; high = 0; name = 0 }
-
-abbrev pub otherForm : Entry
-otherForm = record { kind = 2; low = 0; high = 0; name = 0 }
-
-abbrev pub entry : ℕ → ℕ → ℕ → Entry
-entry low high name = record { kind = 1; low = low; high = high; name = name }
+-- ---- what a line is, at its end
 
 unfoldable pub ranged : Number → Number → ℕ → Entry
 ranged low high name =

@@ -6,8 +6,7 @@ use mathlib.Core.Bool.{Bool, true, false, _&&_}
 use mathlib.Core.List.{List, [], _∷_, map}
 use lib.Dec.{eqb}
 use Rattle.unicode_io.specs.Text.{ascii}
-use Rattle.unicode_io.specs.Line.{entry, nothing, otherForm}
-use Rattle.unicode_io.specs.Grammar.{lineOf}
+use Rattle.unicode_io.specs.Grammar.{entry, nothing, otherForm, lineOf}
 use Rattle.unicode_io.specs.Rows.{row, rowsFrom}
 use Rattle.unicode_io.specs.Output.{headOf, tableText, refusal}
 use Rattle.unicode_io.specs.Generator.{generated3}

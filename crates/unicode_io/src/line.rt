@@ -2,7 +2,8 @@
 ghost use mathlib.Core.Path.{_≡_};
 ghost use lib.ListN.{take};
 ghost use Rattle.unicode_io.specs.Names.{nameNumber};
-ghost use Rattle.unicode_io.specs.Line.{hexValue, kindOf, nextStage, withDigit, isScalar, empty, atStage, inComment, withLow, withHigh, withName, inName, withByte, nothing, otherForm, entry, ranged, entryOf};
+ghost use Rattle.unicode_io.specs.Grammar.{hexValue, nothing, otherForm, entry};
+ghost use Rattle.unicode_io.specs.Line.{kindOf, nextStage, withDigit, isScalar, empty, atStage, inComment, withLow, withHigh, withName, inName, withByte, ranged, entryOf};
 use super::names::name_number;
 use buffer::byte_at;
 use buffer::smaller;

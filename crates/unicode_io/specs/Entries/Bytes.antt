@@ -11,9 +11,9 @@ use borrow.Author.Tests.{eq-eqb, ne-eqb, eqb-true, eqb-false, leb-true, ltb-true
 use Rattle.unicode_io.specs.Tests.{never, and-left, and-right}
 use Rattle.unicode_io.specs.Names.{nameNumber}
 use Rattle.unicode_io.specs.Names.Laws.{namesIn, name-few, name-most}
-use Rattle.unicode_io.specs.Grammar.{lineOf}
+use Rattle.unicode_io.specs.Grammar.{entry, nothing, otherForm, lineOf}
 use Rattle.unicode_io.specs.Grammar.Laws.{line-is}
-use Rattle.unicode_io.specs.Line.{empty, withByte, lineFrom, entryOf, ranged, isScalar, entry, nothing, otherForm}
+use Rattle.unicode_io.specs.Line.{empty, withByte, lineFrom, entryOf, ranged, isScalar}
 use Rattle.unicode_io.specs.Reading.{State, stateOf, reading, withEntry, lineEnded, byteRead, bytesRead, takenByEntry, fillEntry}
 use Rattle.unicode_io.specs.Reading.Laws.{ended-nothing, ended-other, ended-overlapped, ended-entry, byte-newline, byte-more}
 use Rattle.unicode_io.specs.Entries.{isEntry, meet, meetsAny, overlap, malformed, entriesFrom}

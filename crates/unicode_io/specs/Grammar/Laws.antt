@@ -13,8 +13,8 @@ use borrow.Author.Tests.{eqb-true, eqb-false, ltb-true, ltb-false, leb-true, leb
 use Rattle.unicode_io.specs.Tests.{never, and-left, and-right}
 use Rattle.unicode_io.specs.Names.{nameNumber}
 use Rattle.unicode_io.specs.Names.Laws.{long-none, spaced-none, ended-none, empty-none}
-use Rattle.unicode_io.specs.Line.{isHex, hexValue, kindOf, stages, nextStage, withDigit, isScalar, empty, atStage, inComment, withLow, withHigh, withName, inName, withByte, lineFrom, nothing, otherForm, entry, ranged, entryOf}
-use Rattle.unicode_io.specs.Grammar.{uncommented, unspaced, digitsOf, afterDigits, valueFrom, scalarOf, isNumber, Range, one, range, rangeEntry, spaceBefore, trimmed, named, afterHigh, afterDot, afterLow, content, lineOf}
+use Rattle.unicode_io.specs.Line.{kindOf, stages, nextStage, withDigit, isScalar, empty, atStage, inComment, withLow, withHigh, withName, inName, withByte, lineFrom, ranged, entryOf}
+use Rattle.unicode_io.specs.Grammar.{isHex, hexValue, nothing, otherForm, entry, uncommented, unspaced, digitsOf, afterDigits, valueFrom, scalarOf, isNumber, Range, one, range, rangeEntry, spaceBefore, trimmed, named, afterHigh, afterDot, afterLow, content, lineOf}
 use Rattle.unicode_io.specs.declared.line.Number.{Number}
 use Rattle.unicode_io.specs.declared.line.Line.{Line}
 use Rattle.unicode_io.specs.declared.line.Entry.{Entry}
@@ -38,6 +38,13 @@ by-byte P p q r f b = by-cases (eqb b 0x20) (eqb b 0x2E) (eqb b 0x3B) (isHex b) 
     by-cases false false true h e f′ g i = subst P (sym (eqb-true b 0x3B g)) r
     by-cases false false false true e f′ g i = f b true (record { space = e; dot = f′; semi = g; digit = i; kind = rw (e, i) refl })
     by-cases false false false false e f′ g i = f b false (record { space = e; dot = f′; semi = g; digit = i; kind = rw (e, i, f′, g) refl })
+
+next-plain : (k b : ℕ) (hex : Bool) → Plain b hex → nextStage k b ≡ getD stages (k * 5 + cond hex 1 4) 0
+next-plain k b hex p = ap (λ (j : ℕ). getD stages (k * 5 + j) 0) (p .kind)
+
+next-same : (k n b : ℕ) (hex : Bool) → Plain b hex → getD stages (k * 5 + 1) 0 ≡ n → getD stages (k * 5 + 4) 0 ≡ n → nextStage k b ≡ n
+next-same k n b true p e f = next-plain k b true p ∙ e
+next-same k n b false p e f = next-plain k b false p ∙ f
 
 -- ---- bytes that begin no comment
 
@@ -68,11 +75,9 @@ module _ (file : ℕ) where
   dead : (s : List ℕ) (lo hi : Number) (nm : List ℕ) (c : ℕ) → read (at 10 lo hi nm c) s ≡ otherForm
   unfolding entryOf
   dead [] lo hi nm c = refl
-  dead (b ∷ s) lo hi nm c = by-byte (λ (x : ℕ). read (at 10 lo hi nm c) (x ∷ s) ≡ otherForm) (dead s lo hi nm c) (dead s lo hi nm c) (dead s lo hi nm c) (λ x hex p. plain x hex p (dead s lo hi nm c)) b
-    where
-      plain : (x : ℕ) (hex : Bool) → Plain x hex → read (at 10 lo hi nm c) s ≡ otherForm → read (at 10 lo hi nm c) (x ∷ s) ≡ otherForm
-      plain x true p h = read-on (at 10 lo hi nm c) x 10 s (ap (λ (k : ℕ). getD stages (50 + k) 0) (p .kind)) ∙ h
-      plain x false p h = read-on (at 10 lo hi nm c) x 10 s (ap (λ (k : ℕ). getD stages (50 + k) 0) (p .kind)) ∙ h
+  dead (b ∷ s) lo hi nm c =
+      by-byte (λ (x : ℕ). read (at 10 lo hi nm c) (x ∷ s) ≡ otherForm) (dead s lo hi nm c) (dead s lo hi nm c) (dead s lo hi nm c)
+      (λ x hex p. read-on (at 10 lo hi nm c) x 10 s (next-same 10 10 x hex p refl refl) ∙ dead s lo hi nm c) b
 
 -- ---- spaces around the parts of a name
 
@@ -188,11 +193,9 @@ module _ (file : ℕ) (lo hi : Number) where
 
   tail : (s : List ℕ) → Tail s
   tail [] = tail-none
-  tail (b ∷ s) = by-byte (λ (x : ℕ). Tail (x ∷ s)) (tail-space s (tail s)) (tail-plain s (tail s) 0x2E refl refl refl refl refl) (tail-semi s (tail s)) (λ x hex p. plain x hex p (tail s)) b
-    where
-      plain : (x : ℕ) (hex : Bool) → Plain x hex → Tail s → Tail (x ∷ s)
-      plain x true p t = tail-plain s t x (p .space) (p .semi) (ap (λ (k : ℕ). getD stages (35 + k) 0) (p .kind)) (ap (λ (k : ℕ). getD stages (40 + k) 0) (p .kind)) (ap (λ (k : ℕ). getD stages (45 + k) 0) (p .kind))
-      plain x false p t = tail-plain s t x (p .space) (p .semi) (ap (λ (k : ℕ). getD stages (35 + k) 0) (p .kind)) (ap (λ (k : ℕ). getD stages (40 + k) 0) (p .kind)) (ap (λ (k : ℕ). getD stages (45 + k) 0) (p .kind))
+  tail (b ∷ s) =
+      by-byte (λ (x : ℕ). Tail (x ∷ s)) (tail-space s (tail s)) (tail-plain s (tail s) 0x2E refl refl refl refl refl) (tail-semi s (tail s))
+      (λ x hex p. tail-plain s (tail s) x (p .space) (p .semi) (next-same 7 8 x hex p refl refl) (next-same 8 8 x hex p refl refl) (next-same 9 10 x hex p refl refl)) b
 
 -- ---- numbers: seven digits are too many, and no more are kept
 
@@ -297,9 +300,6 @@ module _ (ds es : List ℕ) (lo hi : Number) (d : Digits ds lo) (e : Digits es h
 
 -- ---- the parts before the name
 
-next-plain : (k b : ℕ) (hex : Bool) → Plain b hex → nextStage k b ≡ getD stages (k * 5 + cond hex 1 4) 0
-next-plain k b hex p = ap (λ (j : ℕ). getD stages (k * 5 + j) 0) (p .kind)
-
 digits-more : (b : ℕ) (s : List ℕ) → isHex b ≡ true → digitsOf (b ∷ s) ≡ b ∷ digitsOf s
 unfolding digitsOf
 digits-more b s e = rw e refl
@@ -385,11 +385,7 @@ module _ (file : ℕ) where
   past-high ds es lo hi h (b ∷ s) =
       by-byte (λ (x : ℕ). read file (at 6 lo hi unnamed 0) (x ∷ s) ≡ afterHigh file ds es (unspaced (x ∷ s)))
       (past-high ds es lo hi h s) (dead file s lo hi unnamed 0) (semi lo hi (range ds es) h s)
-      (λ x hex p. plain x hex p) b
-    where
-      plain : (x : ℕ) (hex : Bool) → Plain x hex → read file (at 6 lo hi unnamed 0) (x ∷ s) ≡ afterHigh file ds es (unspaced (x ∷ s))
-      plain x true p = lost 6 lo hi x s (next-plain 6 x true p) (afterHigh file ds es (unspaced (x ∷ s))) (high-other ds es x s (p .space) (p .semi))
-      plain x false p = lost 6 lo hi x s (next-plain 6 x false p) (afterHigh file ds es (unspaced (x ∷ s))) (high-other ds es x s (p .space) (p .semi))
+      (λ x hex p. lost 6 lo hi x s (next-same 6 10 x hex p refl refl) (afterHigh file ds es (unspaced (x ∷ s))) (high-other ds es x s (p .space) (p .semi))) b
 
   -- stage 5
   in-high : (s ds es : List ℕ) (lo hi : Number) → Digits ds lo → Digits es hi → 0 < length es → read file (at 5 lo hi unnamed 0) s ≡ afterHigh file ds (es ++ digitsOf s) (unspaced (afterDigits s))
@@ -443,11 +439,7 @@ module _ (file : ℕ) where
   past-dot (b ∷ s) ds lo d =
       by-byte (λ (x : ℕ). read file (at 3 lo zeroNumber unnamed 0) (x ∷ s) ≡ afterDot file ds (x ∷ s))
       (dead file s lo zeroNumber unnamed 0) (before-high s ds lo d) (dead file s lo zeroNumber unnamed 0)
-      (λ x hex p. plain x hex p) b
-    where
-      plain : (x : ℕ) (hex : Bool) → Plain x hex → read file (at 3 lo zeroNumber unnamed 0) (x ∷ s) ≡ afterDot file ds (x ∷ s)
-      plain x true p = lost 3 lo zeroNumber x s (next-plain 3 x true p) (afterDot file ds (x ∷ s)) (dot-other ds x s (p .dot))
-      plain x false p = lost 3 lo zeroNumber x s (next-plain 3 x false p) (afterDot file ds (x ∷ s)) (dot-other ds x s (p .dot))
+      (λ x hex p. lost 3 lo zeroNumber x s (next-same 3 10 x hex p refl refl) (afterDot file ds (x ∷ s)) (dot-other ds x s (p .dot))) b
 
   -- stage 2
   past-low : (s ds : List ℕ) (lo : Number) → Digits ds lo → read file (at 2 lo zeroNumber unnamed 0) s ≡ afterLow file ds (unspaced s)
@@ -456,11 +448,7 @@ module _ (file : ℕ) where
   past-low (b ∷ s) ds lo d =
       by-byte (λ (x : ℕ). read file (at 2 lo zeroNumber unnamed 0) (x ∷ s) ≡ afterLow file ds (unspaced (x ∷ s)))
       (past-low s ds lo d) (past-dot s ds lo d) (semi lo zeroNumber (one ds) (one-is ds lo d) s)
-      (λ x hex p. plain x hex p) b
-    where
-      plain : (x : ℕ) (hex : Bool) → Plain x hex → read file (at 2 lo zeroNumber unnamed 0) (x ∷ s) ≡ afterLow file ds (unspaced (x ∷ s))
-      plain x true p = lost 2 lo zeroNumber x s (next-plain 2 x true p) (afterLow file ds (unspaced (x ∷ s))) (low-other ds x s true p)
-      plain x false p = lost 2 lo zeroNumber x s (next-plain 2 x false p) (afterLow file ds (unspaced (x ∷ s))) (low-other ds x s false p)
+      (λ x hex p. lost 2 lo zeroNumber x s (next-same 2 10 x hex p refl refl) (afterLow file ds (unspaced (x ∷ s))) (low-other ds x s hex p)) b
 
   -- stage 1
   in-low : (s ds : List ℕ) (lo : Number) → Digits ds lo → read file (at 1 lo zeroNumber unnamed 0) s ≡ afterLow file (ds ++ digitsOf s) (unspaced (afterDigits s))

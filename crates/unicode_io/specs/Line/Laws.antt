@@ -12,7 +12,8 @@ use Rattle.lending.specs.Conditions.{on-true, on-false}
 use Rattle.buffer.specs.Numbers.{smallerOf}
 use Rattle.buffer.specs.Numbers.Parts.{take-smaller}
 use Rattle.unicode_io.specs.Names.{nameNumber}
-use Rattle.unicode_io.specs.Line.{isHex, hexValue, kindOf, stages, nextStage, withDigit, isScalar, atStage, inComment, withLow, withHigh, withName, inName, withByte, nothing, otherForm, entry, ranged, entryOf}
+use Rattle.unicode_io.specs.Grammar.{isHex, hexValue, nothing, otherForm, entry}
+use Rattle.unicode_io.specs.Line.{kindOf, stages, nextStage, withDigit, isScalar, atStage, inComment, withLow, withHigh, withName, inName, withByte, ranged, entryOf}
 use Rattle.unicode_io.specs.declared.line.Number.{Number}
 use Rattle.unicode_io.specs.declared.line.Line.{Line}
 use Rattle.unicode_io.specs.declared.line.Entry.{Entry}

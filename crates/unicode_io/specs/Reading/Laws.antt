@@ -12,7 +12,8 @@ use lib.Dec.{eqb, leb, ltb}
 use borrow.Author.Tests.{eq-eqb, ne-eqb, ltb-true}
 use Rattle.unicode_io.specs.Names.{nameNumber, propertyOf, valueOf}
 use Rattle.unicode_io.specs.Names.Laws.{name-few}
-use Rattle.unicode_io.specs.Line.{empty, withByte, entryOf, ranged, isScalar, entry, otherForm, nothing}
+use Rattle.unicode_io.specs.Grammar.{entry, otherForm, nothing}
+use Rattle.unicode_io.specs.Line.{empty, withByte, entryOf, ranged, isScalar}
 use Rattle.unicode_io.specs.Cells.{bitOf, fill, taken, keptOf, Filled}
 use Rattle.unicode_io.specs.Reading.{State, stateOf, reading, weightOf, fillEntry, takenByEntry, withEntry, lineEnded, byteRead, bytesRead, fileEnded}
 use Rattle.unicode_io.specs.declared.line.Number.{Number}
