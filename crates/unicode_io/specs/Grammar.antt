@@ -33,6 +33,7 @@ unspaced (b ∷ s) = let more : List ℕ = unspaced s in cond (eqb b 0x20) more 
 
 -- ---- a scalar, or a range
 
+-- capital hexadecimal digits
 abbrev pub isHex : ℕ → Bool
 isHex b = (leb 0x30 b && leb b 0x39) || (leb 0x41 b && leb b 0x46)
 
@@ -54,6 +55,7 @@ valueFrom n (b ∷ s) = valueFrom (n * 16 + hexValue b) s
 abbrev pub scalarOf : List ℕ → ℕ
 scalarOf ds = valueFrom 0 ds
 
+-- 4 to 6 digits, up to 10FFFF
 unfoldable pub isNumber : List ℕ → Bool
 unfolding valueFrom
 isNumber ds = leb 4 (length ds) && (leb (length ds) 6 && leb (scalarOf ds) 0x10FFFF)
@@ -62,6 +64,7 @@ pub data Range : Type 0 where
   one : List ℕ → Range
   range : List ℕ → List ℕ → Range
 
+-- a range rises
 unfoldable pub rangeEntry : Range → ℕ → Entry
 unfolding isNumber
 rangeEntry (one low) name = cond (isNumber low) (entry (scalarOf low) (scalarOf low) name) otherForm
@@ -81,26 +84,30 @@ trimmed (b ∷ s) = let more : List ℕ = trimmed s in cond (eqb b 0x20) (spaceB
 -- ---- the line
 
 module _ (file : ℕ) where
+  -- a name after `;`
   unfoldable pub named : Range → List ℕ → Entry
   unfolding trimmed rangeEntry nameNumber
   named r s = cond (eqb (nameNumber file (unspaced (trimmed s))) 0) otherForm (rangeEntry r (nameNumber file (unspaced (trimmed s))))
 
+  -- after `..` and its number: `;`
   unfoldable pub afterHigh : List ℕ → List ℕ → List ℕ → Entry
   unfolding named
   afterHigh low high [] = otherForm
   afterHigh low high (b ∷ s) = cond (eqb b 0x3B) (named (range low high) s) otherForm
 
-  -- after one `.`
+  -- after one `.`: another, and a number
   unfoldable pub afterDot : List ℕ → List ℕ → Entry
   unfolding afterHigh digitsOf afterDigits
   afterDot low [] = otherForm
   afterDot low (b ∷ s) = cond (eqb b 0x2E) (afterHigh low (digitsOf (unspaced s)) (unspaced (afterDigits (unspaced s)))) otherForm
 
+  -- after the first number: `;`, or `.`
   unfoldable pub afterLow : List ℕ → List ℕ → Entry
   unfolding afterDot
   afterLow low [] = otherForm
   afterLow low (b ∷ s) = cond (eqb b 0x3B) (named (one low) s) (cond (eqb b 0x2E) (afterDot low s) otherForm)
 
+  -- nothing, or a number
   unfoldable pub content : List ℕ → Entry
   unfolding afterLow
   content [] = nothing
