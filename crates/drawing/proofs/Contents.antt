@@ -103,7 +103,7 @@ module _ (d : Rendering) (line : List ℕ) (t : State) (p n : ℕ) where
   sends kind m = render_record d line t (a_record kind p n m)
 
   text_sent : (kind m : ℕ) (k : Style) (x : List Scalar) → (eqb kind 1 || eqb kind 2) ≡ true → style_of (record_style kind d.current m) ≡ k → text_in n (drop p line) ≡ x
-      → sends kind m ≡ write_truncated P start end t k (cond t.lineDrawing (line_drawn x) x)
+      → sends kind m ≡ write_truncated P start end t k (cond t.line_drawing (line_drawn x) x)
   unfolding render_record
   text_sent kind m k x b e f = rw (b, e, f) refl
 

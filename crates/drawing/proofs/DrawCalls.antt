@@ -145,18 +145,18 @@ module _ (size places : ℕ) (matches line : List ℕ) (a : Answer) (cs : List �
     -- the records are those of the spans of the line
     module _ (fine : a.number ≡ 0) where
       held : HasContents (take (line_room (length cs)) cs) ss
-      held = rw (ap (λ (n : ℕ). take (line_room n) cs) cs_length ∙ reading.line-part size places matches line a cs rs read fine) (reading.held_in size places matches line a cs rs read fine)
+      held = rw (ap (λ (n : ℕ). take (line_room n) cs) cs_length ∙ reading.line_part size places matches line a cs rs read fine) (reading.held_in size places matches line a cs rs read fine)
 
       spans_are : first_spans rs cs a.count ≡ ss
-      spans_are = rw (reading.spans-part size places matches line a cs rs read fine) (spans_in_records (take (line_room (length cs)) cs) held)
+      spans_are = rw (reading.spans_part size places matches line a cs rs read fine) (spans_in_records (take (line_room (length cs)) cs) held)
 
     records_are : (n : ℕ) → a.number ≡ n → records (first_spans rs cs a.count) ≡ take a.count rs
-    records_are zero e = ap records (spans_are e) ∙ sym (reading.spans-part size places matches line a cs rs read e)
+    records_are zero e = ap records (spans_are e) ∙ sym (reading.spans_part size places matches line a cs rs read e)
     records_are (suc r) e = rw (reading.count_none size places matches line a cs rs read r e) (spans_in_none (take (line_room (length cs)) cs))
 
     -- what `render_wrapped` asks
     pub call_room : RenderWrappedRoom rs cs d a.count
-    call_room = let c = reading.count-in size places matches line a cs rs read a.number refl in record { there = c.0; few = c.1; limits = rw d_is (drawable_limits q); held = records_are a.number refl }
+    call_room = let c = reading.count_in size places matches line a cs rs read a.number refl in record { there = c.0; few = c.1; limits = rw d_is (drawable_limits q); held = records_are a.number refl }
 
   module _ (l l' : List ℕ) (r : Drawn) (made : Drew (changes_of d (first_spans rs cs a.count)) l l' r) (o : Outcome) (o_is : o ≡ outcome_of (decided q.reader (asked_of q) a.number r (length l)) r.at)
       (cs_length : length cs ≡ size) (rs_length : length rs ≡ places) (l_length : length l' ≡ length l) (cs_room : size < 2 ^ 64) (rs_room : places < 2 ^ 64) where

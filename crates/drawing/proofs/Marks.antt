@@ -50,7 +50,7 @@ use Rattle.drawing.proofs.WindowTexts.{wrote_then, wrote_none, written_position,
 
 -- ---- digits
 
-digit_printable : (n : ℕ) → n < 16 → printable (numbers.hexDigit n) ≡ true
+digit_printable : (n : ℕ) → n < 16 → printable (numbers.hex_digit n) ≡ true
 unfolding every
 digit_printable n h = sym (ap (λ (c : Scalar). printable c.code) (digit_is n)) ∙ digit_code printable tt tt n h
 
@@ -59,8 +59,8 @@ small_digit v k = both (λ (n : ℕ). n < 16) (eqb k 0) (omega arith) (both (λ 
 
 -- ---- a mark's bytes
 
-pub mark_digit : (v n i d r : ℕ) → (i ≢ 0) → i + 1 < n → (ltb 4 n && eqb i 1) ≡ false → (ltb 4 n && eqb i 2) ≡ false → d ≡ digit_of v (n - i - 2) → r ≡ numbers.hexDigit (d % 16) → r ≡ mark_byte v n i
-mark_digit v n i d r z h a b e f = let m : d % 16 ≡ d = omega (arith, e, small_digit v (n - i - 2)) in rw (ne_eqb i 0 z, lt-leb n (i + 1) h, a, b) (f ∙ ap numbers.hexDigit (m ∙ e))
+pub mark_digit : (v n i d r : ℕ) → (i ≢ 0) → i + 1 < n → (ltb 4 n && eqb i 1) ≡ false → (ltb 4 n && eqb i 2) ≡ false → d ≡ digit_of v (n - i - 2) → r ≡ numbers.hex_digit (d % 16) → r ≡ mark_byte v n i
+mark_digit v n i d r z h a b e f = let m : d % 16 ≡ d = omega (arith, e, small_digit v (n - i - 2)) in rw (ne_eqb i 0 z, lt-leb n (i + 1) h, a, b) (f ∙ ap numbers.hex_digit (m ∙ e))
 
 byte_printable : (v n i : ℕ) → printable (mark_byte v n i) ≡ true
 byte_printable v n i =

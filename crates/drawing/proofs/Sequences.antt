@@ -36,7 +36,7 @@ linkable line place q h k e =
     record {
       near = omega arith;
       from = λ p n m f.
-          let g : parse s ≡ found (hyperlink p n) m = spans.sequence-link (parse s) p n m (sym e ∙ f) in
+          let g : parse s ≡ found (hyperlink p n) m = spans.sequence_link (parse s) p n m (sym e ∙ f) in
           omega (arith, parse_link s p n m g, parse_length s (hyperlink p n) m g, ap length (slice_is line place), length-drop (place + 1) line);
     }
 

@@ -69,7 +69,7 @@ module _ (d : Rendering) (buffer l : List ℕ) (t : Stepped) (r : Record) (ready
   -- ---- by the kind
 
   text_is : (u : State) → (eqb r.kind 1 || eqb r.kind 2) ≡ true → render_record d line u r
-      ≡ write_truncated (profile_of d.window.profile) d.window.start.0 d.window.end.0 u (style_of (record_style r.kind d.current r.matched)) (shown_text u.lineDrawing (text_in r.len (drop r.place.0 line)))
+      ≡ write_truncated (profile_of d.window.profile) d.window.start.0 d.window.end.0 u (style_of (record_style r.kind d.current r.matched)) (shown_text u.line_drawing (text_in r.len (drop r.place.0 line)))
   unfolding render_record
   text_is u b = rw b refl
 

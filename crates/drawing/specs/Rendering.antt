@@ -102,7 +102,7 @@ module _ (d : Rendering) (line : List ℕ) where
       let start : ℕ = d.window.start.0 in
       let end : ℕ = d.window.end.0 in
       let part : List Scalar = text_in r.len (drop r.place.0 line) in
-      cond (eqb r.kind 1 || eqb r.kind 2) (write_truncated P start end t (style_of (record_style r.kind d.current r.matched)) (shown_text t.lineDrawing part))
+      cond (eqb r.kind 1 || eqb r.kind 2) (write_truncated P start end t (style_of (record_style r.kind d.current r.matched)) (shown_text t.line_drawing part))
       (cond (eqb r.kind 3 || (eqb r.kind 4 || eqb r.kind 10)) (write_truncated P start end t (style_of (composed_style r.kind)) (composed_text r.kind (get_or line r.place.0 0) t.position))
       (cond (eqb r.kind 5) (write_marks P start end t part)
       (sent [] (render_sequence P start end t r.place.0 (record_sequence d.crew line r.kind r.place.0)))))
@@ -131,10 +131,10 @@ pub record Opened (d : Rendering) (l l' : List ℕ) (t : Stepped) : Type 0 where
 
 -- behind the spans, but for the default attributes
 abbrev pub closing_window : ℕ → State → List Change
-closing_window end t = cond (ltb end t.position) right_arrow (cond (ltb t.position end) (clear_to_end t.endOfLine ∷ []) [])
+closing_window end t = cond (ltb end t.position) right_arrow (cond (ltb t.position end) (clear_to_end t.end_of_line ∷ []) [])
 
 abbrev pub closing_rows : Bool → State → List Change
-closing_rows room t = cond room (clear_to_end t.endOfLine ∷ []) []
+closing_rows room t = cond room (clear_to_end t.end_of_line ∷ []) []
 
 abbrev pub closing_edge : Rendering → State → List Change
 closing_edge d t = cond d.wrapped (closing_rows d.room t) (closing_window d.window.end.0 t)

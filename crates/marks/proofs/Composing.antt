@@ -15,9 +15,9 @@ use Rattle.marks.specs.Composed.{change, clipped_change, plain_change, arrow_cha
 -- ---- digits
 
 abbrev digit : ℕ → ℕ
-digit n = numbers.hexDigit (n % 16)
+digit n = numbers.hex_digit (n % 16)
 
-pub digit_pushed : (s s' : Sink) (b n : ℕ) → b ≡ numbers.hexDigit (n % 16 % 16) → s' ≡ put s b → s' ≡ emit s (numbers.hexDigit (n % 16) ∷ [])
+pub digit_pushed : (s s' : Sink) (b n : ℕ) → b ≡ numbers.hex_digit (n % 16 % 16) → s' ≡ put s b → s' ≡ emit s (numbers.hex_digit (n % 16) ∷ [])
 digit_pushed s s' b n e p = let m : n % 16 % 16 ≡ n % 16 = omega arith in rw (← m, ← e) (emit_put s s' b p)
 
 -- ---- the mark of a scalar
@@ -78,10 +78,10 @@ mark_length v =
 
 -- ---- the mark of a byte
 
-pub byte_pushed : (s s₁ s₂ s₃ s₄ : Sink) (b h l : ℕ) → b < 256 → h ≡ numbers.hexDigit (b / 16 % 16) → l ≡ numbers.hexDigit (b % 16 % 16) → s₁ ≡ put s 0x3C → s₂ ≡ put s₁ h → s₃ ≡ put s₂ l → s₄ ≡ put s₃ 0x3E → s₄ ≡ emit s (bytes_of (byte_mark b))
+pub byte_pushed : (s s₁ s₂ s₃ s₄ : Sink) (b h l : ℕ) → b < 256 → h ≡ numbers.hex_digit (b / 16 % 16) → l ≡ numbers.hex_digit (b % 16 % 16) → s₁ ≡ put s 0x3C → s₂ ≡ put s₁ h → s₃ ≡ put s₂ l → s₄ ≡ put s₃ 0x3E → s₄ ≡ emit s (bytes_of (byte_mark b))
 byte_pushed s s₁ s₂ s₃ s₄ b h l g e f p q r t =
-    let m : numbers.hexDigit (b / 16) ≡ h = ap numbers.hexDigit (let x : b / 16 ≡ b / 16 % 16 = omega arith in x) ∙ sym e in
-    let n : numbers.hexDigit (b % 16) ≡ l = ap numbers.hexDigit (let x : b % 16 ≡ b % 16 % 16 = omega arith in x) ∙ sym f in
+    let m : numbers.hex_digit (b / 16) ≡ h = ap numbers.hex_digit (let x : b / 16 ≡ b / 16 % 16 = omega arith in x) ∙ sym e in
+    let n : numbers.hex_digit (b % 16) ≡ l = ap numbers.hex_digit (let x : b % 16 ≡ b % 16 % 16 = omega arith in x) ∙ sym f in
     rw (byte_bytes b, m, n) (then_put s s₃ s₄ (0x3C ∷ h ∷ l ∷ []) 0x3E (then_put s s₂ s₃ (0x3C ∷ h ∷ []) l (then_put s s₁ s₂ (0x3C ∷ []) h (emit_put s s₁ 0x3C p) q) r) t)
 
 -- ---- what was composed in ten bytes
@@ -99,7 +99,7 @@ module _ (mark : List ℕ) (n : ℕ) where
 
   module _ (b : ℕ) (e : sink mark n ≡ emit (sink (replicate 10 0) 0) (bytes_of (byte_mark b))) (l : length mark ≡ 10) where
     pub byte_inside : n ≤ length mark
-    byte_inside = fits (0x3C ∷ numbers.hexDigit (b / 16) ∷ numbers.hexDigit (b % 16) ∷ 0x3E ∷ []) (omega arith) l (e ∙ ap (emit (sink (replicate 10 0) 0)) (byte_bytes b))
+    byte_inside = fits (0x3C ∷ numbers.hex_digit (b / 16) ∷ numbers.hex_digit (b % 16) ∷ 0x3E ∷ []) (omega arith) l (e ∙ ap (emit (sink (replicate 10 0) 0)) (byte_bytes b))
 
     pub byte_fits : n ≡ length (take n mark)
     byte_fits = sym (length-take-le n mark byte_inside)

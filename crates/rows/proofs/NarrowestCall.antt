@@ -70,7 +70,7 @@ module _ (size places mode wanted greatest : ℕ) (line : List ℕ) (a : Answer)
     pub widths_room : length cs ≡ size → WidthsRoom rs cs o.request a.count
     unfolding plan_of
     widths_room l =
-        let c = reading.count-in size places [] line a cs rs read a.number refl in
+        let c = reading.count_in size places [] line a cs rs read a.number refl in
         let h = line_room_law cs (line_room size) (ap line_room (sym l)) in
         rw o_is (record { room = record { there = c.0; few = c.1; short = h.0; fits = h.1; low = omega arith; near = omega arith; more = omega arith }; few = few_widths a.number refl })
 
@@ -105,8 +105,8 @@ module _ (size places mode wanted greatest : ℕ) (line : List ℕ) (a : Answer)
         unfolding plan_of
         same_test w =
             let held = rw (unmatched_spans profile01 s) at (reading.held_in size places [] line a cs rs read fine) in
-            let l = reading.line-part size places [] line a cs rs read fine in
-            let r = rw (unmatched_spans profile01 s) at (reading.spans-part size places [] line a cs rs read fine) in
+            let l = reading.line_part size places [] line a cs rs read fine in
+            let r = rw (unmatched_spans profile01 s) at (reading.spans_part size places [] line a cs rs read fine) in
             let k : mode ≤ 4 = omega (arith, (asked_ranges mode wanted greatest e).0.1) in
             ap (λ (n : ℕ). leb n wanted)
             (rw (l, r, profile_is (plan_of 0 mode wanted greatest size).request.wrapping.profile) (ap (λ (x : List Row). length x) (rows_of_spans profile01 w (s ++ after) ss held mode k) ∙ length-reverse (rows profile01 w (mode_of mode) ss)))

@@ -106,7 +106,7 @@ module _ (size places : ℕ) (line found : List ℕ) (a : Answer) (cs : List ℕ
       pub call_room : length cs ≡ size → SpansRoom rs cs w.len t n
       unfolding spans_wrapped
       call_room l =
-          let c = reading.count-in size places [] line a cs rs read_is a.number refl in
+          let c = reading.count_in size places [] line a cs rs read_is a.number refl in
           let h = line_room_law cs w.len (ap (λ (x : Wrapping). x.len) w_is ∙ ap line_room (sym l)) in
           let m : n ≤ a.count = cases (eqb q.known 0) (λ e. omega (arith, rw e at n_is)) (λ e. omega (arith, rw e at n_is)) in
           rw t_is (record { there = omega (arith, c.0); few = omega (arith, c.1); short = h.0; fits = h.1; low = omega arith; near = omega arith; more = omega arith })
@@ -135,7 +135,7 @@ module _ (size places : ℕ) (line found : List ℕ) (a : Answer) (cs : List ℕ
           made_is : MadeWrap profile01 q.width q.mode (s ++ after) (records ss) l (beginning 0 0) l' tally
           made_is =
               let m = subst (λ (P : Profile). MadeWrap P w.width.0 w.mode (take w.len cs) (take n rs) l t l' tally) (profile_is w.profile) made in
-              rw (← unmatched_spans profile01 s, ← reading.line-part size places [] line a cs rs read_is fine, ← reading.spans-part size places [] line a cs rs read_is fine, ← t_is, ← all_spans) (rw w_is at m)
+              rw (← unmatched_spans profile01 s, ← reading.line_part size places [] line a cs rs read_is fine, ← reading.spans_part size places [] line a cs rs read_is fine, ← t_is, ← all_spans) (rw w_is at m)
 
           rows_are : row_list l' tally ≡ with_rows none_yet (reverse wrapped)
           rows_are = made_is.same ∙ rows_written profile01 q.width (s ++ after) l 0 0 ss q.mode mode_low (rw (unmatched_spans profile01 s) at (reading.held_in size places [] line a cs rs read_is fine))

@@ -77,14 +77,14 @@ front_is t q rest es p s =
 
 pub joined_indicators : (k : Context) → joined 10 k 10 ≡ k.odd
 unfolding joined among number
-joined_indicators k = rw (and-false k.emojiZwj) (cases k.odd (λ e. rw e refl) (λ e. rw e refl))
+joined_indicators k = rw (and-false k.emoji_zwj) (cases k.odd (λ e. rw e refl) (λ e. rw e refl))
 
-pub joined_picture : (k : Context) → joined 4 k 12 ≡ k.emojiZwj
+pub joined_picture : (k : Context) → joined 4 k 12 ≡ k.emoji_zwj
 unfolding joined among number
-joined_picture k = rw (and-false k.odd) (cases k.emojiZwj (λ e. rw e refl) (λ e. rw e refl))
+joined_picture k = rw (and-false k.odd) (cases k.emoji_zwj (λ e. rw e refl) (λ e. rw e refl))
 
 -- the context counts for a regional indicator and an Extended_Pictographic alone
-joined_context : (p c : ℕ) (k k' : Context) → k.odd && eqb c 10 ≡ (k'.odd && eqb c 10) → k.emojiZwj && eqb c 12 ≡ (k'.emojiZwj && eqb c 12) → joined p k c ≡ joined p k' c
+joined_context : (p c : ℕ) (k k' : Context) → k.odd && eqb c 10 ≡ (k'.odd && eqb c 10) → k.emoji_zwj && eqb c 12 ≡ (k'.emoji_zwj && eqb c 12) → joined p k c ≡ joined p k' c
 unfolding joined among number
 joined_context p c k k' e f = rw (e, f) refl
 
@@ -262,7 +262,7 @@ module _ (P : Profile) where
       pub joins_known : (eqb p 4 && eqb k 12) ≡ true → r ≡ false → context P (backward (take q t)) ≡ start → r ≡ joins_at P t q
       joins_known m z o =
           let w = and_T (eqb p 4) (eqb k 12) (true_T m) in
-          joins_by (λ d rest e g x. rw (eqb→eq p 4 w.0, eqb→eq k 12 w.1) (z ∙ sym (ap (λ (k : Context). k.emojiZwj) (rw e at o)) ∙ sym (joined_picture (context P (d ∷ rest)))))
+          joins_by (λ d rest e g x. rw (eqb→eq p 4 w.0, eqb→eq k 12 w.1) (z ∙ sym (ap (λ (k : Context). k.emoji_zwj) (rw e at o)) ∙ sym (joined_picture (context P (d ∷ rest)))))
 
       -- no two of these
       pub joins_single : (eqb p 10 && eqb k 10) ≡ false → (eqb p 4 && eqb k 12) ≡ false → r ≡ joined p (state_context p) k → r ≡ joins_at P t q

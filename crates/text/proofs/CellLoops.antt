@@ -99,7 +99,7 @@ few : (t : Style) → overstruck_length t ≤ 5
 few Style.normal = omega arith
 few Style.bold = omega arith
 few Style.underline = omega arith
-few Style.boldUnderline = omega arith
+few Style.bold_underline = omega arith
 
 module _ (cells : List ℕ) (n i : ℕ) (z : Counted cells n i) where
   counted_test : (leb n 4096 && ltb (i + 1) (length cells)) ≡ true → (n ≤ 4096) × (i + 1 < length cells)

@@ -99,7 +99,7 @@ cluster_at P line p e h i n = go (run_of (decode (drop p line))) refl
 -- no cluster begins at a damaged byte
 no_cluster : (P : Profile) (line : List ℕ) (p e : ℕ) → e ≡ p + first_size P (run_of (decode (drop p line))) → e ≡ p → run_of (decode (drop p line)) ≡ []
 unfolding first_size
-no_cluster P line p e i n = first_none P (laws.run-valid (drop p line)) (omega (arith, i, n))
+no_cluster P line p e i n = first_none P (laws.run_valid (drop p line)) (omega (arith, i, n))
 
 -- ---- the loop over a run's clusters
 
@@ -142,7 +142,7 @@ module _ (P : Profile) (line l : List ℕ) (p e : ℕ) (st : Conversion) (w : Ru
     unfolding steps
     running_turn =
         let k = cluster in
-        let t : state_of line l' r ≡ step P (state_of line l st) k.g = s.same ∙ ap (step P (state_of line l st)) k.same-part in
+        let t : state_of line l' r ≡ step P (state_of line l st) k.g = s.same ∙ ap (step P (state_of line l st)) k.same_part in
         let a = step_weight P (state_of line l st) k.g k.full in
         record {
           sound = s.sound;

@@ -196,7 +196,7 @@ module _ (line : List ℕ) (st : Conversion) (a e : ℕ) (w : Strike line st a e
       ≡ cond x (cond uh (result l under (ambiguous (style_of st.before) (style_of st.style))) (result l under (bolded (style_of st.style))))
       (cond uh (result l under (underlined (style_of st.style))) (cond ug (result l upper (underlined (style_of st.style))) (result l upper normal)))
   unfolding cluster_on state_of pending_of on_cluster strike reads
-  struck_all P l = rw (ne_eqb st.pending 0 w.notNone, ne_eqb st.pending 1 w.notHeld, w.under.valid, w.upper.valid, ← part_slice st.at st.end line, ← part_slice a e line, ← xs, ← hs, ← gs) refl
+  struck_all P l = rw (ne_eqb st.pending 0 w.not_none, ne_eqb st.pending 1 w.not_held, w.under.valid, w.upper.valid, ← part_slice st.at st.end line, ← part_slice a e line, ← xs, ← hs, ← gs) refl
 
   keeps : (P : Profile) (l : List ℕ) (r : Conversion) (o : Overstrike) (s : Style) → r ≡ conversion st.len 1 st.at st.end st.before o st.known → style_of o ≡ s → Sound P line l st
       → result l under s ≡ cluster_on P (state_of line l st) upper → Stepped P line l r (cluster_on P (state_of line l st) upper)

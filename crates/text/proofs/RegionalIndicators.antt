@@ -11,7 +11,7 @@ use lib.ListN.{drop, length, take, take-append-drop}
 use lib.Seq.{get_or-drop, take-take}
 use borrow.Author.Tests.{eqb-true, leb-false, leb-true}
 use Rattle.text.specs.Backward.{KnownPlace, ScalarStart, back, backward, indicator_at, joins_at, without_last}
-use Rattle.text.specs.Class.{Class, Profile, among, class01, class_l, class_lV, class_lVT, class_t, class_v, control, controls, cr, extend, extended_pictographic, extends, in_any, is_control, lf, number, other, pictographs, regional_indicator, zwj}
+use Rattle.text.specs.Class.{Class, Profile, among, class01, class_l, class_lv, class_lvt, class_t, class_v, control, controls, cr, extend, extended_pictographic, extends, in_any, is_control, lf, number, other, pictographs, regional_indicator, zwj}
 use Rattle.text.specs.Cluster.{Context, after, class_of, context, joined, joins, start}
 use Rattle.text.specs.Utf8.Code.{first_sequence, size}
 use Rattle.text.specs.Class.Code.{profile_of}
@@ -100,10 +100,10 @@ indicator_range v x e =
     let e₆ = not_ten (in_any (to 0x1100 0x115F ∷ to 0xA960 0xA97C ∷ []) x) class_l _ (λ z. omega (arith, z)) e₅ in
     let e₇ = not_ten (in_any (to 0x1160 0x11A7 ∷ to 0xD7B0 0xD7C6 ∷ []) x) class_v _ (λ z. omega (arith, z)) e₆ in
     let e₈ = not_ten (in_any (to 0x11A8 0x11FF ∷ to 0xD7CB 0xD7FB ∷ []) x) class_t _ (λ z. omega (arith, z)) e₇ in
-    let e₉ = not_ten (within (to 0xAC00 0xD7A3) x) (cond (eqb ((x - 0xAC00) % 28) 0) class_lV class_lVT) _ (no_syllable (eqb ((x - 0xAC00) % 28) 0)) e₈ in
+    let e₉ = not_ten (within (to 0xAC00 0xD7A3) x) (cond (eqb ((x - 0xAC00) % 28) 0) class_lv class_lvt) _ (no_syllable (eqb ((x - 0xAC00) % 28) 0)) e₈ in
     last (within (to 0x1F1E6 0x1F1FF) x) (in_any pictographs x) e₉
   where
-    no_syllable : (b : Bool) → number (cond b class_lV class_lVT) ≢ 10
+    no_syllable : (b : Bool) → number (cond b class_lv class_lvt) ≢ 10
     no_syllable true z = omega (arith, z)
     no_syllable false z = omega (arith, z)
 
@@ -230,7 +230,7 @@ start_behind P d rest c rd rc j =
 joined_even : (p : ℕ) (k : Context) → k.odd ≡ false → joined p k 10 ≡ false
 unfolding joined among number
 joined_even p k e =
-    rw (e, and-false k.emojiZwj, and-false (eqb p 0), and-false (eqb p 5), and-false (eqb p 8 || eqb p 6), and-false (eqb p 9 || eqb p 7))
+    rw (e, and-false k.emoji_zwj, and-false (eqb p 0), and-false (eqb p 5), and-false (eqb p 8 || eqb p 6), and-false (eqb p 9 || eqb p 7))
     (cases (eqb p 2 || (eqb p 0 || eqb p 1)) (λ f. rw f refl) (λ f. rw f refl))
 
 joins_even : (P : Profile) (rest : List Scalar) (d : Scalar) → number (P.class d.code) ≡ 10 → (context P rest).odd ≡ false → joins P rest d ≡ false

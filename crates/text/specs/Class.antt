@@ -10,7 +10,7 @@ pub mod Profile01
 pub mod Symbols
 
 pub data Class : Type 0 where
-  cr lf control extend zwj class_l class_v class_t class_lV class_lVT regional_indicator other extended_pictographic : Class
+  cr lf control extend zwj class_l class_v class_t class_lv class_lvt regional_indicator other extended_pictographic : Class
 
 -- the classes numbered, as code holds them
 unfoldable pub number : Class → ℕ
@@ -22,8 +22,8 @@ number zwj = 4
 number class_l = 5
 number class_v = 6
 number class_t = 7
-number class_lV = 8
-number class_lVT = 9
+number class_lv = 8
+number class_lvt = 9
 number regional_indicator = 10
 number other = 11
 number extended_pictographic = 12
@@ -67,7 +67,7 @@ class01 v =
     (cond (in_any (to 0x1100 0x115F ∷ to 0xA960 0xA97C ∷ []) v) class_l
     (cond (in_any (to 0x1160 0x11A7 ∷ to 0xD7B0 0xD7C6 ∷ []) v) class_v
     (cond (in_any (to 0x11A8 0x11FF ∷ to 0xD7CB 0xD7FB ∷ []) v) class_t
-    (cond (within (to 0xAC00 0xD7A3) v) (cond (eqb ((v - 0xAC00) % 28) 0) class_lV class_lVT)
+    (cond (within (to 0xAC00 0xD7A3) v) (cond (eqb ((v - 0xAC00) % 28) 0) class_lv class_lvt)
     (cond (within (to 0x1F1E6 0x1F1FF) v) regional_indicator
     (cond (in_any pictographs v) extended_pictographic other))))))))))
 

@@ -3,7 +3,7 @@ use Rattle.std.specs.Prelude.{ℕ, Bool, true, not, cond, ◌&&◌, ◌||◌}
 use Rattle.std.proofs.Math.Bool.{false}
 use mathlib.Core.List.{List, [], ◌∷◌, ◌++◌}
 use Rattle.text.specs.Utf8.{Scalar}
-use Rattle.text.specs.Class.{cr, lf, control, extend, zwj, class_l, class_v, class_t, class_lV, class_lVT, regional_indicator, extended_pictographic, number, among, Profile}
+use Rattle.text.specs.Class.{cr, lf, control, extend, zwj, class_l, class_v, class_t, class_lv, class_lvt, regional_indicator, extended_pictographic, number, among, Profile}
 pub mod Laws
 pub mod Appended
 pub mod Walk
@@ -44,11 +44,11 @@ joined p k c =
     cond (among p (cr ∷ []) && among c (lf ∷ [])) true  -- GB3
     (cond (among p (control ∷ cr ∷ lf ∷ [])) false  -- GB4
     (cond (among c (control ∷ cr ∷ lf ∷ [])) false  -- GB5
-    (cond (among p (class_l ∷ []) && among c (class_l ∷ class_v ∷ class_lV ∷ class_lVT ∷ [])) true  -- GB6
-    (cond (among p (class_lV ∷ class_v ∷ []) && among c (class_v ∷ class_t ∷ [])) true  -- GB7
-    (cond (among p (class_lVT ∷ class_t ∷ []) && among c (class_t ∷ [])) true  -- GB8
+    (cond (among p (class_l ∷ []) && among c (class_l ∷ class_v ∷ class_lv ∷ class_lvt ∷ [])) true  -- GB6
+    (cond (among p (class_lv ∷ class_v ∷ []) && among c (class_v ∷ class_t ∷ [])) true  -- GB7
+    (cond (among p (class_lvt ∷ class_t ∷ []) && among c (class_t ∷ [])) true  -- GB8
     (cond (among c (extend ∷ zwj ∷ [])) true  -- GB9
-    (cond (k.emojiZwj && among c (extended_pictographic ∷ [])) true  -- GB11
+    (cond (k.emoji_zwj && among c (extended_pictographic ∷ [])) true  -- GB11
     (cond (k.odd && among c (regional_indicator ∷ [])) true  -- GB12, GB13
     false))))))))  -- GB999
 

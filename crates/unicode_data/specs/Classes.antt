@@ -25,11 +25,11 @@ class_v = 6
 abbrev pub class_t : ℕ
 class_t = 7
 
-abbrev pub class_lV : ℕ
-class_lV = 8
+abbrev pub class_lv : ℕ
+class_lv = 8
 
-abbrev pub class_lVT : ℕ
-class_lVT = 9
+abbrev pub class_lvt : ℕ
+class_lvt = 9
 
 abbrev pub regional_indicator : ℕ
 regional_indicator = 10

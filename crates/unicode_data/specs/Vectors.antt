@@ -1,6 +1,6 @@
 -- What the table of Unicode 15.0 says of some scalars, computed.
 use Rattle.std.specs.Prelude.{ℕ, ◌≡◌, refl, List, [], ◌∷◌, map}
-use Rattle.unicode_data.specs.Classes.{class_l, class_lV, class_lVT, class_v, control, extend, extended_pictographic, other, prepend, regional_indicator, spacing_mark}
+use Rattle.unicode_data.specs.Classes.{class_l, class_lv, class_lvt, class_v, control, extend, extended_pictographic, other, prepend, regional_indicator, spacing_mark}
 use Rattle.unicode_data.specs.Table.{Row, row, row_of}
 use Rattle.unicode_data.specs.Table150.{table150}
 
@@ -16,8 +16,8 @@ pub rows_150 : map (row_of table150)
     ∷ row 0x1100 0x115F class_l 2
     ∷ row 0x1160 0x11A7 class_v 0
     ∷ row 0x302A 0x302F extend 0
-    ∷ row 0xAC00 0xAC00 class_lV 2
-    ∷ row 0xAC01 0xAC1B class_lVT 2
+    ∷ row 0xAC00 0xAC00 class_lv 2
+    ∷ row 0xAC01 0xAC1B class_lvt 2
     ∷ row 0x16FF0 0x16FF1 spacing_mark 2
     ∷ row 0x1F1E6 0x1F1FF regional_indicator 1
     ∷ row 0x1F442 0x1F4FC extended_pictographic 2

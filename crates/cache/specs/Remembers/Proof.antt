@@ -33,12 +33,12 @@ module _ (P : Profile) (line : List ℕ) where
   abbrev rows_at : Key → List Row
   rows_at k = rows P k.width (mode_of k.mode) (spans P (convert P line))
 
-  abbrev wrapAt : Key → Wrap
-  wrapAt k = record { count = length (rows_at k); numbers = numbers_of (rows_at k) }
+  abbrev wrap_at : Key → Wrap
+  wrap_at k = record { count = length (rows_at k); numbers = numbers_of (rows_at k) }
 
   -- what is kept for a head is the wrap of its key
   abbrev Right : List ℕ → Head → Type 0
-  Right wraps h = ◌≡◌ {A = Wrap} (record { count = h.count; numbers = kept_numbers wraps h }) (wrapAt (key_of h))
+  Right wraps h = ◌≡◌ {A = Wrap} (record { count = h.count; numbers = kept_numbers wraps h }) (wrap_at (key_of h))
 
   -- the wraps kept are right, and those of the last four different keys of these
   record Invariant (wraps : List ℕ) (us : List Key) : Type 0 where
@@ -50,22 +50,22 @@ module _ (P : Profile) (line : List ℕ) where
 
   module _ (wraps : List ℕ) (us : List Key) (g : Invariant wraps us) where
     -- a kept key is answered with its wrap
-    kept-answer : (k : Key) → wrap_for wraps (find k (kept wraps)) (rows_at k) ≡ wrapAt k
+    kept_answer : (k : Key) → wrap_for wraps (find k (kept wraps)) (rows_at k) ≡ wrap_at k
     unfolding wrap_for
-    kept-answer k = go (find k (kept wraps)) refl
+    kept_answer k = go (find k (kept wraps)) refl
       where
-        go : (o : Option Head) → find k (kept wraps) ≡ o → wrap_for wraps o (rows_at k) ≡ wrapAt k
+        go : (o : Option Head) → find k (kept wraps) ≡ o → wrap_for wraps o (rows_at k) ≡ wrap_at k
         go none e = refl
-        go (some h) e = let r = found_has k h g.right e in r.0 ∙ ap wrapAt r.1
+        go (some h) e = let r = found_has k h g.right e in r.0 ∙ ap wrap_at r.1
 
     one : (k : Key) → length (kept wraps) ≤ suc (length (without k (kept wraps)))
     one k = heads_apart k us (kept wraps) g.keys
 
     -- heads written over right blocks
-    invariant-heads : (later : List ℕ) (h : Head) → length later ≡ 8212 → Within h → Free h.block (behind (key_of h) (kept wraps)) → All (Right later) (h ∷ behind (key_of h) (kept wraps))
+    invariant_heads : (later : List ℕ) (h : Head) → length later ≡ 8212 → Within h → Free h.block (behind (key_of h) (kept wraps)) → All (Right later) (h ∷ behind (key_of h) (kept wraps))
         → Invariant (after_use later (kept wraps) h) (key_of h ∷ us)
     unfolding after_use
-    invariant-heads later h size w f r =
+    invariant_heads later h size w f r =
         let k : Key = key_of h in
         let hs : List Head = h ∷ behind k (kept wraps) in
         let few : length hs ≤ 4 = omega (arith, length-take 3 (without k (kept wraps))) in
@@ -77,16 +77,16 @@ module _ (P : Profile) (line : List ℕ) where
         }
 
     -- a kept key moves to the front
-    invariant-found : (k : Key) (h : Head) → find k (kept wraps) ≡ some h → Invariant (after_use wraps (kept wraps) h) (k ∷ us)
-    invariant-found k h e =
+    invariant_found : (k : Key) (h : Head) → find k (kept wraps) ≡ some h → Invariant (after_use wraps (kept wraps) h) (k ∷ us)
+    invariant_found k h e =
         let w = found_has k h (kept_well wraps).within e in
         let f : find (key_of h) (kept wraps) ≡ some h = rw w.1 e in
-        rw w.1 at (invariant-heads wraps h g.size w.0 (free_found wraps (key_of h) (one (key_of h)) h f) (all_cons (found_has k h g.right e).0 (part_behind (key_of h) g.right)))
+        rw w.1 at (invariant_heads wraps h g.size w.0 (free_found wraps (key_of h) (one (key_of h)) h f) (all_cons (found_has k h g.right e).0 (part_behind (key_of h) g.right)))
 
     -- another one comes there
-    invariant-new : (k : Key) → find k (kept wraps) ≡ none → length (rows_at k) ≤ 1024
+    invariant_new : (k : Key) → find k (kept wraps) ≡ none → length (rows_at k) ≤ 1024
         → Invariant (after_use (written wraps (block_at (new_block (kept wraps))) (numbers_of (rows_at k))) (kept wraps) (head k (length (rows_at k)) (new_block (kept wraps)))) (k ∷ us)
-    invariant-new k e fits =
+    invariant_new k e fits =
         let b : ℕ = new_block (kept wraps) in
         let h : Head = head k (length (rows_at k)) b in
         let xs : List ℕ = numbers_of (rows_at k) in
@@ -100,58 +100,58 @@ module _ (P : Profile) (line : List ℕ) where
         all_map
         (λ x q. rw (block_other wraps xs b g.size low few x q.0.0.fits (λ z. q.1 (sym z))) q.0.1)
         (all_both (part_behind k (all_both (kept_well wraps).within g.right)) f.other) in
-        invariant-heads (written wraps (block_at b) xs) h (block_length wraps xs b g.size low few) (record { some = some; fits = fits; block = low }) f (all_cons here others)
+        invariant_heads (written wraps (block_at b) xs) h (block_length wraps xs b g.size low few) (record { some = some; fits = fits; block = low }) f (all_cons here others)
 
-    invariant-use : (k : Key) → Invariant (wraps_after wraps k (find k (kept wraps)) (wrapAt k)) (cond (leb (length (rows_at k)) 1024) (k ∷ us) us)
+    invariant_use : (k : Key) → Invariant (wraps_after wraps k (find k (kept wraps)) (wrap_at k)) (cond (leb (length (rows_at k)) 1024) (k ∷ us) us)
     unfolding wraps_after with_wrap
-    invariant-use k = go (find k (kept wraps)) refl
+    invariant_use k = go (find k (kept wraps)) refl
       where
-        go : (o : Option Head) → find k (kept wraps) ≡ o → Invariant (wraps_after wraps k o (wrapAt k)) (cond (leb (length (rows_at k)) 1024) (k ∷ us) us)
-        go none e = cases (leb (length (rows_at k)) 1024) (λ t. rw t (invariant-new k e (leb-true _ _ t))) (λ t. rw t g)
+        go : (o : Option Head) → find k (kept wraps) ≡ o → Invariant (wraps_after wraps k o (wrap_at k)) (cond (leb (length (rows_at k)) 1024) (k ∷ us) us)
+        go none e = cases (leb (length (rows_at k)) 1024) (λ t. rw t (invariant_new k e (leb-true _ _ t))) (λ t. rw t g)
         go (some h) e =
             let w = found_has k h (all_both (kept_well wraps).within g.right) e in
-            let n : h.count ≡ length (rows_at k) = ap (λ (x : Wrap). x.count) (w.0.1 ∙ ap wrapAt w.1) in
-            rw (← n, le-leb h.count 1024 w.0.0.fits) (invariant-found k h e)
+            let n : h.count ≡ length (rows_at k) = ap (λ (x : Wrap). x.count) (w.0.1 ∙ ap wrap_at w.1) in
+            rw (← n, le-leb h.count 1024 w.0.0.fits) (invariant_found k h e)
 
     -- a use unless refused
-    invariant-unless : (r : ℕ) (k : Key) → Invariant (unless_refused r (wraps_after wraps k (find k (kept wraps)) (wrapAt k)) wraps) (cond (eqb r 0 && leb (counted (length (rows_at k)) r) 1024) (k ∷ us) us)
+    invariant_unless : (r : ℕ) (k : Key) → Invariant (unless_refused r (wraps_after wraps k (find k (kept wraps)) (wrap_at k)) wraps) (cond (eqb r 0 && leb (counted (length (rows_at k)) r) 1024) (k ∷ us) us)
     unfolding unless_refused counted
-    invariant-unless zero k = invariant-use k
-    invariant-unless (suc r) k = rw (eqb-suc-zero r) g
+    invariant_unless zero k = invariant_use k
+    invariant_unless (suc r) k = rw (eqb-suc-zero r) g
 
-    unless-same : (r : ℕ) → unless_refused r wraps wraps ≡ wraps
+    unless_same : (r : ℕ) → unless_refused r wraps wraps ≡ wraps
     unfolding unless_refused
-    unless-same zero = refl
-    unless-same (suc r) = refl
+    unless_same zero = refl
+    unless_same (suc r) = refl
 
     -- ---- one call
 
-    invariant-call : (c : Call) → Invariant (cached P line wraps c).wraps (cond (is_use P line c) (key_used c ∷ us) us)
+    invariant_call : (c : Call) → Invariant (cached P line wraps c).wraps (cond (is_use P line c) (key_used c ∷ us) us)
     unfolding cached is_use unwrapped_height key_used answer cached_rows_call cached_height_call rows_call height_call
-    invariant-call (Call.rows conv places numbers width mode) =
-        rw (kept-answer (key 0 width mode)) (invariant-unless (rows_call P conv places numbers width mode line).number (key 0 width mode))
-    invariant-call (Call.height conv places width zero) = rw (unless-same (height_call P conv places width 0 line).number) g
-    invariant-call (Call.height conv places width (suc mode)) =
-        rw (eqb-suc-zero mode, kept-answer (key 0 width (suc mode))) (invariant-unless (height_call P conv places width (suc mode) line).number (key 0 width (suc mode)))
+    invariant_call (Call.rows conv places numbers width mode) =
+        rw (kept_answer (key 0 width mode)) (invariant_unless (rows_call P conv places numbers width mode line).number (key 0 width mode))
+    invariant_call (Call.height conv places width zero) = rw (unless_same (height_call P conv places width 0 line).number) g
+    invariant_call (Call.height conv places width (suc mode)) =
+        rw (eqb-suc-zero mode, kept_answer (key 0 width (suc mode))) (invariant_unless (height_call P conv places width (suc mode) line).number (key 0 width (suc mode)))
 
     same_answer : (c : Call) → (cached P line wraps c).answer ≡ answer P line c
     unfolding cached answer cached_rows_call cached_height_call rows_call height_call rows mode_of
-    same_answer (Call.rows conv places numbers width mode) = rw (kept-answer (key 0 width mode))
+    same_answer (Call.rows conv places numbers width mode) = rw (kept_answer (key 0 width mode))
     same_answer (Call.height conv places width zero) = refl
-    same_answer (Call.height conv places width (suc mode)) = rw (eqb-suc-zero mode, kept-answer (key 0 width (suc mode)))
+    same_answer (Call.height conv places width (suc mode)) = rw (eqb-suc-zero mode, kept_answer (key 0 width (suc mode)))
 
   -- ---- any calls
 
-  invariant-calls : (wraps : List ℕ) (us : List Key) (cs : List Call) → Invariant wraps us → Invariant (wraps_from P line wraps cs) (used_from P line us cs)
+  invariant_calls : (wraps : List ℕ) (us : List Key) (cs : List Call) → Invariant wraps us → Invariant (wraps_from P line wraps cs) (used_from P line us cs)
   unfolding wraps_from used_from
-  invariant-calls wraps us [] g = g
-  invariant-calls wraps us (c ∷ cs) g = invariant-calls (cached P line wraps c).wraps (cond (is_use P line c) (key_used c ∷ us) us) cs (invariant-call wraps us g c)
+  invariant_calls wraps us [] g = g
+  invariant_calls wraps us (c ∷ cs) g = invariant_calls (cached P line wraps c).wraps (cond (is_use P line c) (key_used c ∷ us) us) cs (invariant_call wraps us g c)
 
-  invariant-none : (wraps : List ℕ) → NoneKept wraps → Invariant wraps []
+  invariant_none : (wraps : List ℕ) → NoneKept wraps → Invariant wraps []
   unfolding different
-  invariant-none wraps n = record { size = n.size; keys = rw n.none; right = rw n.none all_nil }
+  invariant_none wraps n = record { size = n.size; keys = rw n.none; right = rw n.none all_nil }
 
 pub remembers : (P : Profile) (line wraps : List ℕ) → NoneKept wraps → (cs : List Call) → Remembers P line wraps cs
 remembers P line wraps n cs =
-    let g = invariant-calls P line wraps [] cs (invariant-none P line wraps n) in
+    let g = invariant_calls P line wraps [] cs (invariant_none P line wraps n) in
     record { answers = same_answer P line (wraps_from P line wraps cs) (used_from P line [] cs) g; keys = g.keys }

@@ -26,81 +26,81 @@ unfolding total
 total_append [] b = omega arith
 total_append (u ∷ a) b = omega (arith, total_append a b)
 
-between-front : (ds us : List ℕ) → Between (total ds) (ds ++ us)
+between_front : (ds us : List ℕ) → Between (total ds) (ds ++ us)
 unfolding total
-between-front [] us = front
-between-front (d ∷ ds) us = behind (between-front ds us)
+between_front [] us = front
+between_front (d ∷ ds) us = behind (between_front ds us)
 
 -- ---- mode 1's rows are none wider than the width
 
 module _ (width : ℕ) where
-  narrow-last : (done : List Row) (s p : ℕ) → p - s ≤ width → Narrow width done → Narrow width (last_row s p done)
+  narrow_last : (done : List Row) (s p : ℕ) → p - s ≤ width → Narrow width done → Narrow width (last_row s p done)
   unfolding last_row
-  narrow-last [] s p h f = all_cons h f
-  narrow-last (r ∷ rs) s p h f = both (Narrow width) (ltb s p) (all_cons h f) f
+  narrow_last [] s p h f = all_cons h f
+  narrow_last (r ∷ rs) s p h f = both (Narrow width) (ltb s p) (all_cons h f) f
 
-  narrow-taken : (us : List ℕ) (done : List Row) (s p : ℕ) → s ≤ p → p ≤ s + width → All (λ (u : ℕ). u ≤ width) us → Narrow width done → Narrow width (finished (taken width (wrap done s p) us))
+  narrow_taken : (us : List ℕ) (done : List Row) (s p : ℕ) → s ≤ p → p ≤ s + width → All (λ (u : ℕ). u ≤ width) us → Narrow width done → Narrow width (finished (taken width (wrap done s p) us))
   unfolding taken
-  narrow-taken [] done s p h k small f = narrow-last done s p (omega arith) f
-  narrow-taken (u ∷ us) done s p h k (all_cons q small) f =
+  narrow_taken [] done s p h k small f = narrow_last done s p (omega arith) f
+  narrow_taken (u ∷ us) done s p h k (all_cons q small) f =
       taking width (λ (t : Wrap). Narrow width (finished (taken width t us))) done s p u h
-      (λ l. narrow-taken us done s (p + u) (omega arith) l small f)
-      (λ l. narrow-taken us (row s p ∷ done) p (p + u) (omega arith) (omega arith) small (all_cons (omega arith) f))
+      (λ l. narrow_taken us done s (p + u) (omega arith) l small f)
+      (λ l. narrow_taken us (row s p ∷ done) p (p + u) (omega arith) (omega arith) small (all_cons (omega arith) f))
 
-narrow-turned : (width : ℕ) {rs qs : List Row} → Narrow width rs → Narrow width qs → Narrow width (reverse_aux rs qs)
-narrow-turned width all_nil f = f
-narrow-turned width (all_cons h e) f = narrow-turned width e (all_cons h f)
+narrow_turned : (width : ℕ) {rs qs : List Row} → Narrow width rs → Narrow width qs → Narrow width (reverse_aux rs qs)
+narrow_turned width all_nil f = f
+narrow_turned width (all_cons h e) f = narrow_turned width e (all_cons h f)
 
 module _ (P : Profile) (count : List Scalar → ℕ) where
   -- ---- and those of units taken one after the other
 
   module _ (width : ℕ) where
-    taken-append : (us vs : List ℕ) (t : Wrap) → taken width t (us ++ vs) ≡ taken width (taken width t us) vs
+    taken_append : (us vs : List ℕ) (t : Wrap) → taken width t (us ++ vs) ≡ taken width (taken width t us) vs
     unfolding taken
-    taken-append [] vs t = refl
-    taken-append (u ∷ us) vs t = taken-append us vs (unbroken width t u)
+    taken_append [] vs t = refl
+    taken_append (u ∷ us) vs t = taken_append us vs (unbroken width t u)
 
-    byClusters-taken : (gs : List (List Scalar)) (t : Wrap) → by_clusters P width t gs ≡ taken width t (widths P gs)
+    by_clusters_taken : (gs : List (List Scalar)) (t : Wrap) → by_clusters P width t gs ≡ taken width t (widths P gs)
     unfolding by_clusters taken
-    byClusters-taken [] t = refl
-    byClusters-taken (g ∷ gs) t = byClusters-taken gs (unbroken width t (width_of P g))
+    by_clusters_taken [] t = refl
+    by_clusters_taken (g ∷ gs) t = by_clusters_taken gs (unbroken width t (width_of P g))
 
-    split-taken : (c : Content) (t : Wrap) → (c ≢ tab) → split P count width false t c ≡ taken width t (units_of P count c)
+    split_taken : (c : Content) (t : Wrap) → (c ≢ tab) → split P count width false t c ≡ taken width t (units_of P count c)
     unfolding split split_text units_of taken
-    split-taken (text m s) t h = byClusters-taken (clusters P s) t
-    split-taken (control b) t h = refl
-    split-taken (invalid b) t h = refl
-    split-taken (unprintable s) t h = refl
-    split-taken (escape e) t h = refl
-    split-taken tab t h = absurd (h refl)
-    split-taken crlf t h = refl
-    split-taken lf t h = refl
+    split_taken (text m s) t h = by_clusters_taken (clusters P s) t
+    split_taken (control b) t h = refl
+    split_taken (invalid b) t h = refl
+    split_taken (unprintable s) t h = refl
+    split_taken (escape e) t h = refl
+    split_taken tab t h = absurd (h refl)
+    split_taken crlf t h = refl
+    split_taken lf t h = refl
 
-    splits-taken : {ss : List Span} (t : Wrap) → All (λ (s : Span). s.content ≢ tab) ss → splits P count width false t ss ≡ taken width t (units P count ss)
+    splits_taken : {ss : List Span} (t : Wrap) → All (λ (s : Span). s.content ≢ tab) ss → splits P count width false t ss ≡ taken width t (units P count ss)
     unfolding splits units taken
-    splits-taken t all_nil = refl
-    splits-taken t (all_cons {a = s} {s = ss} h e) =
-        splits-taken (split P count width false t s.content) e ∙ ap (λ (x : Wrap). taken width x (units P count ss)) (split-taken s.content t h)
-        ∙ sym (taken-append (units_of P count s.content) (units P count ss) t)
+    splits_taken t all_nil = refl
+    splits_taken t (all_cons {a = s} {s = ss} h e) =
+        splits_taken (split P count width false t s.content) e ∙ ap (λ (x : Wrap). taken width x (units P count ss)) (split_taken s.content t h)
+        ∙ sym (taken_append (units_of P count s.content) (units P count ss) t)
 
   -- ---- they run end to end, and are cut between units
 
-  units-total : (c : Content) (p : ℕ) → (c ≢ tab) → total (units_of P count c) ≡ span_columns P count p c
+  units_total : (c : Content) (p : ℕ) → (c ≢ tab) → total (units_of P count c) ≡ span_columns P count p c
   unfolding units_of span_columns total
-  units-total (text m s) p h = widths_total P s
-  units-total (control b) p h = refl
-  units-total (invalid b) p h = refl
-  units-total (unprintable s) p h = omega arith
-  units-total (escape e) p h = refl
-  units-total tab p h = absurd (h refl)
-  units-total crlf p h = refl
-  units-total lf p h = refl
+  units_total (text m s) p h = widths_total P s
+  units_total (control b) p h = refl
+  units_total (invalid b) p h = refl
+  units_total (unprintable s) p h = omega arith
+  units_total (escape e) p h = refl
+  units_total tab p h = absurd (h refl)
+  units_total crlf p h = refl
+  units_total lf p h = refl
 
-  last-total : {ss : List Span} (p : ℕ) → All (λ (s : Span). s.content ≢ tab) ss → last_column_from P count p ss ≡ p + total (units P count ss)
+  last_total : {ss : List Span} (p : ℕ) → All (λ (s : Span). s.content ≢ tab) ss → last_column_from P count p ss ≡ p + total (units P count ss)
   unfolding last_column_from units total
-  last-total p all_nil = omega arith
-  last-total p (all_cons {a = s} {s = ss} h e) =
-      last-total (p + span_columns P count p s.content) e ∙ omega (arith, units-total s.content p h, total_append (units_of P count s.content) (units P count ss))
+  last_total p all_nil = omega arith
+  last_total p (all_cons {a = s} {s = ss} h e) =
+      last_total (p + span_columns P count p s.content) e ∙ omega (arith, units_total s.content p h, total_append (units_of P count s.content) (units P count ss))
 
   -- the units of a line, those of ds first
   module _ (all : List ℕ) where
@@ -111,18 +111,18 @@ module _ (P : Profile) (count : List Scalar → ℕ) where
     further ds us vs e = e ∙ sym (append_assoc ds us vs)
 
     here : (ds us : List ℕ) (p : ℕ) → all ≡ ds ++ us → p ≡ total ds → F p
-    here ds us p e h = rw (e, h) (between-front ds us)
+    here ds us p e h = rw (e, h) (between_front ds us)
 
     beyond : (ds us : List ℕ) (p n : ℕ) → p ≡ total ds → total us ≡ n → p + n ≡ total (ds ++ us)
     beyond ds us p n h k = omega (arith, total_append ds us)
 
-    each-end : (us ds vs : List ℕ) (p : ℕ) → all ≡ ds ++ (us ++ vs) → p ≡ total ds → EachEnd F p us
+    each_end : (us ds vs : List ℕ) (p : ℕ) → all ≡ ds ++ (us ++ vs) → p ≡ total ds → EachEnd F p us
     unfolding EachEnd total
-    each-end [] ds vs p e h = tt
-    each-end (u ∷ us) ds vs p e h =
+    each_end [] ds vs p e h = tt
+    each_end (u ∷ us) ds vs p e h =
         let f = further ds (u ∷ []) (us ++ vs) e in
         let k = beyond ds (u ∷ []) p u h (omega arith) in
-        (here (ds ++ u ∷ []) (us ++ vs) (p + u) f k, each-end us (ds ++ u ∷ []) vs (p + u) f k)
+        (here (ds ++ u ∷ []) (us ++ vs) (p + u) f k, each_end us (ds ++ u ∷ []) vs (p + u) f k)
 
     stops : {ss : List Span} (ds : List ℕ) (p : ℕ) → All (λ (s : Span). s.content ≢ tab) ss → all ≡ ds ++ units P count ss → p ≡ total ds → Stops F P count false p ss
     unfolding Stops units units_of TextEnds
@@ -130,15 +130,15 @@ module _ (P : Profile) (count : List Scalar → ℕ) where
     stops ds p (all_cons {a = s} {s = ss} n a) e h =
         let us : List ℕ = units_of P count s.content in
         let f = further ds us (units P count ss) e in
-        let k = beyond ds us p (span_columns P count p s.content) h (units-total s.content p n) in (
-          λ (m : Option ℕ) (x : List Scalar) c. each-end (widths P (clusters P x)) ds (units P count ss) p (rw c at e) h,
+        let k = beyond ds us p (span_columns P count p s.content) h (units_total s.content p n) in (
+          λ (m : Option ℕ) (x : List Scalar) c. each_end (widths P (clusters P x)) ds (units P count ss) p (rw c at e) h,
           here (ds ++ us) (units P count ss) (p + span_columns P count p s.content) f k,
           stops (ds ++ us) (p + span_columns P count p s.content) a f k,
         )
 
-  run-cuts : {us : List ℕ} {a z : ℕ} {rs : List Row} → Run (λ (c : ℕ). Between c us) a z rs → All (λ (r : Row). Between r.end us) rs
-  run-cuts (last h f g) = all_cons g all_nil
-  run-cuts (next h f g r) = all_cons g (run-cuts r)
+  run_cuts : {us : List ℕ} {a z : ℕ} {rs : List Row} → Run (λ (c : ℕ). Between c us) a z rs → All (λ (r : Row). Between r.end us) rs
+  run_cuts (last h f g) = all_cons g all_nil
+  run_cuts (next h f g r) = all_cons g (run_cuts r)
 
   -- ---- the theorem
 
@@ -148,7 +148,7 @@ module _ (P : Profile) (count : List Scalar → ℕ) where
 
     rows_are : wrapped P count width false ss ≡ reverse (finished (taken width (wrap [] 0 0) us))
     unfolding wrapped
-    rows_are = ap (λ (t : Wrap). reverse (finished t)) (splits-taken width (wrap [] 0 0) plain)
+    rows_are = ap (λ (t : Wrap). reverse (finished t)) (splits_taken width (wrap [] 0 0) plain)
 
     start : 0 ≡ total []
     unfolding total
@@ -156,7 +156,7 @@ module _ (P : Profile) (count : List Scalar → ℕ) where
 
     run : Run (λ (c : ℕ). Between c us) 0 (total us) (wrapped P count width false ss)
     run =
-        subst (λ (n : ℕ). Run (λ (c : ℕ). Between c us) 0 n (wrapped P count width false ss)) (last-total 0 plain ∙ omega arith)
+        subst (λ (n : ℕ). Run (λ (c : ℕ). Between c us) 0 n (wrapped P count width false ss)) (last_total 0 plain ∙ omega arith)
         (wrapped_run (λ (c : ℕ). Between c us) P count width false ss front (stops us [] 0 plain refl start))
 
     fewer : {rs : List Row} → Cutting width us rs → length (wrapped P count width false ss) ≤ length rs
@@ -170,15 +170,15 @@ module _ (P : Profile) (count : List Scalar → ℕ) where
     fewest = record {
       one = record {
         run = run_ends (λ (c : ℕ). Between c us) run;
-        cuts = run-cuts run;
-        narrow = subst (Narrow width) (sym rows_are) (narrow-turned width (narrow-taken width us [] 0 0 (omega arith) (omega arith) small all_nil) all_nil);
+        cuts = run_cuts run;
+        narrow = subst (Narrow width) (sym rows_are) (narrow_turned width (narrow_taken width us [] 0 0 (omega arith) (omega arith) small all_nil) all_nil);
       };
       least = λ rs c. fewer c;
     }
 
-pub fewestRows : (P : Profile) → FewestRows P
+pub fewest_rows : (P : Profile) → FewestRows P
 unfolding rows
-fewestRows P width ss plain small = fewest P eight width ss plain small
+fewest_rows P width ss plain small = fewest P eight width ss plain small
 
-pub fewestRows01 : FewestRows profile01
-fewestRows01 = fewestRows profile01
+pub fewest_rows01 : FewestRows profile01
+fewest_rows01 = fewest_rows profile01

@@ -14,12 +14,12 @@ use Rattle.columns.specs.Heights.Wraps.{rows_of_parts}
 
 module _ (P : Profile) (a : AsciiClasses P) where
   -- no more parts than bytes before conversion
-  parts-of-bytes : (line : List ℕ) → parts (spans P (convert P line)) ≤ length line
-  parts-of-bytes line = parts_few P a (convert_orders P line)
+  parts_of_bytes : (line : List ℕ) → parts (spans P (convert P line)) ≤ length line
+  parts_of_bytes line = parts_few P a (convert_orders P line)
 
   pub rows_of_bytes : RowsOfBytes P
-  rows_of_bytes width mode line = omega (arith, rows_of_parts P width mode (spans P (convert P line)), parts-of-bytes line)
+  rows_of_bytes width mode line = omega (arith, rows_of_parts P width mode (spans P (convert P line)), parts_of_bytes line)
 
-  pub row-list-size : RowListSize P
-  row-list-size conv places numbers width mode line fine known h =
+  pub row_list_size : RowListSize P
+  row_list_size conv places numbers width mode line fine known h =
       ap (λ (w : Wrapped). w.number) (rows_accepted P conv places line width mode numbers fine known (omega (arith, h, rows_of_bytes width (mode_of mode) line)))

@@ -29,9 +29,9 @@ module _ (p : ℕ → Bool) (n w : ℕ) (e : p w ≡ false) where
   or_later : (u : ℕ) → w ≤ u → (suc w ≤ u → p u ≡ false) → p u ≡ false
   or_later u h f = cases (eqb w u) (λ k. subst (λ (x : ℕ). p x ≡ false) (eqb-true w u k) e) (λ k. f (let d = eqb-false w u k in omega arith))
 
-  first-later : {v : ℕ} → First p n (suc w) v → First p (suc n) w v
-  first-later (here {v = v} a b c d) = here {v = v} (omega arith) (omega arith) c (λ u h k. or_later u h (λ l. d u l k))
-  first-later (nowhere d) = nowhere (λ u h k. or_later u h (λ l. d u l (omega arith)))
+  first_later : {v : ℕ} → First p n (suc w) v → First p (suc n) w v
+  first_later (here {v = v} a b c d) = here {v = v} (omega arith) (omega arith) c (λ u h k. or_later u h (λ l. d u l k))
+  first_later (nowhere d) = nowhere (λ u h k. or_later u h (λ l. d u l (omega arith)))
 
 first : (p : ℕ → Bool) (n w : ℕ) → First p n w (first_from p n w)
 unfolding first_from
@@ -39,7 +39,7 @@ first p zero w = nowhere (λ u h k. absurd (omega arith))
 first p (suc n) w =
     cases (p w)
     (λ e. rw e (here {v = w} (omega arith) (omega arith) e (λ u h k. absurd (omega arith))))
-    (λ e. rw e (first-later p n w e (first p n (suc w))))
+    (λ e. rw e (first_later p n w e (first p n (suc w))))
 
 -- ---- the laws
 
@@ -58,10 +58,10 @@ module _ (P : Profile) (mode : Mode) (wanted greatest : ℕ) (ss : List Span) wh
     not_beyond : (n : ℕ) → ((u : ℕ) → 1 ≤ u → u < n → takes_at_most P wanted mode ss u ≡ false) → n ≤ most
     not_beyond n d = cases (leb n most) (λ t. leb-true n most t) (λ t. let k = leb-false n most t in let f = failed most (d most (omega arith) (omega arith)) in absurd (omega arith))
 
-    tried-found : (w : ℕ) → 1 ≤ w → tried_of greatest w ≡ w
+    tried_found : (w : ℕ) → 1 ≤ w → tried_of greatest w ≡ w
     unfolding tried_of
-    tried-found zero h = absurd (omega arith)
-    tried-found (suc w) h = refl
+    tried_found zero h = absurd (omega arith)
+    tried_found (suc w) h = refl
 
     laws : {w : ℕ} → First (takes_at_most P wanted mode ss) greatest 1 w → Narrowest P mode wanted greatest ss w
     unfolding tried_of
@@ -71,7 +71,7 @@ module _ (P : Profile) (mode : Mode) (wanted greatest : ℕ) (ss : List Span) wh
       least = λ v h k. failed v (d v h k);
       none = λ z. absurd (omega arith);
       precisely = λ f. let k = f w a (omega arith) in let l = passed w c in absurd (omega arith);
-      bound = rw (tried-found w a) (not_beyond w d);
+      bound = rw (tried_found w a) (not_beyond w d);
     }
     laws (nowhere d) = record {
       within = λ h. absurd (omega arith);
@@ -88,19 +88,19 @@ unfolding rows
 one P mode (inl e) width ss h = rw e (ap (λ (l : List Row). length l) (one_row_law width P eight false ss h))
 one P mode (inr e) width ss h = rw e (ap (λ (l : List Row). length l) (one_row_law width P eight true ss h))
 
-pub narrowestWidth : (P : Profile) → NarrowestWidth P
+pub narrowest_width : (P : Profile) → NarrowestWidth P
 unfolding narrowest
-narrowestWidth P mode m wanted greatest h k ss =
+narrowest_width P mode m wanted greatest h k ss =
     let e = one P mode m (most P mode wanted greatest ss) ss (omega arith) in laws P mode wanted greatest ss (omega arith) k (first (takes_at_most P wanted mode ss) greatest 1)
 
 -- ---- of an accepted call
 
-mode-wraps : (mode : ℕ) → 1 ≤ mode → mode ≤ 2 → (mode_of mode ≡ grapheme_boundary) ⊎ (mode_of mode ≡ word_boundary)
+mode_wraps : (mode : ℕ) → 1 ≤ mode → mode ≤ 2 → (mode_of mode ≡ grapheme_boundary) ⊎ (mode_of mode ≡ word_boundary)
 unfolding mode_of
-mode-wraps zero h k = absurd (omega arith)
-mode-wraps (suc zero) h k = inl refl
-mode-wraps (suc (suc zero)) h k = inr refl
-mode-wraps (suc (suc (suc n))) h k = absurd (omega arith)
+mode_wraps zero h k = absurd (omega arith)
+mode_wraps (suc zero) h k = inl refl
+mode_wraps (suc (suc zero)) h k = inr refl
+mode_wraps (suc (suc (suc n))) h k = absurd (omega arith)
 
 module _ (P : Profile) (conv places mode wanted greatest : ℕ) (line : List ℕ) where
   abbrev call : Narrowed
@@ -115,7 +115,7 @@ module _ (P : Profile) (conv places mode wanted greatest : ℕ) (line : List ℕ
   asked : mode_rows_and_width mode wanted greatest ≡ true → Narrowest P (mode_of mode) wanted greatest ss (narrowest P (mode_of mode) wanted greatest ss)
   asked e =
       let r = asked_ranges mode wanted greatest e in
-      narrowestWidth P (mode_of mode) (mode-wraps mode r.0.0 r.0.1) wanted greatest r.1.0 r.2.0 ss
+      narrowest_width P (mode_of mode) (mode_wraps mode r.0.0 r.0.1) wanted greatest r.1.0 r.2.0 ss
 
   said : (n : ℕ) → (read_call P conv places [] line).number ≡ n → call.number ≡ 0 → Said call
   said (suc r) e z = absurd (let k = ap (λ (c : Narrowed). c.number) (narrowest_refused P conv places mode wanted greatest line r e) in omega arith)
@@ -124,8 +124,8 @@ module _ (P : Profile) (conv places mode wanted greatest : ℕ) (line : List ℕ
       (λ a. subst Said (sym (narrowest_accepted P conv places mode wanted greatest line e a)) (asked a, refl))
       (λ a. absurd (let k = ap (λ (c : Narrowed). c.number) (narrowest_five P conv places mode wanted greatest line e a) in omega arith))
 
-pub narrowestAnswer : (P : Profile) → NarrowestAnswer P
-narrowestAnswer P conv places mode wanted greatest line z = said P conv places mode wanted greatest line (read_call P conv places [] line).number refl z
+pub narrowest_answer : (P : Profile) → NarrowestAnswer P
+narrowest_answer P conv places mode wanted greatest line z = said P conv places mode wanted greatest line (read_call P conv places [] line).number refl z
 
-pub narrowestAnswer01 : NarrowestAnswer profile01
-narrowestAnswer01 = narrowestAnswer profile01
+pub narrowest_answer01 : NarrowestAnswer profile01
+narrowest_answer01 = narrowest_answer profile01

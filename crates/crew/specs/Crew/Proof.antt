@@ -27,10 +27,10 @@ use Rattle.crew.specs.Crew.ReadForm.{linked_form}
 -- ---- lines with the same spans
 
 module _ (P : Profile) (l m : List ℕ) (size : length l ≡ length m) (same : spans P (convert P l) ≡ spans P (convert P m)) where
-  same-drawn : (reader conv places room : ℕ) (qs : List Question) (eight : List Span → Question) (draw : List Span → List Change)
+  same_drawn : (reader conv places room : ℕ) (qs : List Question) (eight : List Span → Question) (draw : List Span → List Change)
       → SameDrawn (drawing P reader conv places room [] qs eight draw l) (drawing P reader conv places room [] qs eight draw m)
-  unfolding drawing search.read search.inOrder
-  same-drawn reader conv places room qs eight draw =
+  unfolding drawing search.read search.in_order
+  same_drawn reader conv places room qs eight draw =
       let f : List Span → List Question = λ ss. eight ss ∷ ask 9 (leb (length (encode (draw ss))) room) ∷ [] in
       let d : decide (question18 reader ∷ question1 l ∷ question2 conv l ∷ question3 [] (convert P l) ∷ question4 places (spans P (convert P l)) ∷ qs ++ f (spans P (convert P l)))
       ≡ decide (question18 reader ∷ question1 m ∷ question2 conv m ∷ question3 [] (convert P m) ∷ question4 places (spans P (convert P m)) ∷ qs ++ f (spans P (convert P m))) = rw (size, same) in
@@ -44,8 +44,8 @@ module _ (P : Profile) (l m : List ℕ) (size : length l ≡ length m) (same : s
   same_view : SameView P l m
   unfolding window_call row_call
   same_view = record {
-    window = λ reader conv places room start end current. same-drawn reader conv places room (window_questions start end) (window_question8 P start end) (λ ss. seen_by reader (render P start end current ss));
-    row = λ reader conv places room first count width mode current. same-drawn reader conv places room (row_questions first count width mode) (row_question8 P first count width mode) (λ ss. seen_by reader (render_wrapped P first count width (mode_of mode) current ss));
+    window = λ reader conv places room start end current. same_drawn reader conv places room (window_questions start end) (window_question8 P start end) (λ ss. seen_by reader (render P start end current ss));
+    row = λ reader conv places room first count width mode current. same_drawn reader conv places room (row_questions first count width mode) (row_question8 P first count width mode) (λ ss. seen_by reader (render_wrapped P first count width (mode_of mode) current ss));
   }
 
 -- ---- the exchange
@@ -59,17 +59,17 @@ none_in p u v s h e =
 
 module _ (P : Profile) (A : AsciiClasses P) where
   -- by the form alone
-  pub formed-unseen : {p s : List ℕ} → Form p s → (u v : List ℕ) → Printable u → Printable v → length u ≡ length v → has_backspace (p ++ (u ++ s)) ≡ false → SameView P (p ++ (u ++ s)) (p ++ (v ++ s))
-  formed-unseen {p} {s} f u v h k e none =
+  pub formed_unseen : {p s : List ℕ} → Form p s → (u v : List ℕ) → Printable u → Printable v → length u ≡ length v → has_backspace (p ++ (u ++ s)) ≡ false → SameView P (p ++ (u ++ s)) (p ++ (v ++ s))
+  formed_unseen {p} {s} f u v h k e none =
       same_view P (p ++ (u ++ s)) (p ++ (v ++ s)) (simp length-append (omega arith))
       (rw (convert_plain P (p ++ (u ++ s)) none, convert_plain P (p ++ (v ++ s)) (none_in p u v s k none)) (same_spans P A f u v h k e))
 
   pub unseen : Unseen P
-  unseen p u v s x = formed-unseen (linked_form P p u s x.printable x.linked) u v x.printable x.other x.length x.no-backspace
+  unseen p u v s x = formed_unseen (linked_form P p u s x.printable x.linked) u v x.printable x.other x.length x.no_backspace
 
   -- the other URI is read as one at the same place
-  pub still-linked : (p u v s : List ℕ) → AnotherUri P p u v s → Linked P (p ++ (v ++ s)) (length p) (length v)
-  still-linked p u v s x =
+  pub still_linked : (p u v s : List ℕ) → AnotherUri P p u v s → Linked P (p ++ (v ++ s)) (length p) (length v)
+  still_linked p u v s x =
       let k = x.linked in
       let e = same_spans P A (linked_form P p u s x.printable k) u v x.printable x.other x.length in
       rw (sym x.length) record { before = k.before; behind = k.behind; place = k.place; len = k.len; at = k.at; read = sym e ∙ k.read; uri = k.uri }

@@ -52,7 +52,7 @@ hidden crew s = span s.place s.len (hidden_in crew s.content)
 -- ---- the state without a link
 
 bare : State → State
-bare t = state (unlinked t.attrs) t.lineDrawing t.changed t.style t.endOfLine t.position
+bare t = state (unlinked t.attrs) t.line_drawing t.changed t.style t.end_of_line t.position
 
 without : Sent → Sent
 without x = sent (map without_uri x.changes) (bare x.after)
@@ -115,7 +115,7 @@ module _ (P : Profile) (start end : ℕ) where
 
   span_bare : (current : Option ℕ) (t : State) (p : ℕ) (c : Content) → render_span P start end current (bare t) p (hidden_in true c) ≡ without (render_span P start end current t p c)
   unfolding render_span render_sequence hidden_in seen bare without unlinked
-  span_bare current t p (text m s) = write_bare t (text_style P start end current m) (cond t.lineDrawing (line_drawn s) s)
+  span_bare current t p (text m s) = write_bare t (text_style P start end current m) (cond t.line_drawing (line_drawn s) s)
   span_bare current t p (control b) = write_bare t attributes.control (byte_mark b)
   span_bare current t p (invalid b) = write_bare t attributes.control (byte_mark b)
   span_bare current t p (unprintable s) = marks_bare s t

@@ -52,7 +52,7 @@ rows_whole false t = refl
 record Styled (t : State) (r : Sent) : Type 0 where
   whole : whole r.changes ≡ true
   position : r.after.position ≡ t.position
-  drawing : r.after.lineDrawing ≡ t.lineDrawing
+  drawing : r.after.line_drawing ≡ t.line_drawing
 
 style_whole : (t : State) (s : Style) → Styled t (style t s)
 unfolding style whole
@@ -141,9 +141,9 @@ module _ (P : Profile) where
     record Draws (t : State) (gs : List (List Scalar)) (d : Bool) (r : Sent) : Type 0 where
       whole : whole r.changes ≡ not (straddles P start end t.position gs)
       position : r.after.position ≡ t.position + columns gs
-      drawing : r.after.lineDrawing ≡ d
+      drawing : r.after.line_drawing ≡ d
 
-    draws_nothing : (t u : State) → u.position ≡ t.position → Draws t [] u.lineDrawing (sent [] u)
+    draws_nothing : (t u : State) → u.position ≡ t.position → Draws t [] u.line_drawing (sent [] u)
     unfolding whole straddles
     draws_nothing t u e = record { whole = refl; position = omega (arith, columns_nil); drawing = refl }
 
@@ -166,12 +166,12 @@ module _ (P : Profile) where
         let b : ltb t.position end ≡ true = lt-ltb t.position end (omega (arith, q.0)) in
         true_T (sym (rw (a, b) at e)))
 
-    text_draws : (t : State) (s : Style) (x : List Scalar) → Draws t (clusters P x) t.lineDrawing (write_truncated P start end t s x)
+    text_draws : (t : State) (s : Style) (x : List Scalar) → Draws t (clusters P x) t.line_drawing (write_truncated P start end t s x)
     unfolding write_truncated move whole
     text_draws t s x =
         let n : columns (clusters P x) ≡ width_of P x = ap (width_of P) (clusters_all P x) in
         let y = style_whole t s in
-        by_case (Draws t (clusters P x) t.lineDrawing) (meets P start end t (width_of P x))
+        by_case (Draws t (clusters P x) t.line_drawing) (meets P start end t (width_of P x))
         (λ e. record {
           whole = whole_append (style t s).changes (windowed P start end t x ∷ []) ∙ rw y.whole (clipped_whole _ ∙ ap not (clip_refused t.position x));
           position = omega (arith, n, y.position);
@@ -179,7 +179,7 @@ module _ (P : Profile) where
         })
         (λ e. record { whole = ap not (sym (beside t x e)); position = omega (arith, n); drawing = refl })
 
-    marks_draw : (s : List Scalar) (t : State) → Draws t (mark_clusters P s) t.lineDrawing (write_marks P start end t s)
+    marks_draw : (s : List Scalar) (t : State) → Draws t (mark_clusters P s) t.line_drawing (write_marks P start end t s)
     unfolding write_marks mark_clusters
     marks_draw [] t = draws_nothing t t refl
     marks_draw (c ∷ s) t =
@@ -194,7 +194,7 @@ module _ (P : Profile) where
         }
 
     module _ (current : Option ℕ) where
-      sequence_draws : (q : Sequence) (t : State) (place : ℕ) → Draws t [] (drawing_after P t.lineDrawing (escape q)) (sent [] (render_sequence P start end t place q))
+      sequence_draws : (q : Sequence) (t : State) (place : ℕ) → Draws t [] (drawing_after P t.line_drawing (escape q)) (sent [] (render_sequence P start end t place q))
       unfolding drawing_after render_sequence
       sequence_draws (sgr os) t place = draws_nothing t _ refl
       sequence_draws (hyperlink a n) t place = draws_nothing t _ refl
@@ -202,9 +202,9 @@ module _ (P : Profile) where
       sequence_draws erase_to_end t place = draws_nothing t _ refl
       sequence_draws ignored t place = draws_nothing t t refl
 
-      span_draws : (c : Content) (t : State) (place : ℕ) → Draws t (span_clusters P t.lineDrawing t.position c) (drawing_after P t.lineDrawing c) (render_span P start end current t place c)
+      span_draws : (c : Content) (t : State) (place : ℕ) → Draws t (span_clusters P t.line_drawing t.position c) (drawing_after P t.line_drawing c) (render_span P start end current t place c)
       unfolding span_clusters drawing_after render_span
-      span_draws (text m s) t place = text_draws t (text_style P start end current m) (cond t.lineDrawing (line_drawn s) s)
+      span_draws (text m s) t place = text_draws t (text_style P start end current m) (cond t.line_drawing (line_drawn s) s)
       span_draws (control b) t place = text_draws t attributes.control (byte_mark b)
       span_draws (invalid b) t place = text_draws t attributes.control (byte_mark b)
       span_draws (unprintable s) t place = marks_draw s t
@@ -214,14 +214,14 @@ module _ (P : Profile) where
       span_draws lf t place = draws_nothing t t refl
 
       spans_whole : (close : State → List Change) → ((t : State) → whole (close t) ≡ true) → (ss : List Span) (t : State)
-          → whole (render_spans P start end current close t ss) ≡ not (straddles P start end t.position (line_clusters P t.lineDrawing t.position ss))
+          → whole (render_spans P start end current close t ss) ≡ not (straddles P start end t.position (line_clusters P t.line_drawing t.position ss))
       unfolding straddles line_clusters render_spans
       spans_whole close f [] t = f t
       spans_whole close f (s ∷ ss) t =
-          let gs : List (List Scalar) = span_clusters P t.lineDrawing t.position s.content in
+          let gs : List (List Scalar) = span_clusters P t.line_drawing t.position s.content in
           let d = span_draws s.content t s.place in
           let r : Sent = render_span P start end current t s.place s.content in
-          let e : line_clusters P r.after.lineDrawing r.after.position ss ≡ line_clusters P (drawing_after P t.lineDrawing s.content) (t.position + columns gs) ss =
+          let e : line_clusters P r.after.line_drawing r.after.position ss ≡ line_clusters P (drawing_after P t.line_drawing s.content) (t.position + columns gs) ss =
           ap₂ (λ (b : Bool) (n : ℕ). line_clusters P b n ss) d.drawing d.position in
           both_whole d (render_spans P start end current close r.after ss) _ (spans_whole close f ss r.after ∙ ap (λ (hs : List (List Scalar)). not (straddles P start end r.after.position hs)) e)
 

@@ -32,23 +32,23 @@ use Rattle.noise.specs.Demand3.{listed, moved, noise_records, together, Separate
 
 -- ---- records
 
-records-shift : (k : ℕ) (ss : List Span) → records (map (shift k) ss) ≡ map (moved k) (records ss)
+records_shift : (k : ℕ) (ss : List Span) → records (map (shift k) ss) ≡ map (moved k) (records ss)
 unfolding records shift moved record_of
-records-shift k [] = refl
-records-shift k (s ∷ ss) = ap (λ (l : List Record). moved k (record_of s) ∷ l) (records-shift k ss)
+records_shift k [] = refl
+records_shift k (s ∷ ss) = ap (λ (l : List Record). moved k (record_of s) ∷ l) (records_shift k ss)
 
-records-damage : (p : ℕ) (ns : List ℕ) → records (damage p ns) ≡ noise_records p ns
+records_damage : (p : ℕ) (ns : List ℕ) → records (damage p ns) ≡ noise_records p ns
 unfolding records damage noise_records record_of kind_of match_of
-records-damage p [] = refl
-records-damage p (n ∷ ns) = ap (λ (l : List Record). a_record 4 p 1 0 ∷ l) (records-damage (suc p) ns)
+records_damage p [] = refl
+records_damage p (n ∷ ns) = ap (λ (l : List Record). a_record 4 p 1 0 ∷ l) (records_damage (suc p) ns)
 
 -- ---- acceptance
 
 accept : (n : ℕ) (b : Bool) (qs : List Question) → b ≡ true → decide qs ≡ 0 → decide (ask n b ∷ qs) ≡ 0
 accept n b qs e f = decide_yes (ask n b) qs e ∙ f
 
-leb-down : (m n k : ℕ) → leb n k ≡ true → m ≤ n → leb m k ≡ true
-leb-down m n k e h = let d : n ≤ k = leb→le n k (true_T e) in is_true _ (le→leb m k (omega arith))
+leb_down : (m n k : ℕ) → leb n k ≡ true → m ≤ n → leb m k ≡ true
+leb_down m n k e h = let d : n ≤ k = leb→le n k (true_T e) in is_true _ (le→leb m k (omega arith))
 
 -- the records in front of the zeros
 front : (r n places : ℕ) (rs : List Record) → r ≡ 0 → n ≡ length rs → take (counted n r) (lent no_record places rs r) ≡ rs
@@ -67,65 +67,65 @@ module _ (P : Profile) where
   abbrev records_of : List ℕ → List Record
   records_of s = records (spans P (convert P s))
 
-  listed-read : (conv places : ℕ) (s : List ℕ) → (answer P (calls.read conv places []) s).number ≡ 0 → listed (answer P (calls.read conv places []) s) ≡ records_of s
+  listed_read : (conv places : ℕ) (s : List ℕ) → (answer P (calls.read conv places []) s).number ≡ 0 → listed (answer P (calls.read conv places []) s) ≡ records_of s
   unfolding listed answer read_call search.read
-  listed-read conv places s e = front _ _ places (records_of s) e (sym (records_length (spans P (convert P s))))
+  listed_read conv places s e = front _ _ places (records_of s) e (sym (records_length (spans P (convert P s))))
 
   -- reading accepts what is shorter in bytes and in spans
   read_down : (conv places : ℕ) (s t : List ℕ) → length s ≤ length t → length (spans P (convert P s)) ≤ length (spans P (convert P t))
       → (answer P (calls.read conv places []) t).number ≡ 0 → (answer P (calls.read conv places []) s).number ≡ 0
-  unfolding answer read_call search.read search.inOrder
+  unfolding answer read_call search.read search.in_order
   read_down conv places s t h k e =
       let c : List ℕ = convert P t in
       let d : List ℕ = convert P s in
       let a₁ = first_yes (ask 1 (leb (length t) 4096)) (question2 conv t ∷ question3 [] c ∷ question4 places (spans P c) ∷ []) tt e in
       let a₂ = first_yes (ask 2 (leb (8 * length t) conv)) (question3 [] c ∷ question4 places (spans P c) ∷ []) tt a₁.1 in
       let a₃ = first_yes (ask 4 (leb (length (spans P c)) places)) [] tt a₂.1 in
-      accept 1 (leb (length s) 4096) (question2 conv s ∷ question3 [] d ∷ question4 places (spans P d) ∷ []) (leb-down _ (length t) 4096 a₁.0 h)
-      (accept 2 (leb (8 * length s) conv) (question3 [] d ∷ question4 places (spans P d) ∷ []) (leb-down _ (8 * length t) conv a₂.0 (omega arith))
-      (accept 4 (leb (length (spans P d)) places) [] (leb-down _ (length (spans P c)) places a₃.0 k) refl))
+      accept 1 (leb (length s) 4096) (question2 conv s ∷ question3 [] d ∷ question4 places (spans P d) ∷ []) (leb_down _ (length t) 4096 a₁.0 h)
+      (accept 2 (leb (8 * length s) conv) (question3 [] d ∷ question4 places (spans P d) ∷ []) (leb_down _ (8 * length t) conv a₂.0 (omega arith))
+      (accept 4 (leb (length (spans P d)) places) [] (leb_down _ (length (spans P c)) places a₃.0 k) refl))
 
-  drawn-reads : (v b k r : ℕ) (qs : List Question) (eight : List Span → Question) (draw : List Span → List Change) (s : List ℕ) → (drawing P v b k r [] qs eight draw s).number ≡ 0 → (read_call P b k [] s).number ≡ 0
-  drawn-reads v b k r qs eight draw s e =
+  drawn_reads : (v b k r : ℕ) (qs : List Question) (eight : List Span → Question) (draw : List Span → List Change) (s : List ℕ) → (drawing P v b k r [] qs eight draw s).number ≡ 0 → (read_call P b k [] s).number ≡ 0
+  drawn_reads v b k r qs eight draw s e =
       cases (leb v 1)
       (λ y. fine _ _ (λ i d. ap (λ (a : Drawn). a.number) (drawing_unread P v b k r [] qs eight draw s y i d)) e)
       (λ y. absurd (let z : 0 ≡ 18 = sym e ∙ ap (λ (a : Drawn). a.number) (drawing_unknown P v b k r [] qs eight draw s y) in omega arith))
 
   -- a call without matches, conversion apart, puts the questions of reading with its sizes: where it is accepted, so is reading
-  accepted-reads : (c : Call) (n : ℕ) (s : List ℕ) → places_of c ≡ some n → T (without_matches c) → (answer P c s).number ≡ 0 → (answer P (calls.read (conv_of c) n []) s).number ≡ 0
+  accepted_reads : (c : Call) (n : ℕ) (s : List ℕ) → places_of c ≡ some n → T (without_matches c) → (answer P c s).number ≡ 0 → (answer P (calls.read (conv_of c) n []) s).number ≡ 0
   unfolding without_matches no_matches places_of conv_of answer window_call row_call
-  accepted-reads (calls.convert b) n s p h e = absurd (let z : ◌≡◌ {A = ℕ} 0 1 = cc in omega arith)
-  accepted-reads (calls.read b k []) n s p h e = as_many b s p e
-  accepted-reads (calls.read b k (m ∷ ms)) n s p h e = absurd h
-  accepted-reads (calls.rows b k x w y) n s p h e = as_many b s p (fine _ _ (λ i d. ap (λ (a : Wrapped). a.number) (rows_refused P b k s w y x i d)) e)
-  accepted-reads (calls.height b k w y) n s p h e = as_many b s p (fine _ _ (λ i d. ap (λ (a : Read). a.number) (height_refused P b k s w y i d)) e)
-  accepted-reads (calls.drawWindow v b k r x y now []) n s p h e = as_many b s p (drawn-reads v b k r (window_questions x y) (window_question8 P x y) (λ ss. seen_by v (render P x y now ss)) s e)
-  accepted-reads (calls.drawWindow v b k r x y now (m ∷ ms)) n s p h e = absurd h
-  accepted-reads (calls.drawRow v b k r x i w y now []) n s p h e = as_many b s p (drawn-reads v b k r (row_questions x i w y) (row_question8 P x i w y) (λ ss. seen_by v (render_wrapped P x i w (mode_of y) now ss)) s e)
-  accepted-reads (calls.drawRow v b k r x i w y now (m ∷ ms)) n s p h e = absurd h
+  accepted_reads (calls.convert b) n s p h e = absurd (let z : ◌≡◌ {A = ℕ} 0 1 = cc in omega arith)
+  accepted_reads (calls.read b k []) n s p h e = as_many b s p e
+  accepted_reads (calls.read b k (m ∷ ms)) n s p h e = absurd h
+  accepted_reads (calls.rows b k x w y) n s p h e = as_many b s p (fine _ _ (λ i d. ap (λ (a : Wrapped). a.number) (rows_refused P b k s w y x i d)) e)
+  accepted_reads (calls.height b k w y) n s p h e = as_many b s p (fine _ _ (λ i d. ap (λ (a : Read). a.number) (height_refused P b k s w y i d)) e)
+  accepted_reads (calls.draw_window v b k r x y now []) n s p h e = as_many b s p (drawn_reads v b k r (window_questions x y) (window_question8 P x y) (λ ss. seen_by v (render P x y now ss)) s e)
+  accepted_reads (calls.draw_window v b k r x y now (m ∷ ms)) n s p h e = absurd h
+  accepted_reads (calls.draw_row v b k r x i w y now []) n s p h e = as_many b s p (drawn_reads v b k r (row_questions x i w y) (row_question8 P x i w y) (λ ss. seen_by v (render_wrapped P x i w (mode_of y) now ss)) s e)
+  accepted_reads (calls.draw_row v b k r x i w y now (m ∷ ms)) n s p h e = absurd h
 
   -- every accepted call without matches, conversion apart, leaves the records of the converted line
-  leaves-records : (c : Call) (n : ℕ) (s : List ℕ) → places_of c ≡ some n → T (without_matches c) → (answer P c s).number ≡ 0 → (answer P c s).spans ≡ lent no_record n (records_of s) 0
+  leaves_records : (c : Call) (n : ℕ) (s : List ℕ) → places_of c ≡ some n → T (without_matches c) → (answer P c s).number ≡ 0 → (answer P c s).spans ≡ lent no_record n (records_of s) 0
   unfolding without_matches no_matches places_of answer read_call rows_call height_call window_call row_call drawing search.read
-  leaves-records (calls.convert b) n s p h e = absurd (let z : ◌≡◌ {A = ℕ} 0 1 = cc in omega arith)
-  leaves-records (calls.read b k []) n s p h e = ap₂ (λ (x r : ℕ). lent no_record x (records_of s) r) (cc) e
-  leaves-records (calls.read b k (m ∷ ms)) n s p h e = absurd h
-  leaves-records (calls.rows b k w x y) n s p h e = ap₂ (λ (x r : ℕ). lent no_record x (records_of s) r) (cc) e
-  leaves-records (calls.height b k x y) n s p h e = ap₂ (λ (x r : ℕ). lent no_record x (records_of s) r) (cc) e
-  leaves-records (calls.drawWindow v b k r x y now []) n s p h e = ap₂ (λ (x r : ℕ). lent no_record x (records_of s) r) (cc) e
-  leaves-records (calls.drawWindow v b k r x y now (m ∷ ms)) n s p h e = absurd h
-  leaves-records (calls.drawRow v b k r f c w x now []) n s p h e = ap₂ (λ (x r : ℕ). lent no_record x (records_of s) r) (cc) e
-  leaves-records (calls.drawRow v b k r f c w x now (m ∷ ms)) n s p h e = absurd h
+  leaves_records (calls.convert b) n s p h e = absurd (let z : ◌≡◌ {A = ℕ} 0 1 = cc in omega arith)
+  leaves_records (calls.read b k []) n s p h e = ap₂ (λ (x r : ℕ). lent no_record x (records_of s) r) (cc) e
+  leaves_records (calls.read b k (m ∷ ms)) n s p h e = absurd h
+  leaves_records (calls.rows b k w x y) n s p h e = ap₂ (λ (x r : ℕ). lent no_record x (records_of s) r) (cc) e
+  leaves_records (calls.height b k x y) n s p h e = ap₂ (λ (x r : ℕ). lent no_record x (records_of s) r) (cc) e
+  leaves_records (calls.draw_window v b k r x y now []) n s p h e = ap₂ (λ (x r : ℕ). lent no_record x (records_of s) r) (cc) e
+  leaves_records (calls.draw_window v b k r x y now (m ∷ ms)) n s p h e = absurd h
+  leaves_records (calls.draw_row v b k r f c w x now []) n s p h e = ap₂ (λ (x r : ℕ). lent no_record x (records_of s) r) (cc) e
+  leaves_records (calls.draw_row v b k r f c w x now (m ∷ ms)) n s p h e = absurd h
 
   -- the records of a line that is two parts with noise between them
-  records-together : (a : List ℕ) (n : ℕ) (ns b : List ℕ) → T (all_noise (n ∷ ns)) → records_of (a ++ ((n ∷ ns) ++ b)) ≡ together P a (n ∷ ns) b (records_of a) (records_of b)
+  records_together : (a : List ℕ) (n : ℕ) (ns b : List ℕ) → T (all_noise (n ∷ ns)) → records_of (a ++ ((n ∷ ns) ++ b)) ≡ together P a (n ∷ ns) b (records_of a) (records_of b)
   unfolding together records
-  records-together a n ns b h =
+  records_together a n ns b h =
       ap records (separation P a n ns b h)
       ∙ map_append record_of (spans P (convert P a)) _
       ∙ ap (λ (l : List Record). records_of a ++ l)
       (map_append record_of (damage (length (convert P a)) (n ∷ ns)) _
-      ∙ ap₂ (λ (x y : List Record). x ++ y) (records-damage (length (convert P a)) (n ∷ ns)) (records-shift _ (spans P (convert P b))))
+      ∙ ap₂ (λ (x y : List Record). x ++ y) (records_damage (length (convert P a)) (n ∷ ns)) (records_shift _ (spans P (convert P b))))
 
   module _ (first : List ℕ) (n : ℕ) (ns second : List ℕ) (h : T (all_noise (n ∷ ns))) where
     abbrev line : List ℕ
@@ -141,15 +141,15 @@ module _ (P : Profile) where
         record {
           first_accepted = f;
           second_accepted = g;
-          spans = listed-read conv places line e ∙ records-together first n ns second h ∙ rw (listed-read conv places first f, listed-read conv places second g);
+          spans = listed_read conv places line e ∙ records_together first n ns second h ∙ rw (listed_read conv places first f, listed_read conv places second g);
         }
 
-    separated-call : (c : Call) (m : ℕ) → places_of c ≡ some m → T (without_matches c) → (answer P c line).number ≡ 0 → SeparatedCall P first (n ∷ ns) second c m
-    separated-call c m p t a =
-        let e = accepted-reads c m line p t a in
+    separated_call : (c : Call) (m : ℕ) → places_of c ≡ some m → T (without_matches c) → (answer P c line).number ≡ 0 → SeparatedCall P first (n ∷ ns) second c m
+    separated_call c m p t a =
+        let e = accepted_reads c m line p t a in
         let w = separated (conv_of c) m e in
-        record { read_accepted = e; separated = w; spans = rw (← w.spans, listed-read (conv_of c) m line e) (leaves-records c m line p t a) }
+        record { read_accepted = e; separated = w; spans = rw (← w.spans, listed_read (conv_of c) m line e) (leaves_records c m line p t a) }
 
   pub separation_of : (first noises second : List ℕ) → Separation P first noises second
   separation_of first [] second l h = absurd (not-suc-le-zero l)
-  separation_of first (n ∷ ns) second l h = record { reading = separated first n ns second h; others = separated-call first n ns second h }
+  separation_of first (n ∷ ns) second l h = record { reading = separated first n ns second h; others = separated_call first n ns second h }

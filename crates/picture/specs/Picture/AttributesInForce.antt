@@ -72,7 +72,7 @@ pub record Styled (P : Profile) (t : State) (s : Style) (a : Attributes) (r : Se
   pub sent : in_force a r.changes ≡ styled t.attrs s
   pub force : InForce r.after (styled t.attrs s)
   pub attrs : r.after.attrs ≡ t.attrs
-  pub line_drawing : r.after.lineDrawing ≡ t.lineDrawing
+  pub line_drawing : r.after.line_drawing ≡ t.line_drawing
   pub position : r.after.position ≡ t.position
 
 pub style_sent : (P : Profile) (t : State) (s : Style) (a : Attributes) → InForce t a → Styled P t s a (style t s)

@@ -72,6 +72,6 @@ module _ (P : Profile) (conv places : ℕ) (line : List ℕ) (fine : (read_call 
       record {
         height = ap (λ (x : Read). x.number) (height_is width mode m w);
         rows = λ first h. draws_row width mode m w reader first current r (omega (arith, h, n, few width (mode_of mode))) (p.whole first 1 (omega arith));
-        mode0 = draws_row width 0 (omega arith) w reader 0 current r (omega arith) (p.wholeUnwrapped 0 1 (omega arith));
+        mode0 = draws_row width 0 (omega arith) w reader 0 current r (omega arith) (p.whole_unwrapped 0 1 (omega arith));
         same = rw n p.same;
       }

@@ -113,7 +113,7 @@ module _ (P : Profile) where
       span_takes : (r : Rendition) (p : ℕ) (c : Content) → Drawable P c → Takes (span_columns P drawn_columns p c) (map (cell_width P) (span_cells P current r p c))
       unfolding byte_mark span_columns span_cells
       span_takes r p (text m s) d =
-          text_cells_law r.attrs _ (cond r.lineDrawing (line_drawn s) s) (rw (← text_widths r.lineDrawing s) (record { wide = wide_widths (d.wide m s refl); total = widths_total P s }))
+          text_cells_law r.attrs _ (cond r.line_drawing (line_drawn s) s) (rw (← text_widths r.line_drawing s) (record { wide = wide_widths (d.wide m s refl); total = widths_total P s }))
       span_takes r p (spans.control b) d = text_cells_law r.attrs _ (byte_mark b) (composed_takes (byte_mark b) (byte_composed b (d.control b refl)) refl)
       span_takes r p (invalid b) d = text_cells_law r.attrs _ (byte_mark b) (composed_takes (byte_mark b) (byte_composed b (d.invalid b refl)) refl)
       span_takes r p (unprintable s) d = mark_cells_law r.attrs s

@@ -31,7 +31,7 @@ abbrev pub rendition : Attributes → Bool → Rendition
 rendition a d = record { attrs = a; line_drawing = d }
 
 abbrev pub rendition_of : State → Rendition
-rendition_of t = rendition t.attrs t.lineDrawing
+rendition_of t = rendition t.attrs t.line_drawing
 
 -- behind a span at a byte place
 unfoldable pub rendition_after : Rendition → ℕ → Content → Rendition
@@ -40,8 +40,8 @@ rendition_after r place (text m s) = r
 rendition_after r place (control b) = r
 rendition_after r place (invalid b) = r
 rendition_after r place (unprintable s) = r
-rendition_after r place (escape (sgr os)) = rendition (apply_all r.attrs os) r.lineDrawing
-rendition_after r place (escape (hyperlink a n)) = rendition (linked r.attrs (place + a) n) r.lineDrawing
+rendition_after r place (escape (sgr os)) = rendition (apply_all r.attrs os) r.line_drawing
+rendition_after r place (escape (hyperlink a n)) = rendition (linked r.attrs (place + a) n) r.line_drawing
 rendition_after r place (escape (line_drawing b)) = rendition r.attrs b
 rendition_after r place (escape erase_to_end) = r
 rendition_after r place (escape ignored) = r
@@ -64,7 +64,7 @@ module _ (P : Profile) where
     -- of a span that begins at column p
     unfoldable pub span_cells : Rendition → ℕ → Content → List Cell
     unfolding mark_cells
-    span_cells r p (text m s) = text_cells r.attrs (text_style P 0 0 current m) (cond r.lineDrawing (line_drawn s) s)
+    span_cells r p (text m s) = text_cells r.attrs (text_style P 0 0 current m) (cond r.line_drawing (line_drawn s) s)
     span_cells r p (control b) = text_cells r.attrs attributes.control (byte_mark b)
     span_cells r p (invalid b) = text_cells r.attrs attributes.control (byte_mark b)
     span_cells r p (unprintable s) = mark_cells r.attrs s

@@ -51,9 +51,9 @@ module _ (P : Profile) where
         → TextEnds (Boundary P cells) P b p s
     unfolding span_cells
     span_stops r p xs ys m s n e d =
-        let x : List Scalar = cond r.lineDrawing (line_drawn s) s in
+        let x : List Scalar = cond r.line_drawing (line_drawn s) s in
         let now : List Cell = text_cells P r.attrs (text_style P 0 0 current m) x in
-        let w : map (cell_width P) now ≡ widths P (clusters P s) = cells_widths P (styled r.attrs (text_style P 0 0 current m)) (clusters P x) ∙ sym (text_widths P composed r.lineDrawing s) in
+        let w : map (cell_width P) now ≡ widths P (clusters P s) = cells_widths P (styled r.attrs (text_style P 0 0 current m)) (clusters P x) ∙ sym (text_widths P composed r.line_drawing s) in
         text_ends P (Boundary P cells) classes b s p (rw n at (between cells xs (now ++ ys) e)) (rw (n, w) at (cells_end cells xs now ys e)) (d.unshared m s refl)
 
     -- counted : wrapping counts the columns that a span draws

@@ -107,7 +107,7 @@ module _ (P : Profile) (start end : ℕ) (ordered : start ≤ end) where
           shows = shown_append (c ∷ []) P a (style t s).changes ∙ rw (y.shows, y.sent, append-nil, inside_clusters P start end t.position x) (sym i);
           whole = whole_append (c ∷ []) (style t s).changes y.whole;
           force = λ z. force_append (c ∷ []) a (style t s).changes ∙ y.sent ∙ y.force z;
-          rendition = rw (y.attrs, y.lineDrawing);
+          rendition = rw (y.attrs, y.line_drawing);
           position = omega (arith, y.position);
         }))
         (λ e. record { shows = sym (i ∙ ap (map (cell b)) (none_kept e)); whole = refl; force = f; rendition = refl; position = omega arith })
@@ -151,8 +151,8 @@ module _ (P : Profile) (start end : ℕ) (ordered : start ≤ end) where
     unfolding rendition_after span_cells render_span
     span_draws (text m s) place n t a f e u =
         let y : Style = text_style P 0 0 current m in
-        let x : List Scalar = cond n.lineDrawing (line_drawn s) s in
-        subst (Draws t a (text_cells P n.attrs y x) n) (ap₂ (λ (y : Style) (d : Bool). write_truncated P start end t y (cond d (line_drawn s) s)) (style_same m) (sym (ap (λ (n : Rendition). n.lineDrawing) e))) (text_draws n t a f e y x u)
+        let x : List Scalar = cond n.line_drawing (line_drawn s) s in
+        subst (Draws t a (text_cells P n.attrs y x) n) (ap₂ (λ (y : Style) (d : Bool). write_truncated P start end t y (cond d (line_drawn s) s)) (style_same m) (sym (ap (λ (n : Rendition). n.line_drawing) e))) (text_draws n t a f e y x u)
     span_draws (control b) place n t a f e u = text_draws n t a f e attributes.control (byte_mark b) u
     span_draws (invalid b) place n t a f e u = text_draws n t a f e attributes.control (byte_mark b) u
     span_draws (unprintable s) place n t a f e u = marks_draw s n t a f e u

@@ -185,7 +185,7 @@ width_only (b ∷ s) d w e =
     (λ p. never (sym (width_newline d w b s (eqb-true b 0x0A p)) ∙ e'))
     (λ p. cases (digit b)
     (λ q. let r : Form true s = width_only s true (more w b) (ap (λ (g : FirstLine). in_form (with_bytes g s)) (sym (width_digit d w b q)) ∙ e') in
-    record { width = b ∷ r.width; mode = r.mode; line = r.line; says = ap (λ (l : List ℕ). b ∷ l) r.says; width_digits = more_digits b r.width q r.width-digits; width_some = λ z. omega arith; mode_digits = r.mode-digits; mode_some = r.mode-some })
+    record { width = b ∷ r.width; mode = r.mode; line = r.line; says = ap (λ (l : List ℕ). b ∷ l) r.says; width_digits = more_digits b r.width q r.width_digits; width_some = λ z. omega arith; mode_digits = r.mode_digits; mode_some = r.mode_some })
     (λ q. cases (eqb b 0x20 && d)
     (λ r. let n : b ≡ 0x20 = eqb-true b 0x20 (is_true (eqb b 0x20) (and_T (eqb b 0x20) d (true_T r)).0) in
     let t : d ≡ true = is_true d (and_T (eqb b 0x20) d (true_T r)).1 in

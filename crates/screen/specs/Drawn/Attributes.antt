@@ -80,7 +80,7 @@ unfolding styled known_value
 styled_limits a style.file f = f
 styled_limits a style.control f = apply_limits plain (Inverse true) plain_limits tt
 styled_limits a style.match f = marked_limits a 3 f
-styled_limits a style.currentMatch f = marked_limits a 6 f
+styled_limits a style.current_match f = marked_limits a 6 f
 
 pub arrows_limits : InLimits arrows
 unfolding arrows known_value

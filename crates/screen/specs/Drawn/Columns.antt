@@ -141,7 +141,7 @@ module _ (P : Profile) (H : ProfileLaws P) where
 
     span_step : (current : Option ℕ) (t : State) (place : ℕ) (c : Content) → Fit P c → InLimits t.attrs → Step t (render_span P start end current t place c)
     unfolding render_span render_sequence
-    span_step current t place (spans.text m s) x f = write_step t (text_style P start end current m) (let y = x.text m s refl in text_drawable P H t.lineDrawing y.0 y.1) f
+    span_step current t place (spans.text m s) x f = write_step t (text_style P start end current m) (let y = x.text m s refl in text_drawable P H t.line_drawing y.0 y.1) f
     span_step current t place (spans.control b) x f = write_step t style.control (byte_mark_drawable P H b (x.control b refl)) f
     span_step current t place (spans.invalid b) x f = write_step t style.control (byte_mark_drawable P H b (x.invalid b refl)) f
     span_step current t place (spans.unprintable s) x f = marks_step t s f
@@ -170,7 +170,7 @@ module _ (P : Profile) (H : ProfileLaws P) where
   abbrev Closing : List Change → Type 0
   Closing cs = ListOf P 0 (cs ++ (all_attributes style.plain ∷ []))
 
-  cleared : (b : Bool) (t : State) → Closing (cond b (clear_to_end t.endOfLine ∷ []) [])
+  cleared : (b : Bool) (t : State) → Closing (cond b (clear_to_end t.end_of_line ∷ []) [])
   unfolding columns
   cleared b t = both Closing b (record { list = next clear (next (attributes plain_limits) done); few = omega arith }) (record { list = next (attributes plain_limits) done; few = omega arith })
 

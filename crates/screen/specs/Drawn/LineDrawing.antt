@@ -20,5 +20,5 @@ module _ (P : Profile) (H : ProfileLaws P) where
   pub text_drawable : (b : Bool) {s : List Scalar} → Text P s → length (bytes_of s) ≤ 32768 → Drawable P (cond b (line_drawn s) s)
   text_drawable true {s} t h =
       let v = line_drawn_valid t.valid in
-      record { text = record { wide = wide_each (line_drawn_widths P (alike_replaced P H.ascii H.symbols H.symbolColumns) s) t.wide; valid = v.0 }; size = omega (arith, v.1) }
+      record { text = record { wide = wide_each (line_drawn_widths P (alike_replaced P H.ascii H.symbols H.symbol_columns) s) t.wide; valid = v.0 }; size = omega (arith, v.1) }
   text_drawable false t h = record { text = t; size = omega arith }

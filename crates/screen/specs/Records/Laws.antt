@@ -167,9 +167,9 @@ kind_small (clear_to_end c) = omega arith
 kind_small cursor_right = omega arith
 
 encoded : (cs : List Change) → change.encode cs ≡ encode 4 (map record_of cs)
-unfolding change.encode change.encodeOne encode encode_one
+unfolding change.encode change.encode_one encode encode_one
 encoded [] = refl
-encoded (c ∷ cs) = ap (λ (l : List ℕ). change.encodeOne c ++ l) (encoded cs)
+encoded (c ∷ cs) = ap (λ (l : List ℕ). change.encode_one c ++ l) (encoded cs)
 
 changes_fit : {cs : List Change} → All Short cs → All (Fits 4) (map record_of cs)
 unfolding limit

@@ -94,7 +94,7 @@ are_fields b f =
       le-leb (get_or b 3 0) 31 f.flags,
       f.foreground,
       f.background,
-      f.underlineColor,
+      f.underline_color,
       le-leb (get_or b 24 0) 2 f.alignment,
     ) refl
 
@@ -124,4 +124,4 @@ pub body_attributes : (b : List ℕ) → length b ≡ body_size → Fields b →
 unfolding bytes_at
 body_attributes b size is l =
     attribute_bytes_law (attributes_of b l)
-    ∙ rw (flags_read (get_or b 3 0) is.flags, color_bytes_law b 4 is.foreground, color_bytes_law b 8 is.background, color_bytes_law b 12 is.underlineColor, bytes_taken 16 b (omega arith), last_at_law b 24 (omega arith) (omega arith)) refl
+    ∙ rw (flags_read (get_or b 3 0) is.flags, color_bytes_law b 4 is.foreground, color_bytes_law b 8 is.background, color_bytes_law b 12 is.underline_color, bytes_taken 16 b (omega arith), last_at_law b 24 (omega arith) (omega arith)) refl

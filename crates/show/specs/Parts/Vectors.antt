@@ -14,7 +14,7 @@ abbrev view : View
 view = record { mode = 1; start = 0; width = 2 }
 
 abbrev asked : List Given → Shown
-unfolding with_parts saturated put emit width.profile01 search.inOrder
+unfolding with_parts saturated put emit width.profile01 search.in_order
 asked gs = with_parts (0x66 ∷ []) view 4 (state 0 [] (sink (replicate 8 0) 0)) gs
 
 -- `a`, newline and `b`; a newline; the end; and what is not asked for any more
@@ -34,7 +34,7 @@ not_taken = refl
 
 -- `a`, newline and `b`, at once
 abbrev whole : file_shown (0x66 ∷ []) view (0x61 ∷ 0x0A ∷ 0x62 ∷ []) ≡ 0x61 ∷ 0x20 ∷ 0x0A ∷ 0x62 ∷ 0x20 ∷ 0x0A ∷ []
-unfolding file_shown width.profile01 search.inOrder
+unfolding file_shown width.profile01 search.in_order
 whole = refl
 
 abbrev ends : bytes_of ((0x61 ∷ []) ∷ (0x62 ∷ []) ∷ [] ∷ (0x63 ∷ []) ∷ []) ≡ 0x61 ∷ 0x62 ∷ []
@@ -43,5 +43,5 @@ ends = refl
 
 -- 4,097 times `a`
 abbrev long : file_shown (0x66 ∷ []) view (replicate 4097 0x61) ≡ refusal_text (0x66 ∷ []) 1 1
-unfolding file_shown width.profile01 search.inOrder
+unfolding file_shown width.profile01 search.in_order
 long = refl

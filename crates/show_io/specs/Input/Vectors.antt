@@ -7,7 +7,7 @@ use Rattle.show_io.specs.Input.{state, Read, read, with_pieces}
 
 -- in a line of 4 bytes and a buffer of 8
 abbrev taken : ℕ → ℕ → List (List ℕ) → Read
-unfolding with_pieces saturated put emit width.profile01 search.inOrder
+unfolding with_pieces saturated put emit width.profile01 search.in_order
 taken enough number ps = with_pieces (0x66 ∷ []) (record { mode = 1; start = 0; width = 2 }) 4 enough (state number [] (sink (replicate 8 0) 0)) ps
 
 -- `a`, of which more may follow

@@ -1,6 +1,6 @@
 -- What the values of class's code say of the definitions' ones.
 use Rattle.std.specs.Prelude.{◌%◌, ◌-◌, ℕ, Bool, ◌&&◌, cond, eqb, leb}
-use Rattle.text.specs.Class.{Class, Profile, class_l, class_lV, class_lVT, class_t, class_v}
+use Rattle.text.specs.Class.{Class, Profile, class_l, class_lv, class_lvt, class_t, class_v}
 use Rattle.text.specs.Width.{profile01}
 use Rattle.text.specs.declared.class.Profile as code
 
@@ -11,7 +11,7 @@ profile_of p = profile01
 
 -- the class of a Hangul syllable, and of U+1100 to U+11FF
 abbrev pub syllable : ℕ → Class
-syllable v = cond (eqb ((v - 0xAC00) % 28) 0) class_lV class_lVT
+syllable v = cond (eqb ((v - 0xAC00) % 28) 0) class_lv class_lvt
 
 abbrev pub jamo : ℕ → Class
 jamo v = cond (leb v 0x115F) class_l (cond (leb v 0x11A7) class_v class_t)

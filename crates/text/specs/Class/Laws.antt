@@ -2,7 +2,7 @@
 use Rattle.std.specs.Prelude.{◌≡◌, refl, ℕ, ◌≤◌, Bool, true, [], ◌∷◌, T}
 use Rattle.std.proofs.Common.{arith}
 use Rattle.text.specs.Tests.{every, every_one}
-use Rattle.text.specs.Class.{Class, Profile, among, class_l, class_lV, class_lVT, class_t, class_v, control, cr, extend, extended_pictographic, is_control, lf, number, other, regional_indicator, zwj}
+use Rattle.text.specs.Class.{Class, Profile, among, class_l, class_lv, class_lvt, class_t, class_v, control, cr, extend, extended_pictographic, is_control, lf, number, other, regional_indicator, zwj}
 
 pub number_le : (c : Class) → number c ≤ 12
 unfolding number
@@ -14,8 +14,8 @@ number_le zwj = omega arith
 number_le class_l = omega arith
 number_le class_v = omega arith
 number_le class_t = omega arith
-number_le class_lV = omega arith
-number_le class_lVT = omega arith
+number_le class_lv = omega arith
+number_le class_lvt = omega arith
 number_le regional_indicator = omega arith
 number_le other = omega arith
 number_le extended_pictographic = omega arith
@@ -35,8 +35,8 @@ number_other zwj e = absurd (omega (arith, e))
 number_other class_l e = absurd (omega (arith, e))
 number_other class_v e = absurd (omega (arith, e))
 number_other class_t e = absurd (omega (arith, e))
-number_other class_lV e = absurd (omega (arith, e))
-number_other class_lVT e = absurd (omega (arith, e))
+number_other class_lv e = absurd (omega (arith, e))
+number_other class_lvt e = absurd (omega (arith, e))
 number_other regional_indicator e = absurd (omega (arith, e))
 number_other extended_pictographic e = absurd (omega (arith, e))
 

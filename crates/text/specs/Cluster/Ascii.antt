@@ -31,7 +31,7 @@ unfolding joined among number
 before_control p k c h e = by_syllable (λ (n : ℕ). joined n k c ≡ false) p h (rw e) (rw e) (rw e) (rw e)
 
 -- GB999
-pub between_syllables : (p : ℕ) (k : Context) (c : ℕ) → k.emojiZwj ≡ false → syllable_or_other p ≡ true → syllable_or_other c ≡ true → joined p k c ≡ false
+pub between_syllables : (p : ℕ) (k : Context) (c : ℕ) → k.emoji_zwj ≡ false → syllable_or_other p ≡ true → syllable_or_other c ≡ true → joined p k c ≡ false
 unfolding joined among number
 between_syllables p k c z h g =
     by_syllable (λ (n : ℕ). joined p k n ≡ false) c g
@@ -40,10 +40,10 @@ between_syllables p k c z h g =
     (by_syllable (λ (n : ℕ). joined n k 11 ≡ false) p h odd odd odd odd)
     (by_syllable (λ (n : ℕ). joined n k 12 ≡ false) p h picture picture picture picture)
   where
-    odd : cond (k.emojiZwj && false) true (cond (k.odd && false) true false) ≡ false
-    odd = rw (and-false k.emojiZwj, and-false k.odd) refl
+    odd : cond (k.emoji_zwj && false) true (cond (k.odd && false) true false) ≡ false
+    odd = rw (and-false k.emoji_zwj, and-false k.odd) refl
 
-    picture : cond (k.emojiZwj && true) true (cond (k.odd && false) true false) ≡ false
+    picture : cond (k.emoji_zwj && true) true (cond (k.odd && false) true false) ≡ false
     picture = rw (z, and-false k.odd) refl
 
 -- ---- clusters of one scalar

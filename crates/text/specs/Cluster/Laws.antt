@@ -63,7 +63,7 @@ module _ (P : Profile) where
 -- GB12, GB13
 joined_ri : (p : ℕ) (k : Context) (c : ℕ) → p ≡ 10 → T k.odd → c ≡ 10 → joined p k c ≡ true
 unfolding joined among number
-joined_ri p k c e o f = rw (e, f, is_true k.odd o, and-false k.emojiZwj)
+joined_ri p k c e o f = rw (e, f, is_true k.odd o, and-false k.emoji_zwj)
 
 -- the parity behind a boundary
 parity : (p : ℕ) (k : Context) (c : ℕ) → joined p (after k p) c ≡ false → eqb c 10 && not (after k p).odd ≡ (eqb c 10 && true)

@@ -3,7 +3,7 @@ use Rattle.std.specs.Prelude.{◌%◌, ◌-◌, suc, ℕ, Bool, cond, false, tru
 use Rattle.std.proofs.Common.{arith, sym, eqb-true}
 use Rattle.text.specs.Tests.{cases, true_T, every}
 use Rattle.text.specs.Utf8.{Scalar, to, within}
-use Rattle.text.specs.Class.{Class, Profile, among, class01, class_l, class_lV, class_lVT, class_t, class_v, control, controls, extend, extended_pictographic, extends, in_any, lf, number, other, pictographs, regional_indicator, spaces, whitespace, zwj}
+use Rattle.text.specs.Class.{Class, Profile, among, class01, class_l, class_lv, class_lvt, class_t, class_v, control, controls, extend, extended_pictographic, extends, in_any, lf, number, other, pictographs, regional_indicator, spaces, whitespace, zwj}
 use Rattle.text.specs.Class.Laws.{alone_or_lf}
 use Rattle.text.specs.Class.Ranges.{each_in, each_in_law}
 use Rattle.text.specs.Width.{profile01}
@@ -49,7 +49,7 @@ only_cr x e =
     (some_class (in_any (to 0x1100 0x115F ∷ to 0xA960 0xA97C ∷ []) x) class_l _ (some 4)
     (some_class (in_any (to 0x1160 0x11A7 ∷ to 0xD7B0 0xD7C6 ∷ []) x) class_v _ (some 5)
     (some_class (in_any (to 0x11A8 0x11FF ∷ to 0xD7CB 0xD7FB ∷ []) x) class_t _ (some 6)
-    (some_class (within (to 0xAC00 0xD7A3) x) (cond (eqb ((x - 0xAC00) % 28) 0) class_lV class_lVT) _ (some_class (eqb ((x - 0xAC00) % 28) 0) class_lV class_lVT (some 7) (some 8))
+    (some_class (within (to 0xAC00 0xD7A3) x) (cond (eqb ((x - 0xAC00) % 28) 0) class_lv class_lvt) _ (some_class (eqb ((x - 0xAC00) % 28) 0) class_lv class_lvt (some 7) (some 8))
     (some_class (within (to 0x1F1E6 0x1F1FF) x) regional_indicator _ (some 9)
     (some_class (in_any pictographs x) extended_pictographic other (some 11) (some 10)))))))))))
 

@@ -35,7 +35,7 @@ alone_numbers p k c g =
     cases (eqb c 0) (λ d. rw (eqb-true c 0 d, and-false (eqb p 0), e) refl)
     (λ d₀. cases (eqb c 2) (λ d. rw (eqb-true c 2 d, and-false (eqb p 0), e) refl)
     (λ d₂. let y : c ≡ 11 = eqb-true c 11 (rw (d₀, d₂) at g) in
-    rw (y, and-false (eqb p 0), e, and-false (eqb p 5), and-false (eqb p 8 || eqb p 6), and-false (eqb p 9 || eqb p 7), and-false k.emojiZwj, and-false k.odd) refl)))
+    rw (y, and-false (eqb p 0), e, and-false (eqb p 5), and-false (eqb p 8 || eqb p 6), and-false (eqb p 9 || eqb p 7), and-false k.emoji_zwj, and-false k.odd) refl)))
 
 pub other_alone : alone 11 ≡ true
 unfolding among number

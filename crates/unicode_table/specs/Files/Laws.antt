@@ -93,7 +93,7 @@ module _ (count : ℕ) (cells mid : List ℕ) (r : Reach) (k : ℕ) (h : FilesRe
   files_more after r' l f w = record {
     low = omega arith;
     read = λ e.
-        let a = h.read f in let b = w.unless-failed e in
+        let a = h.read f in let b = w.unless_failed e in
         record {
           files = a.files ++ (bytes_of b.parts ∷ []);
           many = length-append a.files (bytes_of b.parts ∷ []) ∙ (omega (arith, a.many));

@@ -117,7 +117,7 @@ generated_is (f ∷ g ∷ h ∷ k ∷ x ∷ fs) cells count b e = absurd (omega 
 module _ (cells after : List ℕ) (count : ℕ) (r : Reach) (b : Begun cells count) (a : AllRead count cells after r) (f : r.failed ≡ false) where
   printed : (taken : Bool) → Handed (printed_of (state_of r.reading after)) taken → Printed count taken
   printed taken h =
-      let all : Files count cells after r = a.unless-failed f in
+      let all : Files count cells after r = a.unless_failed f in
       record { files = all.files; many = all.many; handed = subst (λ (t : List ℕ). Handed t taken) (ap printed_of all.read ∙ generated_is all.files cells count b all.many) h }
 
   module _ (n : ℕ) (e : n ≡ refusal_of r.reading.malformed r.reading.overlap) (taken : Bool) where

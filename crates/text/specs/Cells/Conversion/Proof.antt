@@ -34,13 +34,13 @@ single b = eqb b 0x08 || printable b
 abbrev Singles : List ℕ → Type 0
 Singles s = All (λ (b : ℕ). single b ≡ true) s
 
-single-low : (b : ℕ) → single b ≡ true → b < 0x80
-single-low b e = cases (eqb b 0x08) (λ f. omega (arith, eqb-true b 8 f)) (λ f. omega (arith, (printable_range b (rw f at e)).1))
+single_low : (b : ℕ) → single b ≡ true → b < 0x80
+single_low b e = cases (eqb b 0x08) (λ f. omega (arith, eqb-true b 8 f)) (λ f. omega (arith, (printable_range b (rw f at e)).1))
 
 -- a cell's byte
 record CellByte (b : ℕ) : Type 0 where
   plain : printable b ≡ true
-  notUnder : eqb b 0x5F ≡ false
+  not_under : eqb b 0x5F ≡ false
 
 -- cells are none, or one and cells
 data Cells : List ℕ → Type 0 where
@@ -54,49 +54,49 @@ are (b ∷ []) e = absurd (true_T e)
 are (b ∷ s ∷ cells) e =
     let p = and_T (is_cell b s) (are_cells cells) (true_T e) in
     let q = and_T (printable b) (not (eqb b 0x5F) && leb s 3) p.0 in
-    cons (record { plain = is_true _ q.0; notUnder = not-true _ (is_true _ (and_T (not (eqb b 0x5F)) (leb s 3) q.1).0) }) (are cells (is_true _ p.1))
+    cons (record { plain = is_true _ q.0; not_under = not-true _ (is_true _ (and_T (not (eqb b 0x5F)) (leb s 3) q.1).0) }) (are cells (is_true _ p.1))
 
 module _ (c : ℕ) (C : CellByte c) where
-  single-cell : single c ≡ true
-  single-cell = cases (eqb c 0x08) (λ f. rw f) (λ f. rw f C.plain)
+  single_cell : single c ≡ true
+  single_cell = cases (eqb c 0x08) (λ f. rw f) (λ f. rw f C.plain)
 
-  overstruck-single : (t : Style) → Singles (overstruck t c)
+  overstruck_single : (t : Style) → Singles (overstruck t c)
   unfolding overstruck
-  overstruck-single normal = all_cons single-cell all_nil
-  overstruck-single bold = all_cons single-cell (all_cons refl (all_cons single-cell all_nil))
-  overstruck-single underline = all_cons refl (all_cons refl (all_cons single-cell all_nil))
-  overstruck-single bold_underline = all_cons refl (all_cons refl (all_cons single-cell (all_cons refl (all_cons single-cell all_nil))))
+  overstruck_single normal = all_cons single_cell all_nil
+  overstruck_single bold = all_cons single_cell (all_cons refl (all_cons single_cell all_nil))
+  overstruck_single underline = all_cons refl (all_cons refl (all_cons single_cell all_nil))
+  overstruck_single bold_underline = all_cons refl (all_cons refl (all_cons single_cell (all_cons refl (all_cons single_cell all_nil))))
 
-written-single : {cells : List ℕ} → Cells cells → Singles (overstruck_cells cells)
+written_single : {cells : List ℕ} → Cells cells → Singles (overstruck_cells cells)
 unfolding overstruck_cells
-written-single nil = all_nil
-written-single (cons {b = b} {s = s} h a) = all_append (overstruck-single b h (cell_style s)) (written-single a)
+written_single nil = all_nil
+written_single (cons {b = b} {s = s} h a) = all_append (overstruck_single b h (cell_style s)) (written_single a)
 
 -- ---- a text of such bytes: one run, each byte a cluster
 
-unfoldable eachOne : List ℕ → List (List Scalar)
-eachOne [] = []
-eachOne (b ∷ s) = (ascii b ∷ []) ∷ eachOne s
+unfoldable each_one : List ℕ → List (List Scalar)
+each_one [] = []
+each_one (b ∷ s) = (ascii b ∷ []) ∷ each_one s
 
 module _ (P : Profile) (K : OverstrikeClasses P) where
-  by-class : (X : ℕ → Type 0) (b : ℕ) → single b ≡ true → X 2 → X 11 → X (number (P.class b))
+  by_class : (X : ℕ → Type 0) (b : ℕ) → single b ≡ true → X 2 → X 11 → X (number (P.class b))
   unfolding number
-  by-class X b e x y = cases (eqb b 0x08) (λ f. rw (eqb-true b 8 f, K.backspace) x) (λ f. rw (K.plain b (rw f at e)) y)
+  by_class X b e x y = cases (eqb b 0x08) (λ f. rw (eqb-true b 8 f, K.backspace) x) (λ f. rw (K.plain b (rw f at e)) y)
 
   apart : (b c : ℕ) → single b ≡ true → single c ≡ true → joins P (ascii b ∷ []) (ascii c) ≡ false
   unfolding joins
   apart b c d e =
       let k = context P (ascii b ∷ []) in
-      by-class (λ (p : ℕ). joined p k (number (P.class c)) ≡ false) b d
+      by_class (λ (p : ℕ). joined p k (number (P.class c)) ≡ false) b d
       (after_control 2 k (number (P.class c)) refl)
-      (by-class (λ (n : ℕ). joined 11 k n ≡ false) c e (before_control 11 k 2 refl refl) (alone_numbers 11 k 11 other_alone))
+      (by_class (λ (n : ℕ). joined 11 k n ≡ false) c e (before_control 11 k 2 refl refl) (alone_numbers 11 k 11 other_alone))
 
-  clusters-single : {s : List ℕ} → Singles s → clusters P (asciis s) ≡ eachOne s
-  unfolding asciis eachOne
-  clusters-single all_nil = clusters_nil P
-  clusters-single (all_cons {a = b} d all_nil) = clusters_one P (ascii b)
-  clusters-single (all_cons {a = b} d (all_cons {a = c} {s = s} e a)) =
-      clusters_apart P (ascii b) (ascii c) (asciis s) (apart b c d e) ∙ ap (λ (l : List (List Scalar)). (ascii b ∷ []) ∷ l) (clusters-single (all_cons e a))
+  clusters_single : {s : List ℕ} → Singles s → clusters P (asciis s) ≡ each_one s
+  unfolding asciis each_one
+  clusters_single all_nil = clusters_nil P
+  clusters_single (all_cons {a = b} d all_nil) = clusters_one P (ascii b)
+  clusters_single (all_cons {a = b} d (all_cons {a = c} {s = s} e a)) =
+      clusters_apart P (ascii b) (ascii c) (asciis s) (apart b c d e) ∙ ap (λ (l : List (List Scalar)). (ascii b ∷ []) ∷ l) (clusters_single (all_cons e a))
 
   -- ---- a cell
 
@@ -104,23 +104,23 @@ module _ (P : Profile) (K : OverstrikeClasses P) where
     no_backspace : eqb c 0x08 ≡ false
     no_backspace = ne_eqb c 8 (λ e. omega (arith, (printable_range c C.plain).0))
 
-    under-no : eqb 0x5F c ≡ false
-    under-no = ne_eqb 0x5F c (λ e. eqb-false c 0x5F C.notUnder (sym e))
+    under_no : eqb 0x5F c ≡ false
+    under_no = ne_eqb 0x5F c (λ e. eqb-false c 0x5F C.not_under (sym e))
 
     same : eqb c c ≡ true
     same = eq-eqb c c refl
 
-    cell-steps : (t : Style) (out g : List Scalar) (b s : Style) (rest : List ℕ)
-        → steps P (state out (held g) b s) (eachOne (overstruck t c ++ rest)) ≡ steps P (state (push g (push (asciis (order b s)) out)) (held (ascii c ∷ [])) s t) (eachOne rest)
-    unfolding steps step eachOne overstruck on_backspace on_cluster strike reads bytes_of same_bytes bolded underlined
-    cell-steps normal out g b s rest = rw no_backspace refl
-    cell-steps bold out g b s rest = rw (no_backspace, same, C.notUnder) refl
-    cell-steps underline out g b s rest = rw (no_backspace, under-no, C.notUnder) refl
-    cell-steps bold_underline out g b s rest = rw (no_backspace, under-no, C.notUnder, same, C.notUnder) refl
+    cell_steps : (t : Style) (out g : List Scalar) (b s : Style) (rest : List ℕ)
+        → steps P (state out (held g) b s) (each_one (overstruck t c ++ rest)) ≡ steps P (state (push g (push (asciis (order b s)) out)) (held (ascii c ∷ [])) s t) (each_one rest)
+    unfolding steps step each_one overstruck on_backspace on_cluster strike reads bytes_of same_bytes bolded underlined
+    cell_steps normal out g b s rest = rw no_backspace refl
+    cell_steps bold out g b s rest = rw (no_backspace, same, C.not_under) refl
+    cell_steps underline out g b s rest = rw (no_backspace, under_no, C.not_under) refl
+    cell_steps bold_underline out g b s rest = rw (no_backspace, under_no, C.not_under, same, C.not_under) refl
 
     -- the first cell: none pending is as an empty cluster held
-    first_cell : (t : Style) (rest : List ℕ) → steps P (state [] none normal normal) (eachOne (overstruck t c ++ rest)) ≡ steps P (state [] (held []) normal normal) (eachOne (overstruck t c ++ rest))
-    unfolding steps step eachOne overstruck on_cluster reads bytes_of same_bytes order asciis
+    first_cell : (t : Style) (rest : List ℕ) → steps P (state [] none normal normal) (each_one (overstruck t c ++ rest)) ≡ steps P (state [] (held []) normal normal) (each_one (overstruck t c ++ rest))
+    unfolding steps step each_one overstruck on_cluster reads bytes_of same_bytes order asciis
     first_cell normal rest = rw no_backspace refl
     first_cell bold rest = rw no_backspace refl
     first_cell underline rest = refl
@@ -131,8 +131,8 @@ module _ (P : Profile) (K : OverstrikeClasses P) where
   abbrev bytes : List Scalar → List ℕ
   bytes out = bytes_of (reverse out)
 
-  abbrev endBytes : State → List ℕ
-  endBytes t = bytes (finish P t.out t.pending t.before t.style)
+  abbrev end_bytes : State → List ℕ
+  end_bytes t = bytes (finish P t.out t.pending t.before t.style)
 
   pushed : (x out : List Scalar) → bytes (push x out) ≡ bytes out ++ bytes_of x
   pushed x out = ap bytes_of (push_reverse x out) ∙ bytes_of_append (reverse out) x
@@ -140,62 +140,62 @@ module _ (P : Profile) (K : OverstrikeClasses P) where
   ordered : (o : List ℕ) (out : List Scalar) → bytes (push (asciis o) out) ≡ bytes out ++ o
   ordered o out = pushed (asciis o) out ∙ ap (λ (l : List ℕ). bytes out ++ l) (asciis_bytes o)
 
-  all-steps : {cells : List ℕ} → Cells cells → (out g : List Scalar) (b s : Style)
-      → endBytes (steps P (state out (held g) b s) (eachOne (overstruck_cells cells))) ≡ bytes (push g (push (asciis (order b s)) out)) ++ styled s cells
-  unfolding overstruck_cells styled eachOne steps finish bytes_of
-  all-steps nil out g b s = ordered (order s normal) (push g (push (asciis (order b s)) out))
-  all-steps (cons {b = c} {s = n} {cells = cells} C a) out g b s =
+  all_steps : {cells : List ℕ} → Cells cells → (out g : List Scalar) (b s : Style)
+      → end_bytes (steps P (state out (held g) b s) (each_one (overstruck_cells cells))) ≡ bytes (push g (push (asciis (order b s)) out)) ++ styled s cells
+  unfolding overstruck_cells styled each_one steps finish bytes_of
+  all_steps nil out g b s = ordered (order s normal) (push g (push (asciis (order b s)) out))
+  all_steps (cons {b = c} {s = n} {cells = cells} C a) out g b s =
       let t : Style = cell_style n in
       let x : List Scalar = push g (push (asciis (order b s)) out) in
-      ap endBytes (cell-steps c C t out g b s (overstruck_cells cells))
-      ∙ all-steps a x (ascii c ∷ []) s t
+      ap end_bytes (cell_steps c C t out g b s (overstruck_cells cells))
+      ∙ all_steps a x (ascii c ∷ []) s t
       ∙ ap (λ (l : List ℕ). l ++ styled t cells) (pushed (ascii c ∷ []) (push (asciis (order s t)) x) ∙ ap (λ (l : List ℕ). l ++ (c ∷ [])) (ordered (order s t) x))
       ∙ append_assoc (bytes x ++ order s t) (c ∷ []) (styled t cells)
       ∙ append_assoc (bytes x) (order s t) (c ∷ styled t cells)
 
-  from_start : {cells : List ℕ} → Cells cells → endBytes (steps P (state [] none normal normal) (eachOne (overstruck_cells cells))) ≡ styled normal cells
-  unfolding overstruck_cells styled eachOne steps finish order asciis bytes_of
+  from_start : {cells : List ℕ} → Cells cells → end_bytes (steps P (state [] none normal normal) (each_one (overstruck_cells cells))) ≡ styled normal cells
+  unfolding overstruck_cells styled each_one steps finish order asciis bytes_of
   from_start nil = refl
-  from_start (cons {b = c} {s = n} {cells = cells} C a) = ap endBytes (first_cell c C (cell_style n) (overstruck_cells cells)) ∙ all-steps (cons {s = n} C a) [] [] normal normal
+  from_start (cons {b = c} {s = n} {cells = cells} C a) = ap end_bytes (first_cell c C (cell_style n) (overstruck_cells cells)) ∙ all_steps (cons {s = n} C a) [] [] normal normal
 
   -- ---- the line
 
-  one-run : {s : List ℕ} → Singles s → convert P s ≡ bytes_of (convert_run P (asciis s))
+  one_run : {s : List ℕ} → Singles s → convert P s ≡ bytes_of (convert_run P (asciis s))
   unfolding convert_pieces convert asciis bytes_of
-  one-run all_nil = sym (ap bytes_of (convert_run_plain P [] refl))
-  one-run (all_cons {a = b} {s = s} e a) =
+  one_run all_nil = sym (ap bytes_of (convert_run_plain P [] refl))
+  one_run (all_cons {a = b} {s = s} e a) =
       convert_pieces_law P (b ∷ s)
-      ∙ ap (convert_pieces P) (runs_asciis b s (all_map single-low (all_cons e a)))
+      ∙ ap (convert_pieces P) (runs_asciis b s (all_map single_low (all_cons e a)))
       ∙ append-nil (bytes_of (convert_run P (asciis (b ∷ s))))
 
-  pub cells-convert : CellsConvert P
+  pub cells_convert : CellsConvert P
   unfolding convert_run
-  cells-convert cells e =
+  cells_convert cells e =
       let a = are cells e in
-      let w = written-single a in
-      one-run w ∙ ap (λ (gs : List (List Scalar)). endBytes (steps P (state [] none normal normal) gs)) (clusters-single w) ∙ from_start a
+      let w = written_single a in
+      one_run w ∙ ap (λ (gs : List (List Scalar)). end_bytes (steps P (state [] none normal normal) gs)) (clusters_single w) ∙ from_start a
 
-  pub written-converts : WrittenConverts P
-  written-converts room conv cells e h =
+  pub written_converts : WrittenConverts P
+  written_converts room conv cells e h =
       let s : List ℕ = overstruck_cells cells in
       let w = written_accepted room cells e in
       let k : 8 * length s ≤ conv = rw w.count at h in
       let d : decide (question1 s ∷ question2 conv s ∷ []) ≡ 0 = decide_yes (question1 s) _ w.short ∙ decide_yes (question2 conv s) [] (le-leb (8 * length s) conv k) ∙ decide_nil in
       rw (w.count, w.out, take-append_seam s (replicate (room - length s) 0))
-      (convert_accepted P conv s d ∙ rw (cells-convert cells w.whole) refl)
+      (convert_accepted P conv s d ∙ rw (cells_convert cells w.whole) refl)
 
 -- ---- profiles that have it, and document 01's
 
-pub overstrike-classes : (P : Profile) → AsciiClasses P → OverstrikeClasses P
+pub overstrike_classes : (P : Profile) → AsciiClasses P → OverstrikeClasses P
 unfolding number
-overstrike-classes P a = record { backspace = a.class 0x08 (omega arith); plain = λ b e. printable_class P a b e }
+overstrike_classes P a = record { backspace = a.class 0x08 (omega arith); plain = λ b e. printable_class P a b e }
 
 classes01 : OverstrikeClasses profile01
 unfolding profile_of
-classes01 = overstrike-classes profile01 (ascii_classes (record { version = 0 }))
+classes01 = overstrike_classes profile01 (ascii_classes (record { version = 0 }))
 
-pub cells-convert01 : CellsConvert profile01
-cells-convert01 = cells-convert profile01 classes01
+pub cells_convert01 : CellsConvert profile01
+cells_convert01 = cells_convert profile01 classes01
 
-pub written-converts01 : WrittenConverts profile01
-written-converts01 = written-converts profile01 classes01
+pub written_converts01 : WrittenConverts profile01
+written_converts01 = written_converts profile01 classes01
