@@ -1,2 +1,4 @@
 pub mod Sink
 pub mod Numbers
+pub mod Conditions
+pub mod Numbering

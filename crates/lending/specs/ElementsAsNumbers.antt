@@ -36,6 +36,7 @@ use denote.Struct.Laws as LL
 use denote.Triple.Statement.{Triple}
 use denote.Triple.Entry.{Args}
 use denote.Triple.Clauses.{Clauses, Lasts, at_exit}
+use Rattle.buffer.specs.Numbering.{Numbering}
 use Rattle.lending.specs.Spelling.{Spelling, a_number, nothing_more, a_struct, an_array}
 use Rattle.lending.specs.Locals.{Held, room, away, value, values, Inside, value_at, takes, set_at, value_inside, Blocks, Locals}
 use Rattle.lending.specs.Signatures.{Kind, number, shared, lent, last, signed, ended}
@@ -45,15 +46,6 @@ use Rattle.lending.specs.LentPlaces as Places
 use Rattle.lending.specs.LentPlaces.{lends, gets_back, shares, shared_back, room_less}
 use Rattle.lending.specs.LocalArrays.{arr, slice_at, others, opens, shuts}
 use Rattle.lending.specs.ReplacedParameter.{lft_with, share_with, share_at, lft_with_law, asides, param_at, param_is, replaced, last_at, lasts_with, other_tokens, other_lasts, token_replaced, token_taken, token_in, part_replaced, last_out, last_in}
-
-pub record Numbering (X : Type 0) : Type 0 where
-  pub size : ℕ
-  pub none : X
-  pub places : ℕ → ℕ
-  pub each : ℕ
-  pub numbers : ℕ → List X → List ℕ
-  pub few : (m : ℕ) → places m ≤ size
-  pub wide : (m : ℕ) → each * places m ≤ m
 
 module _ {M : Type 1} {𝓤 : Ura M} (𝓛 : Logic 𝓤) (𝓜 : Model 𝓤 𝓛.H) (𝓡 : Running 𝓤 𝓛.H 𝓜) (γ : Routines) where
   open 𝓛 use {H}

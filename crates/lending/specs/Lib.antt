@@ -1,4 +1,3 @@
-pub mod Conditions
 pub mod Reborrow
 pub mod ReborrowShared
 pub mod Spelling

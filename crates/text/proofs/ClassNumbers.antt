@@ -3,7 +3,7 @@ use Prim.Native.Nat.{ℕ}
 use mathlib.Core.Path.{◌≡◌}
 use mathlib.Core.Bool.{Bool, true, false, cond}
 use borrow.Author.Tests.{eq-eqb, le-leb, lt-leb, ne_eqb}
-use Rattle.lending.specs.Conditions.{met}
+use Rattle.buffer.specs.Conditions.{met}
 use Rattle.text.specs.Class.{Class, number}
 
 pub number_on_true : (b : Bool) (x y : Class) (z : ℕ) → b ≡ true → z ≡ number x → z ≡ number (cond b x y)

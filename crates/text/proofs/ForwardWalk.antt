@@ -31,7 +31,7 @@ use Rattle.text.specs.Utf8.{Scalar, ascii, decode}
 use Rattle.text.specs.Utf8.Valid.{Valid}
 use Rattle.text.specs.Width.{width_of}
 use Rattle.text.specs.Segmentation.Boundaries.{alone_numbers, apart, breaks, lone, lone_low, other_alone}
-use Rattle.lending.specs.Conditions.{met, on_false, on_true}
+use Rattle.buffer.specs.Conditions.{met, on_false, on_true}
 use Rattle.text.proofs.PackedScalars.{first_packed, printable_one}
 use Rattle.text.proofs.SequenceBytes.{run_good, run_size, scalar_at}
 use Rattle.text.specs.declared.segmentation.ClusterStep.{ClusterStep}

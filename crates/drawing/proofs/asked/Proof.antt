@@ -1,5 +1,5 @@
 use Rattle.drawing.proofs.DrawCalls.{start_fits, rows_yes, rows_no}
-use Rattle.lending.specs.Conditions.{branch}
+use Rattle.buffer.specs.Conditions.{branch}
 use Rattle.drawing.specs.Requests.{asked_of}
 use borrow.Author.Rules.{rules}
 use Rattle.drawing.proofs.asked.Statement.{statement}

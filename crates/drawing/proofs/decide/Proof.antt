@@ -1,4 +1,4 @@
-use Rattle.lending.specs.Conditions.{branch}
+use Rattle.buffer.specs.Conditions.{branch}
 use Rattle.drawing.specs.Requests.{decided}
 use Rattle.drawing.proofs.decide.Statement.{statement}
 use Rattle.drawing.proofs.decide.Tie as tie

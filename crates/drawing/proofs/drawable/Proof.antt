@@ -1,4 +1,4 @@
-use Rattle.lending.specs.Conditions.{branch}
+use Rattle.buffer.specs.Conditions.{branch}
 use Rattle.drawing.specs.Requests.{drawable_of}
 use borrow.Author.Rules.{rules}
 use Rattle.drawing.proofs.drawable.Statement.{statement}

@@ -1,4 +1,4 @@
-use Rattle.lending.specs.Conditions.{branch}
+use Rattle.buffer.specs.Conditions.{branch}
 use Rattle.drawing.specs.Requests.{rendering_of}
 use borrow.Author.Rules.{rules}
 use Rattle.drawing.proofs.rendering.Statement.{statement}

@@ -1,4 +1,4 @@
-use Rattle.lending.specs.Conditions.{branch}
+use Rattle.buffer.specs.Conditions.{branch}
 use Rattle.drawing.proofs.row_bound.Statement.{statement}
 use Rattle.drawing.proofs.row_bound.Tie as tie
 

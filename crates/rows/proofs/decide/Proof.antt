@@ -1,5 +1,5 @@
 use borrow.Author.Rules.{rules}
-use Rattle.lending.specs.Conditions.{branch}
+use Rattle.buffer.specs.Conditions.{branch}
 use Rattle.rows.specs.Calls.Contracts.{decided}
 use Rattle.rows.proofs.decide.Statement.{statement}
 use Rattle.rows.proofs.decide.Tie as tie

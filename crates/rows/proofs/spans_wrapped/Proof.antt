@@ -1,4 +1,4 @@
-use Rattle.lending.specs.Conditions.{branch}
+use Rattle.buffer.specs.Conditions.{branch}
 use Rattle.rows.specs.Calls.Contracts.{spans_wrapped}
 use Rattle.rows.proofs.spans_wrapped.Statement.{statement}
 use Rattle.rows.proofs.spans_wrapped.Tie as tie

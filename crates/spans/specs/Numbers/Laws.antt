@@ -5,7 +5,7 @@ use Rattle.std.proofs.Math.Seq.{take-append_seam}
 use Rattle.buffer.specs.Numbers.Laws.{smaller_left, smaller_right}
 use Rattle.buffer.specs.Sink.{Sink, sink, put, emit, written_or_zero, written}
 use Rattle.buffer.specs.Sink.Laws.{emit_none, emit_append, emit_room}
-use Rattle.lending.specs.ElementsAsNumbers.{Numbering}
+use Rattle.buffer.specs.Numbering.{Numbering}
 use Rattle.text.specs.declared.Answer.{Answer}
 use Rattle.spans.specs.Spans.{Record}
 use Rattle.spans.specs.Calls.{Read, no_record}

@@ -2,7 +2,7 @@
 use Rattle.std.specs.Prelude.{◌≡◌, ℕ, zero, suc, ◌+◌, ◌-◌, ◌*◌, ◌%◌, ◌<◌, ◌≤◌, Bool, true, false, cond, ◌&&◌, ◌||◌, leb, List, [], ◌∷◌, length, take, ◌==◌, ◌≢◌, nat_le, slice_index, refl}
 use Rattle.std.proofs.Common.{sym, ap, ◌∙◌, arith, take_all, eq-eqb, ne_eqb, lt-ltb, le-ltb, le-leb}
 use Rattle.std.proofs.lemmas.Bool.{lt-leb}
-use Rattle.lending.specs.Conditions.{on_true, on_false}
+use Rattle.buffer.specs.Conditions.{on_true, on_false}
 use Rattle.buffer.specs.Numbers.{smaller_of}
 use Rattle.buffer.specs.Numbers.Parts.{take_smaller}
 use Rattle.unicode_io.specs.Names.{name_number}

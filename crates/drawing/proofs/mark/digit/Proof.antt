@@ -1,4 +1,4 @@
-use Rattle.lending.specs.Conditions.{branch}
+use Rattle.buffer.specs.Conditions.{branch}
 use borrow.Author.Rules.{rules}
 use Rattle.drawing.proofs.mark.digit.Statement.{statement}
 use Rattle.drawing.proofs.mark.digit.Tie as tie

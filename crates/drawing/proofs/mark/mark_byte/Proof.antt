@@ -1,5 +1,5 @@
 use Rattle.drawing.proofs.Marks.{mark_digit}
-use Rattle.lending.specs.Conditions.{branch}
+use Rattle.buffer.specs.Conditions.{branch}
 use borrow.Author.Rules.{rules}
 use Rattle.drawing.proofs.mark.mark_byte.Statement.{statement}
 use Rattle.drawing.proofs.mark.mark_byte.Tie as tie

@@ -1,4 +1,4 @@
-use Rattle.lending.specs.Conditions.{branch}
+use Rattle.buffer.specs.Conditions.{branch}
 use Rattle.drawing.proofs.render.text_style.Statement.{statement}
 use Rattle.drawing.proofs.render.text_style.Tie as tie
 

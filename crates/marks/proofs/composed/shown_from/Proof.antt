@@ -1,4 +1,4 @@
-use Rattle.lending.specs.Conditions.{branch}
+use Rattle.buffer.specs.Conditions.{branch}
 use Rattle.marks.specs.Composed.{shown_from}
 use Rattle.std.proofs.Common.{rules}
 use Rattle.marks.proofs.composed.shown_from.Statement.{statement}

@@ -1,4 +1,4 @@
-use Rattle.lending.specs.Conditions.{branch}
+use Rattle.buffer.specs.Conditions.{branch}
 use Rattle.marks.specs.Composed.{continuation_of}
 use Rattle.std.proofs.Common.{rules}
 use Rattle.marks.proofs.drawn.continuation.Statement.{statement}

@@ -1,4 +1,4 @@
-use Rattle.lending.specs.Conditions.{branch}
+use Rattle.buffer.specs.Conditions.{branch}
 use Rattle.rows.specs.Marks.{mark_columns}
 use Rattle.rows.proofs.marks.mark_columns.Statement.{statement}
 use Rattle.rows.proofs.marks.mark_columns.Tie as tie

@@ -1,5 +1,5 @@
 use borrow.Author.Rules.{rules}
-use Rattle.lending.specs.Conditions.{branch}
+use Rattle.buffer.specs.Conditions.{branch}
 use Rattle.rows.specs.Widths.{decided}
 use Rattle.rows.proofs.widths.decide.Statement.{statement}
 use Rattle.rows.proofs.widths.decide.Tie as tie

@@ -1,4 +1,4 @@
-use Rattle.lending.specs.Conditions.{branch}
+use Rattle.buffer.specs.Conditions.{branch}
 use Rattle.rows.specs.Widths.{width_tried}
 use Rattle.rows.proofs.TriedWidths.{next_few, left_some}
 use Rattle.rows.proofs.widths.width_tried.Statement.{statement}

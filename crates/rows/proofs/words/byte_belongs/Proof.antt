@@ -1,4 +1,4 @@
-use Rattle.lending.specs.Conditions.{branch}
+use Rattle.buffer.specs.Conditions.{branch}
 use Rattle.rows.proofs.words.byte_belongs.Statement.{statement}
 use Rattle.rows.proofs.words.byte_belongs.Tie as tie
 

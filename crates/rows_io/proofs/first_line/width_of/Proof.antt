@@ -1,4 +1,4 @@
-use Rattle.lending.specs.Conditions.{branch}
+use Rattle.buffer.specs.Conditions.{branch}
 use Rattle.rows_io.proofs.first_line.width_of.Statement.{statement}
 use Rattle.rows_io.proofs.first_line.width_of.Tie as tie
 

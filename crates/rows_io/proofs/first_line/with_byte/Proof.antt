@@ -1,4 +1,4 @@
-use Rattle.lending.specs.Conditions.{branch, met}
+use Rattle.buffer.specs.Conditions.{branch, met}
 use Rattle.rows_io.specs.FirstLine.{with_byte}
 use borrow.Author.Rules.{rules}
 use Rattle.rows_io.proofs.first_line.with_byte.Statement.{statement}

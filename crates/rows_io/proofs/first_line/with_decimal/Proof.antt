@@ -1,4 +1,4 @@
-use Rattle.lending.specs.Conditions.{branch}
+use Rattle.buffer.specs.Conditions.{branch}
 use Rattle.rows_io.proofs.Reading.{digit_low}
 use borrow.Author.Rules.{rules}
 use Rattle.rows_io.proofs.first_line.with_decimal.Statement.{statement}

@@ -1,4 +1,4 @@
-use Rattle.lending.specs.Conditions.{branch}
+use Rattle.buffer.specs.Conditions.{branch}
 use borrow.Author.Rules.{rules}
 use Rattle.screen.proofs.screen.cursor.Statement.{statement}
 use Rattle.screen.proofs.screen.cursor.Tie as tie

@@ -1,4 +1,4 @@
-use Rattle.lending.specs.Conditions.{branch}
+use Rattle.buffer.specs.Conditions.{branch}
 use borrow.Author.Rules.{rules}
 use Rattle.show_io.proofs.input.next_number.Statement.{statement}
 use Rattle.show_io.proofs.input.next_number.Tie as tie

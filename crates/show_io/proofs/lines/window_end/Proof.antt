@@ -1,4 +1,4 @@
-use Rattle.lending.specs.Conditions.{branch}
+use Rattle.buffer.specs.Conditions.{branch}
 use borrow.Author.Rules.{rules}
 use Rattle.show_io.proofs.lines.window_end.Statement.{statement}
 use Rattle.show_io.proofs.lines.window_end.Tie as tie

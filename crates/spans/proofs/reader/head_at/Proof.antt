@@ -1,5 +1,5 @@
 use Rattle.spans.proofs.ClusterBytes.{head_of, head_is, head_one}
-use Rattle.lending.specs.Conditions.{branch}
+use Rattle.buffer.specs.Conditions.{branch}
 use borrow.Author.Rules.{rules}
 use Rattle.spans.proofs.reader.head_at.Statement.{statement}
 use Rattle.spans.proofs.reader.head_at.Tie as tie

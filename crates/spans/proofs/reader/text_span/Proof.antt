@@ -1,5 +1,5 @@
 use Rattle.spans.specs.Reader.{text_record}
-use Rattle.lending.specs.Conditions.{branch}
+use Rattle.buffer.specs.Conditions.{branch}
 use borrow.Author.Rules.{rules}
 use Rattle.spans.proofs.reader.text_span.Statement.{statement}
 use Rattle.spans.proofs.reader.text_span.Tie as tie

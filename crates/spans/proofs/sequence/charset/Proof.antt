@@ -1,7 +1,7 @@
 use Rattle.spans.specs.Sequence.Contracts.{sequence_of}
 use Rattle.spans.specs.Sequence.{charset}
 use Rattle.spans.proofs.Sequences.{telling}
-use Rattle.lending.specs.Conditions.{branch}
+use Rattle.buffer.specs.Conditions.{branch}
 use Rattle.spans.proofs.sequence.charset.Statement.{statement}
 use Rattle.spans.proofs.sequence.charset.Tie as tie
 

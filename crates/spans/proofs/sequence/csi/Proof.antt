@@ -1,6 +1,6 @@
 use Rattle.spans.specs.Sequence.Contracts.{sequence_of}
 use Rattle.spans.proofs.Sequences.{telling, csi_of, csi_is, erase_as}
-use Rattle.lending.specs.Conditions.{branch}
+use Rattle.buffer.specs.Conditions.{branch}
 use borrow.Author.Rules.{rules}
 use Rattle.spans.proofs.sequence.csi.Statement.{statement}
 use Rattle.spans.proofs.sequence.csi.Tie as tie

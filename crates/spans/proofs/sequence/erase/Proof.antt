@@ -1,7 +1,7 @@
 use Rattle.spans.specs.Sequence.Contracts.{sequence_of}
 use Rattle.spans.specs.Sequence.{erase}
 use Rattle.spans.proofs.Sequences.{telling}
-use Rattle.lending.specs.Conditions.{branch}
+use Rattle.buffer.specs.Conditions.{branch}
 use borrow.Author.Rules.{rules}
 use Rattle.spans.proofs.sequence.erase.Statement.{statement}
 use Rattle.spans.proofs.sequence.erase.Tie as tie

@@ -1,6 +1,6 @@
 use Rattle.spans.specs.Sequence.Contracts.{sequence_of}
 use Rattle.spans.proofs.Sequences.{telling, osc_of, osc_is}
-use Rattle.lending.specs.Conditions.{branch}
+use Rattle.buffer.specs.Conditions.{branch}
 use borrow.Author.Rules.{rules}
 use Rattle.spans.proofs.sequence.osc.Statement.{statement}
 use Rattle.spans.proofs.sequence.osc.Tie as tie

@@ -1,7 +1,7 @@
 use Rattle.spans.specs.Sequence.Contracts.{sequence_of}
 use Rattle.spans.specs.Sequence.{parse}
 use Rattle.spans.proofs.Sequences.{telling, parse_none, csi_rest, osc_rest, charset_rest}
-use Rattle.lending.specs.Conditions.{branch}
+use Rattle.buffer.specs.Conditions.{branch}
 use borrow.Author.Rules.{rules}
 use Rattle.spans.proofs.sequence.parse.Statement.{statement}
 use Rattle.spans.proofs.sequence.parse.Tie as tie

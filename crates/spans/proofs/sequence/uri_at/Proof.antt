@@ -1,7 +1,7 @@
 use Rattle.spans.specs.Sequence.Contracts.{sequence_of}
 use Rattle.spans.specs.Sequence.{closed}
 use Rattle.spans.proofs.Sequences.{telling, uri_is, uri_bell}
-use Rattle.lending.specs.Conditions.{branch}
+use Rattle.buffer.specs.Conditions.{branch}
 use borrow.Author.Rules.{rules}
 use Rattle.spans.proofs.sequence.uri_at.Statement.{statement}
 use Rattle.spans.proofs.sequence.uri_at.Tie as tie

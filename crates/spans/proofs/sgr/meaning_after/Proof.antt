@@ -1,6 +1,6 @@
 use Rattle.spans.proofs.KnownParameters.{on_wait}
 use Rattle.spans.specs.Sgr.{meaning_after}
-use Rattle.lending.specs.Conditions.{branch}
+use Rattle.buffer.specs.Conditions.{branch}
 use borrow.Author.Rules.{rules}
 use Rattle.spans.proofs.sgr.meaning_after.Statement.{statement}
 use Rattle.spans.proofs.sgr.meaning_after.Tie as tie

@@ -1,4 +1,4 @@
-use Rattle.lending.specs.Conditions.{branch}
+use Rattle.buffer.specs.Conditions.{branch}
 use borrow.Author.Rules.{rules}
 use Rattle.spans.proofs.sgr.past_separator.Statement.{statement}
 use Rattle.spans.proofs.sgr.past_separator.Tie as tie

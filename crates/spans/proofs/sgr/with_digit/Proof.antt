@@ -1,5 +1,5 @@
 use Rattle.spans.specs.Sgr.Contracts.{more}
-use Rattle.lending.specs.Conditions.{branch}
+use Rattle.buffer.specs.Conditions.{branch}
 use borrow.Author.Rules.{rules}
 use Rattle.spans.proofs.sgr.with_digit.Statement.{statement}
 use Rattle.spans.proofs.sgr.with_digit.Tie as tie

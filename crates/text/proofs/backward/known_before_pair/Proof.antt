@@ -1,5 +1,5 @@
 use borrow.Author.Rules.{rules}
-use Rattle.lending.specs.Conditions.{branch}
+use Rattle.buffer.specs.Conditions.{branch}
 use Rattle.text.proofs.backward.known_before_pair.Statement.{statement}
 use Rattle.text.proofs.backward.known_before_pair.Tie as tie
 

@@ -1,4 +1,4 @@
-use Rattle.lending.specs.Conditions.{branch}
+use Rattle.buffer.specs.Conditions.{branch}
 use Rattle.text.proofs.rules.state_after.Statement.{statement}
 use Rattle.text.proofs.rules.state_after.Tie as tie
 

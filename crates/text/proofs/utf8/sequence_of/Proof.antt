@@ -1,4 +1,4 @@
-use Rattle.lending.specs.Conditions.{branch}
+use Rattle.buffer.specs.Conditions.{branch}
 use Rattle.text.proofs.utf8.sequence_of.Statement.{statement}
 use Rattle.text.proofs.utf8.sequence_of.Tie as tie
 

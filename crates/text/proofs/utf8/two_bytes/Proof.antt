@@ -1,4 +1,4 @@
-use Rattle.lending.specs.Conditions.{branch}
+use Rattle.buffer.specs.Conditions.{branch}
 use borrow.Author.Rules.{rules}
 use Rattle.text.proofs.utf8.two_bytes.Statement.{statement}
 use Rattle.text.proofs.utf8.two_bytes.Tie as tie

@@ -2,7 +2,7 @@ use borrow.Author.Rules.{rules}
 use Rattle.text.specs.Class.Code.{profile_of}
 use Rattle.text.specs.Utf8.{fits}
 use Rattle.text.specs.Width.{width01}
-use Rattle.lending.specs.Conditions.{branch}
+use Rattle.buffer.specs.Conditions.{branch}
 use Rattle.text.specs.Tests.{in_range_law}
 use Rattle.text.proofs.width.width.Statement.{statement}
 use Rattle.text.proofs.width.width.Tie as tie

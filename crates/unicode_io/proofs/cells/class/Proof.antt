@@ -1,4 +1,4 @@
-use Rattle.lending.specs.Conditions.{branch}
+use Rattle.buffer.specs.Conditions.{branch}
 use Rattle.unicode_io.specs.Cells.{class_of}
 use Rattle.std.proofs.Common.{rules}
 use Rattle.unicode_io.proofs.cells.class.Statement.{statement}

@@ -1,4 +1,4 @@
-use Rattle.lending.specs.Conditions.{branch}
+use Rattle.buffer.specs.Conditions.{branch}
 use Rattle.std.proofs.Common.{rules}
 use Rattle.unicode_io.proofs.line.hex_value.Statement.{statement}
 use Rattle.unicode_io.proofs.line.hex_value.Tie as tie

@@ -1,4 +1,4 @@
-use Rattle.lending.specs.Conditions.{branch}
+use Rattle.buffer.specs.Conditions.{branch}
 use Rattle.unicode_io.proofs.line.kind.Statement.{statement}
 use Rattle.unicode_io.proofs.line.kind.Tie as tie
 

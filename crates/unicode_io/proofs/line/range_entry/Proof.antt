@@ -1,4 +1,4 @@
-use Rattle.lending.specs.Conditions.{branch}
+use Rattle.buffer.specs.Conditions.{branch}
 use Rattle.unicode_io.specs.Line.{ranged}
 use Rattle.std.proofs.Common.{rules}
 use Rattle.unicode_io.proofs.line.range_entry.Statement.{statement}

@@ -1,5 +1,5 @@
 use Rattle.unicode_io.specs.Line.Laws.{byte_low, byte_high, byte_name, byte_other}
-use Rattle.lending.specs.Conditions.{branch}
+use Rattle.buffer.specs.Conditions.{branch}
 use Rattle.unicode_io.specs.Line.{with_byte}
 use Rattle.std.proofs.Common.{rules}
 use Rattle.unicode_io.proofs.line.with_byte.Statement.{statement}

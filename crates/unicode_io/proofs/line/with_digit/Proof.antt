@@ -1,5 +1,5 @@
 use Rattle.std.proofs.Common.{arith, rules}
-use Rattle.lending.specs.Conditions.{branch}
+use Rattle.buffer.specs.Conditions.{branch}
 use Rattle.unicode_io.specs.Line.Laws.{digit_more, hex_small}
 use Rattle.unicode_io.proofs.line.with_digit.Statement.{statement}
 use Rattle.unicode_io.proofs.line.with_digit.Tie as tie

@@ -1,4 +1,4 @@
-use Rattle.lending.specs.Conditions.{branch}
+use Rattle.buffer.specs.Conditions.{branch}
 use Rattle.std.proofs.Common.{rules}
 use Rattle.unicode_io.proofs.line.with_name.Statement.{statement}
 use Rattle.unicode_io.proofs.line.with_name.Tie as tie

@@ -1,4 +1,4 @@
-use Rattle.lending.specs.Conditions.{branch}
+use Rattle.buffer.specs.Conditions.{branch}
 use Rattle.unicode_io.proofs.names.property.Statement.{statement}
 use Rattle.unicode_io.proofs.names.property.Tie as tie
 

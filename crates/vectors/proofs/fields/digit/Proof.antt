@@ -1,4 +1,4 @@
-use Rattle.lending.specs.Conditions.{branch}
+use Rattle.buffer.specs.Conditions.{branch}
 use Rattle.vectors.proofs.FieldText.{digit_low, letter_low}
 use Rattle.vectors.specs.Fields.{digit_of}
 use borrow.Author.Rules.{rules}

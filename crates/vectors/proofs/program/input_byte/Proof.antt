@@ -1,4 +1,4 @@
-use Rattle.lending.specs.Conditions.{branch}
+use Rattle.buffer.specs.Conditions.{branch}
 use Rattle.vectors.specs.Program.{input_at}
 use borrow.Author.Rules.{rules}
 use Rattle.vectors.proofs.program.input_byte.Statement.{statement}
