@@ -11,7 +11,7 @@ use rows::Request;
 use text::Answer;
 
 // A head: the key of a wrap, the number of its rows and its block.
-#[derive(Drop)]
+#[derive(Clone, Copy)]
 pub(crate) struct Head {
     pub(crate) version: usize,
     pub(crate) width: usize,

@@ -22,7 +22,7 @@ use text::{BytePlace, Column};
 
 // What is drawn: the window, the current match, the length of the line in the buffer that holds it; whether an arrow stands at the left
 // edge, whether the window is that of wrapped rows, whether the line leaves room in them, and whether the crew reads it.
-#[derive(Drop)]
+#[derive(Clone, Copy)]
 pub struct Rendering {
     pub window: Window,
     pub current: usize,

@@ -23,7 +23,7 @@ pub mod wrap;
 
 // What a call asks: the width, the mode, whether the rows are to be listed, and how many they are where that is known, else 0. A line whose
 // rows are known is not wrapped, and they are left out of the list.
-#[derive(Drop)]
+#[derive(Clone, Copy)]
 pub struct Request {
     pub width: usize,
     pub mode: usize,
@@ -32,7 +32,7 @@ pub struct Request {
 }
 
 // An answer, and how much is kept: of the converted line and the spans, and of the row list's numbers.
-#[derive(Drop)]
+#[derive(Clone, Copy)]
 pub struct Outcome {
     pub number: usize,
     pub count: usize,
@@ -43,7 +43,7 @@ pub struct Outcome {
 // What `narrowest` returns: 0, the width found or 0 for none, and how many widths were tried; or the number of the question that refuses it,
 // 0 and 0.
 #[repr(C)]
-#[derive(Drop)]
+#[derive(Clone, Copy)]
 pub struct WidthAnswer {
     pub number: usize,
     pub count: usize,

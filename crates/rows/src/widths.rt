@@ -9,7 +9,7 @@ use spans::Span;
 use text::Column;
 
 // How to wrap, how many rows are wanted, and the greatest width to try.
-#[derive(Drop)]
+#[derive(Clone, Copy)]
 pub struct WidthRequest {
     pub wrapping: Wrapping,
     pub wanted: usize,
@@ -17,7 +17,7 @@ pub struct WidthRequest {
 }
 
 // The number of a call, how much it keeps of the converted line and the spans, and what it asks of widths.
-#[derive(Drop)]
+#[derive(Clone, Copy)]
 pub struct WidthPlan {
     pub number: usize,
     pub kept: usize,
@@ -25,7 +25,7 @@ pub struct WidthPlan {
 }
 
 // How many widths are left to try, how many were tried, and the one found, or 0.
-#[derive(Drop)]
+#[derive(Clone, Copy)]
 pub struct Widths {
     pub left: usize,
     pub tried: usize,

@@ -17,7 +17,7 @@ use text::segmentation::next_cluster;
 use text::{BytePlace, Column, TextPart};
 
 // What is kept of the rows pushed: their number, the start of the row `first`, the end of the row `last`, the end of the row pushed last.
-#[derive(Drop)]
+#[derive(Clone, Copy)]
 pub struct RowCounts {
     pub count: usize,
     pub first: usize,
@@ -28,7 +28,7 @@ pub struct RowCounts {
 }
 
 // Where the present row starts, and the position.
-#[derive(Drop)]
+#[derive(Clone, Copy)]
 pub struct WrapState {
     pub start: Column,
     pub position: Column,
@@ -37,7 +37,7 @@ pub struct WrapState {
 
 // How to wrap: the text profile, the width, the mode (0 Unwrapped, 1 and 3 GraphemeBoundary, 2 and 4 WordBoundary; 3 and 4 count the columns
 // drawn), and the length of the line in the buffer that holds it.
-#[derive(Drop)]
+#[derive(Clone, Copy)]
 pub struct Wrapping {
     pub profile: Profile,
     pub width: Column,

@@ -4,7 +4,7 @@ ghost use Rattle.rows_io.specs.FirstLine.{digit, more, empty, with_digit, with_b
 
 // What was read of it: in the width (stage 0), in the mode (1) or in a line of another form (2), whether the number there has a digit,
 // and whether the newline was read.
-#[derive(Drop)]
+#[derive(Clone, Copy)]
 pub struct FirstLine {
     pub(crate) stage: usize,
     pub(crate) digits: bool,
@@ -14,7 +14,7 @@ pub struct FirstLine {
 }
 
 // The first line so far, and the place behind it.
-#[derive(Drop)]
+#[derive(Clone, Copy)]
 pub struct Part {
     pub first: FirstLine,
     pub at: usize,

@@ -6,7 +6,7 @@ use super::first_line::{FirstLine, nothing, read_part};
 use buffer::smaller;
 
 // The first line, how many bytes of the line were read, and whether more are wanted.
-#[derive(Drop)]
+#[derive(Clone, Copy)]
 pub struct Input {
     pub(crate) first: FirstLine,
     pub(crate) count: usize,

@@ -5,7 +5,7 @@ use libc::STDIN_FILENO;
 use rows_io::input::{Input, begin, with_part};
 
 // What was read, and whether the input has ended.
-#[derive(Drop)]
+#[derive(Clone, Copy)]
 struct Reading {
     input: Input,
     ended: bool,

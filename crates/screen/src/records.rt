@@ -6,7 +6,7 @@ ghost use Rattle.screen.specs.Records.Contracts.{HeadReady, head_at};
 use buffer::byte_at;
 
 // A record's kind, the place and the length of its body, and whether head and body lie within the list.
-#[derive(Drop)]
+#[derive(Clone, Copy)]
 pub struct Head {
     pub kind: usize,
     pub start: usize,

@@ -22,7 +22,7 @@ pub(crate) const PASSED: usize = 11;
 
 // The column behind the last write, which is the row's width while the flag is pending; the place of the attribute body written from now on,
 // 0 for default; the column from which on the row is blank, and the place of the background there, 0 for default; the refusal so far.
-#[derive(Drop)]
+#[derive(Clone, Copy)]
 pub struct Screen {
     pub at: usize,
     pub attributes: usize,

@@ -5,7 +5,7 @@ ghost use Rattle.show.specs.Arguments.{in_range, ArgumentRead, ArgumentsRead};
 use rows_io::first_line::{FirstLine, in_form, nothing, read_part};
 use show_io::lines::View;
 
-#[derive(Drop)]
+#[derive(Clone, Copy)]
 pub(crate) struct Arguments {
     pub(crate) ok: bool,
     pub(crate) view: View,

@@ -7,7 +7,7 @@ use show_io::input::{Reading, with_last, with_part};
 use show_io::lines::View;
 
 // What was read, and whether to go on: the input has not ended, and what is printed can be written.
-#[derive(Drop)]
+#[derive(Clone, Copy)]
 struct Reach {
     reading: Reading,
     on: bool,

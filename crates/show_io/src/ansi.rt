@@ -11,7 +11,7 @@ use screen::BODY_SIZE;
 use screen::records::read_length;
 
 // A cell's places in a row: where its cluster and its body begin, and where it ends.
-#[derive(Drop)]
+#[derive(Clone, Copy)]
 struct Places {
     cluster: usize,
     body: usize,

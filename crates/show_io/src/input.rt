@@ -14,7 +14,7 @@ const ENOUGH: usize = 65536;
 const MOST: usize = 524288;
 
 // How many lines were read, how many bytes of the next one, and how many bytes were printed.
-#[derive(Drop)]
+#[derive(Clone, Copy)]
 pub struct Reading {
     pub number: usize,
     pub kept: usize,
@@ -22,7 +22,7 @@ pub struct Reading {
 }
 
 // What was read of a part, and the place that was reached in it.
-#[derive(Drop)]
+#[derive(Clone, Copy)]
 pub struct Progress {
     pub reading: Reading,
     pub place: usize,

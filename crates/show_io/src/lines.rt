@@ -23,7 +23,7 @@ use text::Answer;
 
 // What is drawn of a line: in mode 0 the window of `width` columns from column `start` on, in modes 1 to 4 its rows at that width; in mode 5
 // its spans, without regard to start and width.
-#[derive(Drop)]
+#[derive(Clone, Copy)]
 pub struct View {
     pub mode: usize,
     pub start: usize,
@@ -31,7 +31,7 @@ pub struct View {
 }
 
 // A refusal's number, 0 for none, and the count behind what was printed.
-#[derive(Drop)]
+#[derive(Clone, Copy)]
 struct RowPrinted {
     number: usize,
     at: usize,

@@ -21,7 +21,7 @@ pub mod sgr;
 // A record of the span list: the span's kind, 1 to 13 in the order of the source's Span; the byte place and the length, in the converted
 // line, of the bytes it was read from; and the match number, 0 where the kind isn't Match.
 #[repr(C)]
-#[derive(Drop)]
+#[derive(Clone, Copy)]
 pub struct Span {
     pub kind: usize,
     pub place: BytePlace,
@@ -31,7 +31,7 @@ pub struct Span {
 
 // A reading of a line: the number of its refusal or 0, the length of the converted line, how many places of the span list are to be
 // filled, none where the call is refused or behind the last span, and where the reading stands.
-#[derive(Drop)]
+#[derive(Clone, Copy)]
 pub struct Reading {
     pub number: usize,
     pub len: usize,
@@ -40,7 +40,7 @@ pub struct Reading {
 }
 
 // A record of the span list, and the reading behind it.
-#[derive(Drop)]
+#[derive(Clone, Copy)]
 pub struct NextReading {
     pub span: Span,
     pub reading: Reading,

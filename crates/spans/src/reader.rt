@@ -17,14 +17,14 @@ use text::segmentation::{cluster_end, next_cluster};
 use text::utf8::run_end;
 
 // What a cluster that is no part of a text is: a kind of span, and its length.
-#[derive(Drop)]
+#[derive(Clone, Copy)]
 pub struct SpanHead {
     pub kind: usize,
     pub len: usize,
 }
 
 // Where a reading stands: a place, and the end of the run that it lies in, where that is known; else nothing beyond the place.
-#[derive(Drop)]
+#[derive(Clone, Copy)]
 pub struct Place {
     pub at: usize,
     pub run: usize,
@@ -32,14 +32,14 @@ pub struct Place {
 
 // The kind of a segment's texts, 1 Text or 2 Match, and the number of the match that it is or that follows it. (A flag of one byte
 // would leave bytes unused, and the copies of these make every step slower.)
-#[derive(Drop)]
+#[derive(Clone, Copy)]
 pub struct Matched {
     pub kind: usize,
     pub number: usize,
 }
 
 // A span, and where the reading stands behind it.
-#[derive(Drop)]
+#[derive(Clone, Copy)]
 pub struct NextSpan {
     pub span: Span,
     pub place: Place,

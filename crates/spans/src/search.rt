@@ -7,7 +7,7 @@ ghost use Rattle.spans.specs.Search.Contracts.{EscapeMatched, EscapeMatchReady, 
 use buffer::byte_at;
 
 // A match of ESCAPE_SEQUENCE, or none: zeros.
-#[derive(Drop)]
+#[derive(Clone, Copy)]
 pub struct Escape {
     pub from: usize,
     pub upto: usize,
@@ -15,7 +15,7 @@ pub struct Escape {
 }
 
 // convert_offset between two matches: original_offset, how much of the text searched lies before it, and the next ESCAPE_SEQUENCE match.
-#[derive(Drop)]
+#[derive(Clone, Copy)]
 pub struct Offsets {
     pub origin: usize,
     pub passed: usize,
@@ -23,7 +23,7 @@ pub struct Offsets {
 }
 
 // An offset into the line, and the conversion behind it.
-#[derive(Drop)]
+#[derive(Clone, Copy)]
 pub struct Offset {
     pub value: usize,
     pub offsets: Offsets,

@@ -12,7 +12,7 @@ use text::class::Profile;
 
 // Where a reading of a line stands: a place in a segment, the segment's end, the match that it is or that follows it, the next number
 // of the match ranges, and the conversion of offsets. `count` spans stand before it.
-#[derive(Drop)]
+#[derive(Clone, Copy)]
 pub struct Cursor {
     pub place: Place,
     pub end: usize,
@@ -23,7 +23,7 @@ pub struct Cursor {
 }
 
 // A record of the span list, and where the reading stands behind it.
-#[derive(Drop)]
+#[derive(Clone, Copy)]
 pub struct NextRecord {
     pub span: Span,
     pub cursor: Cursor,

@@ -9,7 +9,7 @@ use super::sgr::{NextOrder, Orders, next_order, scan_parameters};
 use buffer::byte_at;
 
 // What stands at an ESC: the sequence's length, the ESC counted; of a hyperlink first its URI's place from the ESC, and the URI's length.
-#[derive(Drop)]
+#[derive(Clone, Copy)]
 pub enum Sequence {
     Missing,
     Sgr(usize),

@@ -5,7 +5,7 @@ ghost use Rattle.spans.specs.Sgr.Contracts.{more, eights, Scanned, NextOrderAt};
 
 use buffer::byte_at;
 
-#[derive(Drop)]
+#[derive(Clone, Copy)]
 pub enum Color {
     Default,
     Palette(u8),
@@ -13,7 +13,7 @@ pub enum Color {
 }
 
 // What a parameter, or a group of them, says.
-#[derive(Drop)]
+#[derive(Clone, Copy)]
 pub enum Sgr {
     Reset,
     Intensity(u8),
@@ -31,7 +31,7 @@ pub enum Sgr {
 }
 
 // Which colour a group behind 38, 48 or 58 sets.
-#[derive(Drop)]
+#[derive(Clone, Copy)]
 pub enum Target {
     Foreground,
     Background,
@@ -39,7 +39,7 @@ pub enum Target {
 }
 
 // Where a reading stands: between orders, or inside a group with what was read of it.
-#[derive(Drop)]
+#[derive(Clone, Copy)]
 pub enum ColorState {
     Ready,
     WantKind(Target),
@@ -50,7 +50,7 @@ pub enum ColorState {
 }
 
 // What a parameter says after those before it: an order, a part of a group, or nothing known.
-#[derive(Drop)]
+#[derive(Clone, Copy)]
 pub enum Meaning {
     Order(Sgr),
     Group(ColorState),
@@ -58,21 +58,21 @@ pub enum Meaning {
 }
 
 // The length of a run of parameters, and whether there are at most 32, each at most 65,535.
-#[derive(Drop)]
+#[derive(Clone, Copy)]
 pub struct Scan {
     pub len: usize,
     pub fine: bool,
 }
 
 // Where a reading of orders stands: the next parameter's place, and whether there is one.
-#[derive(Drop)]
+#[derive(Clone, Copy)]
 pub struct Orders {
     pub at: usize,
     pub further: bool,
 }
 
 // The next order and where the reading stands after it, or none.
-#[derive(Drop)]
+#[derive(Clone, Copy)]
 pub enum NextOrder {
     Order(Sgr, Orders),
     End,

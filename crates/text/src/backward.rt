@@ -14,7 +14,7 @@ use super::utf8::{byte_at, decode, is_tail};
 
 // Where a text ends after an erasure, and its known place: one up to there at which the rules go on as at a text's start, whatever stands
 // before it. A look back stops there, so that erasures take no longer the longer the text is.
-#[derive(Drop)]
+#[derive(Clone, Copy)]
 pub struct Erasure {
     pub at: usize,
     pub known: usize,

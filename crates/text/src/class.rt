@@ -4,7 +4,7 @@ ghost use Rattle.text.specs.Class.{number, in_any, controls, extends, pictograph
 ghost use Rattle.text.specs.Class.Code.{jamo, printable, profile_of, syllable};
 
 // The version of the text profile that classes and widths are taken from: 0 is document 01's.
-#[derive(Drop)]
+#[derive(Clone, Copy)]
 pub struct Profile {
     pub version: u8,
 }

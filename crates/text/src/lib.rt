@@ -17,15 +17,15 @@ pub mod width;
 
 // A place in a line, counted in bytes.
 #[repr(C)]
-#[derive(Drop)]
+#[derive(Clone, Copy)]
 pub struct BytePlace(pub usize);
 
 // A column of the screen, counted in cells.
-#[derive(Drop)]
+#[derive(Clone, Copy)]
 pub struct Column(pub usize);
 
 // A part of a text from some place on: where it ends, and its width.
-#[derive(Drop)]
+#[derive(Clone, Copy)]
 pub struct TextPart {
     pub end: BytePlace,
     pub width: Column,
@@ -33,7 +33,7 @@ pub struct TextPart {
 
 // What a call returns: 0 and a count, or the number of the question that refuses it and 0.
 #[repr(C)]
-#[derive(Drop)]
+#[derive(Clone, Copy)]
 pub struct Answer {
     pub number: usize,
     pub count: usize,

@@ -12,14 +12,14 @@ use super::segmentation::cluster_end;
 use super::utf8::decode;
 
 // An overstrike style.
-#[derive(Drop)]
+#[derive(Clone, Copy)]
 pub struct Overstrike {
     pub bold: bool,
     pub underline: bool,
 }
 
 // convert_unicode_span's variables: the length of the result, prev_grapheme as a part of the line (pending: 0 none, 1 held, 2 struck), prev_overstrike and overstrike; a place of the result at which an even number of regional indicators ends.
-#[derive(Drop)]
+#[derive(Clone, Copy)]
 pub struct Conversion {
     pub len: usize,
     pub pending: u8,
@@ -355,7 +355,7 @@ fn finish(out: &mut [u8], line: &[u8], st: Conversion) -> usize
 }
 
 // A piece of a line read up to a place, and its conversion written up to a place.
-#[derive(Drop)]
+#[derive(Clone, Copy)]
 pub struct Progress {
     pub read: usize,
     pub written: usize,

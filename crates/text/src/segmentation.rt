@@ -12,7 +12,7 @@ use super::utf8::byte_at;
 use super::{BytePlace, Column, TextPart};
 
 // A cluster, and the scalar behind it, packed.
-#[derive(Drop)]
+#[derive(Clone, Copy)]
 pub struct ClusterStep {
     pub part: TextPart,
     pub next: usize,

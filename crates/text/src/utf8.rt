@@ -4,7 +4,7 @@ ghost use Rattle.text.specs.Utf8.{decode};
 ghost use Rattle.text.specs.Utf8.Code.{ascii_four, ascii_length, first_sequence, four_bytes, is_tail, run_of, sequence_for, size, three_bytes, two_bytes};
 
 // A well-formed sequence: its scalar and the number of its bytes. Where none begins the length is 0.
-#[derive(Drop)]
+#[derive(Clone, Copy)]
 pub struct Sequence {
     pub code: u32,
     pub len: usize,

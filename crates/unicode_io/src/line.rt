@@ -7,13 +7,13 @@ ghost use Rattle.unicode_io.specs.Line.{kind_of, next_stage, with_digit, is_scal
 use super::names::name_number;
 use buffer::{byte_at, smaller};
 
-#[derive(Drop)]
+#[derive(Clone, Copy)]
 pub struct Number {
     pub value: usize,
     pub digits: usize,
 }
 
-#[derive(Drop)]
+#[derive(Clone, Copy)]
 pub struct Line {
     pub stage: u8,
     pub comment: bool,
@@ -24,7 +24,7 @@ pub struct Line {
 }
 
 // What a line is: 0 nothing, 1 an entry, 2 a line of another form.
-#[derive(Drop)]
+#[derive(Clone, Copy)]
 pub struct Entry {
     pub kind: usize,
     pub low: usize,

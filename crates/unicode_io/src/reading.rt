@@ -10,7 +10,7 @@ use super::line::{Entry, Line, entry_of, nothing_read, with_byte};
 use super::names::{property, value};
 
 // The line so far, and what was found: a line of another form (13), two entries of one property that overlap (14).
-#[derive(Drop)]
+#[derive(Clone, Copy)]
 pub struct Reading {
     pub line: Line,
     pub malformed: bool,

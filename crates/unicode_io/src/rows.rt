@@ -3,7 +3,7 @@ ghost use Rattle.std.specs.Prelude.{◌≡◌, ◌+◌, length, drop};
 ghost use Rattle.unicode_io.specs.Rows.{leading, next_row, rows_from};
 
 // A row ends before `end`.
-#[derive(Drop)]
+#[derive(Clone, Copy)]
 pub struct Row {
     pub low: usize,
     pub end: usize,

@@ -5,7 +5,7 @@ ghost use Rattle.unicode_table.specs.Files.{PartRead, PartsRead, FileRead, AllRe
 use unicode_io::reading::{Reading, begin, end_file, read_part};
 
 // What was read, whether the file has more, and whether the system failed.
-#[derive(Drop)]
+#[derive(Clone, Copy)]
 pub(crate) struct Reach {
     pub(crate) reading: Reading,
     on: bool,

@@ -19,7 +19,7 @@ fn usage() {
 }
 
 // Whether the files could be read, and whether the system took all that was printed.
-#[derive(Drop)]
+#[derive(Clone, Copy)]
 struct Outcome {
     read: bool,
     taken: bool,

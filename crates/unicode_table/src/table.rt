@@ -9,7 +9,7 @@ use unicode_io::output::{push_refusal, push_row};
 use unicode_io::rows::{count_rows, next_row};
 
 // Where a row ends, and whether the system took its text.
-#[derive(Drop)]
+#[derive(Clone, Copy)]
 struct Turn {
     end: usize,
     taken: bool,

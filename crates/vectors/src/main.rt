@@ -16,7 +16,7 @@ use fields::field;
 use libc::{STDIN_FILENO, STDOUT_FILENO};
 
 // A line's length, and whether the input ended before its newline.
-#[derive(Drop)]
+#[derive(Clone, Copy)]
 struct Line {
     len: usize,
     ended: bool,

@@ -82,7 +82,7 @@ module _ (P : Profile) (width : ℕ) where
 
   pub text_damaged : (s : List ℕ) → run_of (decode s) ≡ [] → 0 < length s → (o : Option Screen) → text_on P width s o ≡ none
   unfolding text_on utf8 bytes_of
-  text_damaged s e h o = rw (e, ne_eqb 0 (length s) (λ z. omega (arith, z, h))) (formed_not _ o)
+  text_damaged s e h o = rw (e, ne_eqb 0 (length s) (λ z. omega (arith, z, h))) (formed_not (λ (t : Screen). on_clusters P width t (clusters P [])) o)
 
   -- ---- records
 
@@ -106,7 +106,7 @@ module _ (P : Profile) (width : ℕ) where
 
   pub record_cut : (r : Record) → r.whole ≡ false → (o : Option Screen) → record_on P width r o ≡ none
   unfolding record_on
-  record_cut r e o = rw e (formed_not _ o)
+  record_cut r e o = rw e (formed_not (λ (t : Screen). on_record P width t r) o)
 
   pub records_malformed : (rs : List Record) → records_on P width rs none ≡ none
   unfolding records_on formed
