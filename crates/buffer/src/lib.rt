@@ -1,4 +1,6 @@
 // Lent memory. A buffer is written from its front with a count that saturates one past the buffer's length.
+#![tactic(auto)]
+
 ghost use Rattle.std.specs.Prelude.{◌≡◌, ◌+◌, ◌-◌, ◌%◌, ◌≤◌, ◌++◌, length, take, drop, replicate, get_or};
 ghost use Rattle.buffer.specs.Sink.{sink, put, emit, Copied};
 ghost use Rattle.buffer.specs.Numbers.{smaller_of, le2, le4, hex_digit};

@@ -1,1 +1,2 @@
 // What a change of reader, and of a URI, leaves of a drawing.
+#![tactic(auto)]

@@ -1,5 +1,6 @@
 // Marks before and after: composed in memory and clipped there, and written straight into a change list. What differs is printed, and how
 // many were compared.
+#![tactic(auto)]
 mod alone;
 mod composed;
 mod drawn;

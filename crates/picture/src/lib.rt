@@ -1,1 +1,2 @@
 // Rows together show the line.
+#![tactic(auto)]

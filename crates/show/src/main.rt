@@ -3,6 +3,7 @@
 // show WIDTH MODE START [FILE ..]: each line of the files, or of standard input, wrapped at WIDTH columns (1 to 4,096) in MODE 1 to 4, all
 // its rows in turn; in MODE 0 the window of WIDTH columns from START (0 to 65,535); in MODE 5 its spans. A refused line prints its file,
 // number and refusal in its place.
+#![tactic(auto)]
 mod arguments;
 mod file;
 

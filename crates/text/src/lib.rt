@@ -1,4 +1,6 @@
 // Layer 1, text: UTF-8, classes, widths, clusters and overstrike conversion.
+#![tactic(auto)]
+
 ghost use Rattle.std.specs.Prelude.{◌≡◌, length};
 ghost use Rattle.text.specs.Width.{profile01};
 ghost use Rattle.text.specs.Calls.{convert_call, write_cells_call};

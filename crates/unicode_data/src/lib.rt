@@ -7,6 +7,7 @@
 //    Name the new modules below, in specs/Lib.antt and in proofs/Lib.antt.
 // 3. `rt fmt`, `rt check unicode`: the table ascends by one computed test. `tests/unicode-table VERSION FOLDER` reads the files once more, in another way.
 // Look at the rows that differ from the version before, and at what crates/text says of ranges of scalars. Table.antt, its laws and rows.rt stay.
+#![tactic(auto)]
 pub mod lookup_150;
 mod rows;
 mod table_150;

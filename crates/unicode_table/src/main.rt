@@ -2,6 +2,7 @@
 //
 // unicode_table GraphemeBreakProperty EastAsianWidth emoji-data [DerivedCoreProperties]: the rows of equal class, width and, with the fourth
 // file, conjunct value; `refused 13` where a line is of another form, `refused 14` where two ranges of one property overlap.
+#![tactic(auto)]
 mod files;
 mod table;
 

@@ -1,6 +1,7 @@
 // Answers recorded cases, one a line of standard input, and prints each with its answer: oracle/README.md has the form of a line. What
 // is printed is compared with the recorded answers of the Rust source and of the models of calls that it has not, published vectors and the rows
 // program's stated answers.
+#![tactic(auto)]
 mod cached;
 mod fields;
 mod models;
