@@ -11,7 +11,7 @@ use lib.ListN.{drop, drop_of_length-le, get_or, length, replicate, set, take}
 use lib.Seq.{drop-cons, length-take-le, take_all, take-suc, take-suc-set}
 use borrow.Author.Tests.{le-leb, lt-leb}
 use Rattle.text.specs.Calls.{Converted, convert_call, counted, decide, lent}
-use Rattle.text.specs.Class.{Profile, number}
+use Rattle.text.specs.Class.{Profile}
 use Rattle.text.specs.Calls.Code.{converted, refusal}
 use Rattle.text.specs.Overstrike.Code.{LineCopied, Wrote}
 use Rattle.text.specs.Overstrike.{convert, convert_pieces, has_backspace}

@@ -8,7 +8,6 @@ use mathlib.Core.Logic.{◌≢◌}
 use mathlib.Core.Path.{◌∙◌, ◌≡◌, ap, ap₂, refl, sym}
 use lib.ListN.{drop, drop_of_length-le, get_or, length, length-append, length-drop, length-set, length-take, set, take, take-append-drop}
 use lib.Seq.{drop-cons, drop-drop, length-take-le, slice, take_all, take-append-add, take-append-le, take-suc-set}
-use Rattle.buffer.specs.Sink.{written}
 use Rattle.text.specs.Class.{Profile}
 use Rattle.text.specs.Cluster.{clusters, clusters_after}
 use Rattle.text.specs.Cluster.Laws.{clusters_first, further}
@@ -22,9 +21,8 @@ use Rattle.text.specs.Utf8.Code.Laws as laws
 use Rattle.text.specs.TextParts.Laws.{first_none}
 use Rattle.text.specs.Overstrike.{State, convert_pieces, convert_run, none, normal, state, step, steps}
 use Rattle.text.specs.Overstrike.Length.{finish_size, start_weight, step_weight, weight}
-use Rattle.text.specs.Utf8.{Decoded, Piece, Scalar, add_to_run, bytes_of, decode, decode_from, ill_formed, run, run_of, runs, sequence, value, well_formed, within}
+use Rattle.text.specs.Utf8.{Decoded, Piece, Scalar, add_to_run, bytes_of, decode, decode_from, ill_formed, run, run_of, runs, sequence, value, well_formed}
 use Rattle.text.specs.Utf8.Laws.{bytes_of_append, decode_bad, decode_good, sequence_le}
-use Rattle.text.specs.Utf8.Valid.{valid}
 use Rattle.text.specs.declared.utf8.Sequence.{Sequence}
 use Rattle.text.specs.declared.overstrike.Conversion.{Conversion}
 use Rattle.text.specs.declared.overstrike.Progress.{Progress}

@@ -19,8 +19,7 @@ use Rattle.text.specs.Overstrike.{State, Style, ambiguous, backspace, bold, bold
 use Rattle.text.specs.Overstrike.Laws.{push_reverse}
 use Rattle.text.specs.Overstrike.Length.{cost, cost_normal, order_size, waiting, weight}
 use Rattle.text.specs.Tests.{cases}
-use Rattle.text.specs.Utf8.{Scalar, asciis, bytes_of, decode, decode_from, reads, run_of, same_bytes, within}
-use Rattle.text.specs.Utf8.Valid.{valid}
+use Rattle.text.specs.Utf8.{Scalar, asciis, bytes_of, decode, decode_from, reads, run_of, same_bytes}
 use Rattle.text.specs.declared.overstrike.Conversion.{Conversion}
 use Rattle.text.specs.declared.backward.Erasure.{Erasure}
 use Rattle.text.specs.declared.overstrike.Overstrike.{Overstrike}

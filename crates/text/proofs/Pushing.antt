@@ -12,10 +12,9 @@ use Rattle.buffer.specs.Sink.{Copied}
 use Rattle.text.specs.Backward.{backward}
 use Rattle.text.specs.Utf8.Code.{whole}
 use Rattle.text.specs.Overstrike.Code.{Front, Pushed, changed_style, order_of, style_of}
-use Rattle.text.specs.Overstrike.{bold, order, push, underline}
+use Rattle.text.specs.Overstrike.{order, push}
 use Rattle.text.specs.Tests.{or_false}
 use Rattle.text.specs.Utf8.{Scalar, decode, run_of}
-use Rattle.text.specs.Utf8.Valid.{valid}
 use Rattle.text.specs.declared.overstrike.Overstrike.{Overstrike}
 use Rattle.text.proofs.Texts.{run_append, whole_append}
 

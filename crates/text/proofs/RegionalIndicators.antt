@@ -10,7 +10,7 @@ use lib.Dec.{T, eqb, leb}
 use lib.ListN.{drop, length, take, take-append-drop}
 use lib.Seq.{get_or-drop, take-take}
 use borrow.Author.Tests.{eqb-true, leb-false, leb-true}
-use Rattle.text.specs.Backward.{KnownPlace, ScalarStart, back, backward, indicator_at, joins_at, without_last}
+use Rattle.text.specs.Backward.{KnownPlace, ScalarStart, back, indicator_at, joins_at, without_last}
 use Rattle.text.specs.Class.{Class, Profile, among, class01, class_l, class_lv, class_lvt, class_t, class_v, control, controls, cr, extend, extended_pictographic, extends, in_any, is_control, lf, number, other, pictographs, regional_indicator, zwj}
 use Rattle.text.specs.Cluster.{Context, after, class_of, context, joined, joins, start}
 use Rattle.text.specs.Utf8.Code.{first_sequence, size}

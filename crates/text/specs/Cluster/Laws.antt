@@ -1,5 +1,5 @@
 -- A text's clusters hold its scalars, and are found one after the other.
-use Rattle.std.specs.Prelude.{◌≡◌, ℕ, suc, ◌+◌, Bool, not, cond, ◌&&◌, ◌||◌, length, take, drop, T, eqb}
+use Rattle.std.specs.Prelude.{◌≡◌, ℕ, suc, ◌+◌, Bool, not, cond, ◌&&◌, length, take, drop, T, eqb}
 use Rattle.std.proofs.Math.Path.{refl, sym, ap, ap₂}
 use Rattle.std.proofs.Common.{◌∙◌, true≢false, length-append, eqb→eq, eqb-true}
 use Rattle.std.proofs.Math.Bool.{true, false, and-false}

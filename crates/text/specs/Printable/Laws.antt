@@ -1,5 +1,5 @@
 -- Texts of printable bytes are as wide as they are long, and so are their parts.
-use Rattle.std.specs.Prelude.{◌≡◌, refl, ℕ, zero, suc, ◌≤◌, true, ◌&&◌, List, [], ◌∷◌, length, take, drop, replicate}
+use Rattle.std.specs.Prelude.{◌≡◌, refl, ℕ, zero, suc, true, List, [], ◌∷◌, length, take, drop, replicate}
 use Rattle.std.proofs.Common.{sym, ap, ◌∙◌, take-append-drop, length-take-le}
 use Rattle.buffer.specs.Numbers.{smaller_of}
 use Rattle.buffer.specs.Numbers.Laws.{smaller_right}

@@ -7,7 +7,7 @@ use mathlib.Core.List.{List, [], ◌∷◌, ◌++◌, map, append_assoc}
 use Rattle.std.proofs.Math.ListN.{length, length-drop}
 use Rattle.std.proofs.Math.Seq.{take-append_seam, drop-append_seam, drop-drop}
 use Rattle.text.specs.Each.{All, all_nil, all_cons, all_split}
-use Rattle.text.specs.Utf8.{Scalar, scalar, Decoded, well_formed, ill_formed, fits, decode, decode_from, bytes_of}
+use Rattle.text.specs.Utf8.{Scalar, Decoded, well_formed, ill_formed, decode, decode_from, bytes_of}
 use Rattle.text.specs.Utf8.Laws.{bytes_of_append, decoded_bytes, decoded_bytes_decode}
 use Rattle.text.specs.Utf8.Valid.{Valid, ValidDecoded, decode_valid, decode_text, run_text}
 use Rattle.text.specs.Cluster.Walk.{size_is}
