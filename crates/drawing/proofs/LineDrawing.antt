@@ -16,7 +16,6 @@ use Rattle.text.specs.Tests.{cases, in_range_law, or_false, true_T}
 use Rattle.text.specs.Each.{All, all_nil, all_cons}
 use Rattle.text.specs.Utf8.{Scalar, scalar, to, within, decode, bytes_of}
 use Rattle.text.specs.Utf8.Valid.{Valid, run_text}
-use Rattle.text.specs.Class.{Profile}
 use Rattle.text.specs.Width.{width_of}
 use Rattle.text.specs.Cluster.Walk.{size_is}
 use Rattle.text.specs.Utf8.Code.{run_of, size, first_sequence}

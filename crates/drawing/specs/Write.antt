@@ -3,16 +3,14 @@ use Rattle.std.specs.Prelude.{◌≡◌, ℕ, ◌+◌, ◌-◌, ◌*◌, ◌≤�
 use Rattle.buffer.specs.Sink.{sink, emit}
 use Rattle.text.specs.Utf8.{Scalar}
 use Rattle.text.specs.Class.{Profile}
-use Rattle.text.specs.Utf8.Code.{whole}
-use Rattle.text.specs.Class.Code.{profile_of, printable}
+use Rattle.text.specs.Class.Code.{profile_of}
 use Rattle.text.specs.Printable.{all_printable}
 use Rattle.text.specs.TextParts.{text_at, Measured}
 use Rattle.text.specs.declared.TextPart.{TextPart}
 use Rattle.drawing.specs.Clip.{clip}
-use Rattle.drawing.specs.Attributes.{Style}
 use Rattle.drawing.specs.Change.{Change, encode_one, clipped}
 use Rattle.drawing.specs.Change as change
-use Rattle.drawing.specs.Draw.{Sent, style, write_truncated}
+use Rattle.drawing.specs.Draw.{Sent, write_truncated}
 use Rattle.drawing.specs.declared.attributes.Style as code
 use Rattle.drawing.specs.declared.state.AttributeState.{AttributeState}
 use Rattle.drawing.specs.declared.state.Drawn.{Drawn}
