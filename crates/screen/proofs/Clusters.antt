@@ -11,7 +11,7 @@ use lib.Dec.{eqb, ltb}
 use borrow.Author.Tests.{ne_eqb, lt-ltb, le-ltb, eqb-true, eqb-false, ltb-true, ltb-false}
 use Rattle.text.specs.Tests.{cases}
 use Rattle.text.specs.Utf8.{same_bytes}
-use Rattle.screen.specs.Row.{Screen, back, write}
+use Rattle.screen.specs.Row.{back, write}
 use Rattle.screen.specs.Row.Contracts.{part}
 use Rattle.screen.specs.Screen.{with_at, with_refusal, cursor_of, row_of, screen_of, formed, cluster_on, ClusterOnReady, Stepped}
 use Rattle.screen.specs.declared.screen.Screen as code

@@ -21,7 +21,6 @@ use Rattle.text.specs.TextParts.{text_at, place}
 use Rattle.text.specs.TextParts.Laws.{first_there, behind_part}
 use Rattle.text.specs.declared.BytePlace.{BytePlace}
 use Rattle.text.specs.declared.segmentation.ClusterStep.{ClusterStep}
-use Rattle.screen.specs.Row.{Screen}
 use Rattle.screen.specs.Row.Contracts.{part}
 use Rattle.screen.specs.Row.Put.{drop_take}
 use Rattle.screen.specs.Screen.{with_refusal, screen_of, cluster_on, text_on, RowReady, ClusterOnReady, TextReady, Stepped}

@@ -10,7 +10,7 @@ use lib.Seq.{length-take-le, take-take, take_at, drop_at, drop-drop, drop-append
 use lib.Dec.{eqb, ltb}
 use borrow.Author.Tests.{ne_eqb, ltb-true, ltb-false}
 use Rattle.text.specs.Tests.{cases}
-use Rattle.screen.specs.Row.{Cell, plain, blank, cell, cluster_cells, is_later, lost_end, put, Screen, screen, write}
+use Rattle.screen.specs.Row.{Cell, plain, blank, cell, cluster_cells, is_later, lost_end, put, screen, write}
 use Rattle.screen.specs.Row.Laws.{lost_end_length}
 use Rattle.screen.specs.Row.Contracts.{part, body_at, blank_at, cell_of, cells_in, cell_in, first_column, laters, same_numbers, cluster_numbers, CellsReady}
 use Rattle.screen.specs.Row.Contracts.Laws.{cells_enough, cells_written, cells_same, same_length, first_le, lost_end_law, laters_le}

@@ -11,7 +11,7 @@ use Rattle.std.proofs.Math.Dec.{ltb}
 use Rattle.std.proofs.Common.{ltb→lt}
 use Rattle.text.specs.Tests.{and_T, true_T, both, by_case}
 use Rattle.text.specs.Each.{All, all_nil, all_cons, all_append}
-use Rattle.text.specs.Utf8.{Scalar, ascii, bytes_of}
+use Rattle.text.specs.Utf8.{Scalar, bytes_of}
 use Rattle.text.specs.Class.{Profile}
 use Rattle.text.specs.Class.Ascii.{control_columns, printable_columns}
 use Rattle.text.specs.Width.{width_of}

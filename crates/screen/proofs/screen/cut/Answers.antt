@@ -1,0 +1,4 @@
+use Rattle.screen.proofs.screen.cut.Goals as goal
+
+pub returns : goal.returns
+returns c = cc
