@@ -1,0 +1,9 @@
+use Rattle.std.proofs.Common.{◌-◌, length, rules}
+use Rattle.unicode_io.specs.Names.Laws.{Scanning, scanning_begins, scanning_found, scanning_after, scanning_within, scanning_ends}
+use Rattle.unicode_io.proofs.names.number_in.Given as goal
+
+abbrev pub invariant-loop-i : goal.invariant-loop-i
+invariant-loop-i l = Scanning l.list l.word l.number l.at l.i
+
+abbrev pub decreases-loop-i : goal.decreases-loop-i
+decreases-loop-i l = length l.list - l.i

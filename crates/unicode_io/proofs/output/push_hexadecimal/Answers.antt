@@ -1,0 +1,6 @@
+use Rattle.std.proofs.Common.{arith, rules}
+use Rattle.unicode_io.specs.Output.Laws.{hexadecimal_pushed}
+use Rattle.unicode_io.proofs.output.push_hexadecimal.Goals as goal
+
+pub returns : goal.returns
+returns c = hexadecimal_pushed c.args.n c.hex-k.result c.hex-k.new.out _ _ (omega arith) c.hex-k.ensures.len c.hex-k.ensures.digits c.push_bytes.ensures
