@@ -1,7 +1,7 @@
 -- A function that gives the elements of a call's list as numbers: it makes a local array, lends the call as many of its places as the numbers that it was given have room for, writes what the call left there to the numbers, and gives the call's answer.
---     Numbering        the array's size and its element at first, how many places are lent where there are so many numbers, how many numbers an element has, and what so many numbers hold of a list
+--     Numbering        (`Rattle.buffer.specs.Numbering`) the array's size and its element at first, how many places are lent where there are so many numbers, how many numbers an element has, and what so many numbers hold of a list
 --     Making, Placing, Writing     the contracts of the three functions that make the array, say how many places are lent, and write the numbers
---     as_numbers       the function meets its contract, from those of the four that it calls, and a walk of its code between them
+--     as_numbers       the function meets its contract, from those of the four that it calls, and a walk of its code between them. Its elements are of a type that is shared with no token, as a Copy struct is (LentPlaces.antt's `copied_shared`)
 --     Start, ArrayMade, PlacesLent, Answered       what the walk may do next: `make`; `count` and `lend`; `ask`; `write`
 -- Assumes `Logic`.
 use Rattle.std.specs.Prelude.{◌≡◌, refl, ℕ, ◌<◌, ◌≤◌, ◌*◌, ◌^◌, List, [], ◌∷◌, ◌++◌, length, take, replicate, T}
@@ -9,8 +9,8 @@ use Rattle.std.proofs.Common.{sym, ap, subst, ◌∙◌, length-take-le}
 use Rattle.std.proofs.Math.Option.{some}
 use Rattle.std.proofs.lemmas.List.{length-replicate}
 use seplogic.Ra.Ura.{Ura}
-use seplogic.Ra.TreeShare.{full_share}
-use mir.Syntax.{Name, Fn, w64, place, Opd as Operand, copy, Body, seq, call, named}
+use base.Fraction.{full_share}
+use mir.Syntax.{Callee, Fn, w64, place, Opd as Operand, copy, Body, seq, call, named}
 use mir.Val.{Val, vunit, vint, WT}
 use base.Logic.{SProp, ent, emp, id⊢}
 use base.Fml.{Lft, GName, Share, flft}
@@ -27,6 +27,7 @@ use types.SemTy.{cells}
 use Rattle.std.specs.Borrow.{RattleType, Array, usize, MutBor}
 use denote.Laws.{Typed, Is}
 use denote.Memory.{mem}
+use denote.Shares.{Shares as SharedBy}
 use denote.Plain.{Nothing, uint_Makes}
 use denote.Slice.{slice_val, MutSlice, Room}
 use denote.Signature.{Slot, plain}
@@ -43,7 +44,7 @@ use Rattle.lending.specs.Signatures.{Kind, number, shared, lent, last, signed, e
 use Rattle.lending.specs.Statements.{gives}
 use Rattle.lending.specs.Functions.{args, bound, promise, Owned, Lasting, Ensures, W, C, Λ, env, Fitting, asks, asks_whole, answers_whole, walks_whole}
 use Rattle.lending.specs.LentPlaces as Places
-use Rattle.lending.specs.LentPlaces.{lends, gets_back, shares, shared_back, room_less}
+use Rattle.lending.specs.LentPlaces.{shared_from, lends, gets_back, shares, shared_back, room_less}
 use Rattle.lending.specs.LocalArrays.{arr, slice_at, others, opens, shuts}
 use Rattle.lending.specs.ReplacedParameter.{lft_with, share_with, share_at, lft_with_law, asides, param_at, param_is, replaced, last_at, lasts_with, other_tokens, other_lasts, token_replaced, token_taken, token_in, part_replaced, last_out, last_in}
 
@@ -88,7 +89,7 @@ module _ {M : Type 1} {𝓤 : Ura M} (𝓛 : Logic 𝓤) (𝓜 : Model 𝓤 𝓛
     abbrev pub Writing : Clauses 𝓤 (ended 2 both Unit')
     Writing κs a = record { ghost = Unit {0}; requires = λ _. fact 𝓤 (N.each * length a.0.now ≤ length a.1.0.now); ensures = λ _ r e. fact 𝓤 (e.1.0.now ≡ N.numbers (length a.1.0.now) a.0.now) }
 
-    module _ {E : Env 𝓤 H} {hs : List Held} {Γ : List (Item 𝓤)} {Λ : Loops 𝓤 H} {q : Post 𝓤 H} {rest : Body} {f : Name} {r : Routine} {K : Type 0} (t : K) (is : γ f ≡ r) where
+    module _ {E : Env 𝓤 H} {hs : List Held} {Γ : List (Item 𝓤)} {Λ : Loops 𝓤 H} {q : Post 𝓤 H} {rest : Body} {f : Callee} {r : Routine} {K : Type 0} (t : K) (is : γ f ≡ r) where
       made : Meets [] Made Making r → {i : ℕ} → ((xs : Xs) → Typed (Array R N.size).mir (list.spell xs ∷ []) → T (takes E hs i (list.spell xs)) × WT (list.spell xs))
           → ((xs : Xs) → length xs ≡ N.size → Seq K (W 𝓛 𝓜 𝓡 γ) (Locals E (set_at i (value (list.spell xs)) hs) ∷ ‵ ((Array R N.size).own_val xs (list.spell xs ∷ [])) ∷ Γ) (runs calls Λ E rest q)) → Seq K (W 𝓛 𝓜 𝓡 γ) (Locals E hs ∷ Γ) (runs calls Λ E (seq (call f [] (place i [])) rest) q)
       made met fits k = asks 𝓛 𝓜 𝓡 γ 0 [] Made Making f r is met tt tt tt t tt (id⊢ 𝓤 (emp 𝓤)) (no_more t) list fits
@@ -100,16 +101,16 @@ module _ {M : Type 1} {𝓤 : Ura M} (𝓛 : Logic 𝓤) (𝓜 : Model 𝓤 𝓛
           asks 𝓛 𝓜 𝓡 γ 0 (number ∷ []) Number Placing f r is met tt tt (m, tt) t tt (id⊢ 𝓤 (emp 𝓤)) (gives t e (no_more t)) (a_number {𝓛 = W 𝓛 𝓜 𝓡 γ}) (λ n ty. (z n, ty.0.1))
           (λ n ok ws. move t (1 ∷ []) $ heard t (n ≡ N.places m) (λ h. rewrite t 0 (λ (n : ℕ). Locals E (set_at i (value (vint w64 n)) hs)) (h ∙ sym p) refl $ move t (1 ∷ []) $ drop t $ s)))
 
-      wrote : Meets both Unit' Writing r → {s o i : ℕ} (ys : Xs) (l : ℕ) (x : MutBor (List ℕ)) {κ : Lft} {p : Share} → Room R (length ys) → N.each * length ys ≤ length x.now → value_at E hs s ≡ some (slice_val (l, 0) (length ys)) → value_at E hs o ≡ some (slice_val x.ref_ptr (length x.now)) → T (takes E hs i vunit)
-          → ((os : List ℕ) → os ≡ N.numbers (length x.now) ys → Seq K (W 𝓛 𝓜 𝓡 γ) (Locals E (set_at i (value vunit) hs) ∷ ‵ (cells (mem R) ys l 0) ∷ ‵ (flft κ p) ∷ ‵ (last usize x os) ∷ Γ) (runs calls Λ E rest q))
+      wrote : SharedBy 𝓛 R [] → Meets both Unit' Writing r → {s o i : ℕ} (ys : Xs) (l : ℕ) (x : MutBor (List ℕ)) {κ : Lft} {p : Share} → Room R (length ys) → N.each * length ys ≤ length x.now → value_at E hs s ≡ some (slice_val (l, 0) (length ys)) → value_at E hs o ≡ some (slice_val x.ref_ptr (length x.now)) → T (takes E hs i vunit)
+          → ((os : List ℕ) → os ≡ N.numbers (length x.now) ys → Seq K (W 𝓛 𝓜 𝓡 γ) (Locals E (set_at i (value vunit) hs) ∷ ‵ (cells (mem R) ys l 0) ∷ ‵ (flft κ p) ∷ ‵ (last κ usize x os) ∷ Γ) (runs calls Λ E rest q))
           → Seq K (W 𝓛 𝓜 𝓡 γ) (Locals E hs ∷ ‵ (cells (mem R) ys l 0) ∷ ‵ (flft κ p) ∷ ‵ ((MutSlice (named 1) κ usize).own_val x (slice_val x.ref_ptr (length x.now) ∷ [])) ∷ Γ) (runs calls Λ E (seq (call f (copy (place s []) ∷ copy (place o []) ∷ []) (place i [])) rest) q)
-      wrote met ys l x {κ} {p} fit wide e e' z k = move t (1 ∷ []) $ shares t R tt ys l 0 (named 0) fit (λ ν δ. move t (0 ∷ 4 ∷ 1 ∷ 5 ∷ 3 ∷ []) $
-          asks 𝓛 𝓜 𝓡 γ 2 both Unit' Writing f r is met (ν ∷ [], (κ, tt)) (full_share, (p, tt)) (slice_at R l δ ys, (x, tt)) t tt (fact_i 𝓤 (N.each * length ys ≤ length x.now) (emp 𝓤) wide) (gives t e (gives t e' (no_more t))) (nothing_more {𝓛 = W 𝓛 𝓜 𝓡 γ}) (λ u ty. (z, tt)) (λ u ok ws.
+      wrote free met ys l x {κ} {p} fit wide e e' z k = move t (1 ∷ []) $ shares t R tt ys l 0 free (named 0) fit (λ ν. move t (0 ∷ 4 ∷ 1 ∷ 5 ∷ 3 ∷ []) $
+          asks 𝓛 𝓜 𝓡 γ 2 both Unit' Writing f r is met (ν ∷ [], (κ, tt)) (full_share, (p, tt)) (shared_from R l 0 ys, (x, tt)) t tt (fact_i 𝓤 (N.each * length ys ≤ length x.now) (emp 𝓤) wide) (gives t e (gives t e' (no_more t))) (nothing_more {𝓛 = W 𝓛 𝓜 𝓡 γ}) (λ u ty. (z, tt)) (λ u ok ws.
           -- [the tokens; what is left in the numbers; the locals; what is said; …; the lender's part; …]
           move t (4 ∷ []) $ heard t (ws.1.0 ≡ N.numbers (length x.now) ys) (λ h. move t (0 ∷ 5 ∷ []) $ shared_back t R tt ys l 0 $ move t (3 ∷ 0 ∷ 1 ∷ 2 ∷ 4 ∷ []) $ move t (4 ∷ []) $ drop t $ k ws.1.0 h)))
 
     -- ---- the function. It has the parameters pre, the numbers and post; its call has the array's places where it has the numbers
-    module _ (fit : Room R N.size) {fm fp fw : Name} {rm rp rw : Routine} (is_m : γ fm ≡ rm) (met_m : Meets [] Made Making rm) (is_p : γ fp ≡ rp) (met_p : Meets (number ∷ []) Number Placing rp) (is_w : γ fw ≡ rw) (met_w : Meets both Unit' Writing rw) (n : ℕ)
+    module _ (fit : Room R N.size) (free : SharedBy 𝓛 R []) {fm fp fw : Callee} {rm rp rw : Routine} (is_m : γ fm ≡ rm) (met_m : Meets [] Made Making rm) (is_p : γ fp ≡ rp) (met_p : Meets (number ∷ []) Number Placing rp) (is_w : γ fw ≡ rw) (met_w : Meets both Unit' Writing rw) (n : ℕ)
         (pre : List (Kind n)) (j : ℕ) (ok : Within n j) (post : List (Kind n)) (apart : T (asides n j pre)) (apart' : T (asides n j post)) (D' : Declared) (L' : LL.Laws D') where
       abbrev nums : Kind n
       nums = lent j ok usize
@@ -129,7 +130,7 @@ module _ {M : Type 1} {𝓤 : Ura M} (𝓛 : Logic 𝓤) (𝓜 : Model 𝓤 𝓛
       abbrev spelt : Spelling 𝓛 (row D')
       spelt = a_struct {𝓛 = W 𝓛 𝓜 𝓡 γ} D' L'
 
-      module _ (c : Clauses 𝓤 (ended n own answer)) (c' : Clauses 𝓤 (ended n its answer)) (asked : (κs : Lfts n) (a : Args (signed n its answer) κs) → (g : (c' κs a).ghost) × ent 𝓤 (emp 𝓤) ((c' κs a).requires g)) {fc : Name} {rc : Routine} (is_c : γ fc ≡ rc) (met_c : Meets its answer c' rc) where
+      module _ (c : Clauses 𝓤 (ended n own answer)) (c' : Clauses 𝓤 (ended n its answer)) (asked : (κs : Lfts n) (a : Args (signed n its answer) κs) → (g : (c' κs a).ghost) × ent 𝓤 (emp 𝓤) ((c' κs a).requires g)) {fc : Callee} {rc : Routine} (is_c : γ fc ≡ rc) (met_c : Meets its answer c' rc) where
         module _ (κs : Lfts n) (a : Args (signed n own answer) κs) where
           abbrev x : MutBor (List ℕ)
           x = param_at κs nums post pre a
@@ -179,7 +180,7 @@ module _ {M : Type 1} {𝓤 : Ura M} (𝓛 : Logic 𝓤) (𝓜 : Model 𝓤 𝓛
           token = ‵ (flft (lft_at n j ok κs) (share_at n j ok qs))
 
           abbrev slice : Item 𝓤
-          slice = ‵ ((MutSlice (named j) (lft_at n j ok κs) usize).own_val (x κs a) (slice_val (x κs a).ptr (m κs a) ∷ []))
+          slice = ‵ ((MutSlice (named j) (lft_at n j ok κs) usize).own_val (x κs a) (slice_val (x κs a).ref_ptr (m κs a) ∷ []))
 
           abbrev qs' : Shares n
           qs' = share_with n j ok full_share qs
@@ -222,7 +223,7 @@ module _ {M : Type 1} {𝓤 : Ura M} (𝓛 : Logic 𝓤) (𝓜 : Model 𝓤 𝓛
                 Written os = raw (toks 𝓛 n κs qs) ∷ raw (Lasting 𝓛 𝓜 𝓡 γ n own answer c κs qs a (us κs a (ν ∷ []) y ws os)) ∷ ‵ ((row D').own_val r (spelt.spell r ∷ [])) ∷ raw (Ensures 𝓛 𝓜 𝓡 γ n own answer c κs qs a g r (us κs a (ν ∷ []) y ws os)) ∷ []
 
                 pub record Answered : Type 1 where
-                  pub write : {K : Type 0} → K → {hs : List Held} {p u i : ℕ} {rest : Body} → value_at E hs p ≡ some (slice_val (l, 0) (length ys)) → value_at E hs u ≡ some (slice_val (x κs a).ptr (m κs a)) → T (takes E hs i vunit)
+                  pub write : {K : Type 0} → K → {hs : List Held} {p u i : ℕ} {rest : Body} → value_at E hs p ≡ some (slice_val (l, 0) (length ys)) → value_at E hs u ≡ some (slice_val (x κs a).ref_ptr (m κs a)) → T (takes E hs i vunit)
                       → ((os : List ℕ) → Seq K (W 𝓛 𝓜 𝓡 γ) (Written os) (prop (after (spelt.spell r))) → Runs K (set_at s room (set_at i (value vunit) hs)) (Written os) rest) → Runs K hs Left (seq (call fw (copy (place p []) ∷ copy (place u []) ∷ []) (place i [])) rest)
 
                 answered : Told → (spot_of 𝓤 H E s).0 ≡ arr R N.size → length xs ≡ N.size → Inside E s → length (zs κs a (ν ∷ []) y ws) ≡ length ys → Answered
@@ -230,7 +231,7 @@ module _ {M : Type 1} {𝓤 : Ura M} (𝓛 : Logic 𝓤) (𝓜 : Model 𝓤 𝓛
                     let all : length (zs κs a (ν ∷ []) y ws) ≡ N.places (m κs a) = same ∙ many len in
                     record {
                       write = λ t e e' z f. move t (0 ∷ 1 ∷ 7 ∷ 8 ∷ []) $
-                          wrote t is_w met_w (zs κs a (ν ∷ []) y ws) l (x κs a) (room_less R fit (subst (λ (d : ℕ). d ≤ N.size) (sym all) (N.few (m κs a)))) (subst (λ (d : ℕ). N.each * d ≤ m κs a) (sym all) (N.wide (m κs a))) (e ∙ ap (λ (d : ℕ). some (slice_val (l, 0) d)) (sym same)) e' z (λ os h.
+                          wrote t is_w free met_w (zs κs a (ν ∷ []) y ws) l (x κs a) (room_less R fit (subst (λ (d : ℕ). d ≤ N.size) (sym all) (N.few (m κs a)))) (subst (λ (d : ℕ). N.each * d ≤ m κs a) (sym all) (N.wide (m κs a))) (e ∙ ap (λ (d : ℕ). some (slice_val (l, 0) d)) (sym same)) e' z (λ os h.
                           -- [the locals; the array's first places; the numbers' token; what is left in the numbers; the other last values; the other tokens; what is said; the answer; the other places]
                           move t (1 ∷ 8 ∷ 0 ∷ []) $ shuts t R s N.size (N.places (m κs a)) xs typ (zs κs a (ν ∷ []) y ws) same len in_E $ move t (1 ∷ 4 ∷ []) $ use2 (W 𝓛 𝓜 𝓡 γ) (raw (toks 𝓛 n κs qs)) (token_in 𝓤 𝓛 n j ok κs qs) $
                           move t (2 ∷ 3 ∷ []) $ use2 (W 𝓛 𝓜 𝓡 γ) (raw (Lasting 𝓛 𝓜 𝓡 γ n own answer c κs qs a (us κs a (ν ∷ []) y ws os))) (last_in n j ok (ν ∷ []) κs nums elems post y 𝓛 pre a ws os) $
@@ -248,7 +249,8 @@ module _ {M : Type 1} {𝓤 : Ura M} (𝓛 : Logic 𝓤) (𝓜 : Model 𝓤 𝓛
               places_lent told typ len in_E = record {
                 ask = λ t os fits f. move t (1 ∷ 2 ∷ []) $ asks_whole 𝓛 𝓜 𝓡 γ n its answer c' fc rc is_c met_c ιs qs' b t (asked ιs b).0 (asked ιs b).1 os spelt fits (λ r is ws.
                     use1 (W 𝓛 𝓜 𝓡 γ) (‵ (flft (ν ∷ []) full_share) ⊛ raw (other_tokens 𝓤 𝓛 n j ok κs qs)) (token_taken 𝓤 𝓛 (ν ∷ []) full_share n j ok κs qs) $ split t $ move t (2 ∷ []) $
-                    use1 (W 𝓛 𝓜 𝓡 γ) (‵ (last R y (zs κs a (ν ∷ []) y ws)) ⊛ ‵ (other_lasts n j ok (ν ∷ []) κs nums elems post y pre a ws)) (last_out n j ok (ν ∷ []) κs nums elems post y 𝓛 pre a ws) $ split t $
+                    use1 (W 𝓛 𝓜 𝓡 γ) (‵ (last (lft_at n j ok ιs) R y (zs κs a (ν ∷ []) y ws)) ⊛ ‵ (other_lasts n j ok (ν ∷ []) κs nums elems post y pre a ws)) (last_out n j ok (ν ∷ []) κs nums elems post y 𝓛 apart' pre apart a ws) $ split t $
+                    rewrite t 0 (λ (ι : Lft). ‵ (last ι R y (zs κs a (ν ∷ []) y ws))) (lft_with_law n j ok (ν ∷ []) κs) refl $
                     -- [what is left in the places; the other last values; the token; the other tokens; the locals; what is said; the answer; the lender's part; …]
                     move t (2 ∷ 0 ∷ 7 ∷ []) $ gets_back t R tt ys l 0 (zs κs a (ν ∷ []) y ws) (λ same. move t (3 ∷ []) $ f r ws (answered r ws told typ len in_E same)));
               }
@@ -282,6 +284,6 @@ module _ {M : Type 1} {𝓤 : Ura M} (𝓛 : Logic 𝓤) (𝓜 : Model 𝓤 𝓛
           abbrev E : Blocks f.locals → Env 𝓤 H
           E bs = env 𝓛 𝓜 𝓡 γ f n own answer c bs
 
-          pub as_numbers : (key : Name) → Closed 𝓤 H calls (Λ 𝓛 𝓜 𝓡 γ) key f → Told → Fitting 𝓛 𝓜 𝓡 γ f n own answer c
+          pub as_numbers : (key : Callee) → Closed 𝓤 H calls (Λ 𝓛 𝓜 𝓡 γ) key f → Told → Fitting 𝓛 𝓜 𝓡 γ f n own answer c
               → ((κs : Lfts n) (qs : Shares n) (a : Args (signed n own answer) κs) (g : (c κs a).ghost) (bs : Blocks f.locals) → Start κs qs a g (E bs) → Runs κs qs a g (E bs) Go (room ∷ values (args own κs a)) (Begun κs qs a g (E bs)) f.body) → Meets own answer c (γ key)
           as_numbers key closed told fits walk = walks_whole 𝓛 𝓜 𝓡 γ f n own answer c key closed fits (λ κs qs a g are bs. move ! (3 ∷ []) $ drop ! $ walk κs qs a g bs (start κs qs a g (E bs) told (param_is κs nums post pre a are).0.1.0))

@@ -7,7 +7,7 @@
 -- Assumes `Logic`.
 use Rattle.std.specs.Prelude.{◌≡◌, ℕ, zero, List, [], ◌∷◌, ◌++◌, T}
 use seplogic.Ra.Ura.{Ura}
-use mir.Syntax.{Name, Fn, place, Opd as Operand, Body, seq, call, return}
+use mir.Syntax.{Callee, Fn, place, Opd as Operand, Body, seq, call, return}
 use mir.Val.{Val, WT}
 use base.Logic.{SProp, ent, sep, wand, ex, emp, id⊢, via, comm∗, mono_l, wand_i, apply∗}
 use prog.Model.{Model}
@@ -33,7 +33,7 @@ use denote.Triple.Table.{entered, cited}
 use Rattle.lending.specs.Spelling.{Spelling}
 use Rattle.lending.specs.Locals.{Held, room, value, values, takes, set_at, value_set, Blocks, env_of, Arguments, all_free, Locals, begins, ends}
 use Rattle.lending.specs.Statements.{calls}
-use Rattle.lending.specs.Signatures.{Kind, slots, spells, tells, laws, signed, ended, tokens, parts, lasts, tokens_of, of_tokens, parts_of_law, of_parts, lasts_of, of_lasts, spreads, gathers}
+use Rattle.lending.specs.Signatures.{Kind, slots, spells, tells, laws, signed, ended, tokens, parts, lasts, tokens_of, of_tokens, parts_of_law, of_parts, lasts_of_law, of_lasts, spreads, gathers}
 
 module _ {n : ℕ} (ks : List (Kind n)) (κs : Lfts n) where
   abbrev Ts : List RattleType
@@ -95,7 +95,7 @@ module _ {M : Type 1} {𝓤 : Ura M} (𝓛 : Logic 𝓤) (𝓜 : Model 𝓤 𝓛
       Left ws Γ = tokens n κs qs ++ (lasts κs ks a ws ++ Γ)
 
     -- a call of the function that k means
-    module _ (k : Name) (r : Routine) (means : γ k ≡ r) (met : Triple 𝓤 (𝓡.run r) promise) (κs : Lfts n) (qs : Shares n) (a : Args S κs) {K : Type 0} (t : K) (g : (c κs a).ghost) where
+    module _ (k : Callee) (r : Routine) (means : γ k ≡ r) (met : Triple 𝓤 (𝓡.run r) promise) (κs : Lfts n) (qs : Shares n) (a : Args S κs) {K : Type 0} (t : K) (g : (c κs a).ghost) where
       pub asks_whole : {E : Env 𝓤 H} {hs : List Held} {Γ : List (Item 𝓤)} {Λ : Loops 𝓤 H} {q : Post 𝓤 H} {rest : Body} {xs : List Operand} {i : ℕ} → ent 𝓤 (emp 𝓤) ((c κs a).requires g)
           → Opds K W (raw (promise.pre (bound κs qs a g)) ∷ Locals E hs ∷ Γ) E xs (args ks κs a) → (L : Spelling 𝓛 (R.row κs)) → ((x : Res S κs) → Typed (R.row κs).mir (L.spell x ∷ []) → T (takes E hs i (L.spell x)) × WT (L.spell x))
           → ((x : Res S κs) → Is (R.row κs) x (L.spell x ∷ []) → (ws : Lasts (ended n ks R) κs a) → Seq K W (raw (Tokens κs qs a) ∷ raw (Lasting κs qs a ws) ∷ Locals E (set_at i (value (L.spell x)) hs) ∷ raw (Ensures κs qs a g x ws) ∷ ‵ ((R.row κs).own_val x (L.spell x ∷ [])) ∷ Γ) (runs C Λ E rest q))
@@ -111,7 +111,7 @@ module _ {M : Type 1} {𝓤 : Ura M} (𝓛 : Logic 𝓤) (𝓜 : Model 𝓤 𝓛
           → Seq K W (Brought κs qs a (Locals E hs ∷ Γ)) (runs C Λ E (seq (call k xs (place i [])) rest) q)
       asks {E} {hs} {Γ} {i = i} req os L fits f =
           gathers W (tokens n κs qs) (parts (Ts ks κs) a (spelt ks κs a)) (Locals E hs ∷ Γ) (Tokens κs qs a) (Owned κs qs a) (of_tokens 𝓛 n κs qs) (of_parts 𝓛 (Ts ks κs) a (spelt ks κs a)) $ asks_whole req os L fits (λ x is ws.
-          spreads W (tokens n κs qs) (lasts κs ks a ws) (Locals E (set_at i (value (L.spell x)) hs) ∷ raw (Ensures κs qs a g x ws) ∷ ‵ ((R.row κs).own_val x (L.spell x ∷ [])) ∷ Γ) (Tokens κs qs a) (Lasting κs qs a ws) (tokens_of 𝓛 n κs qs) (lasts_of 𝓛 κs ks a ws) $ f x is ws)
+          spreads W (tokens n κs qs) (lasts κs ks a ws) (Locals E (set_at i (value (L.spell x)) hs) ∷ raw (Ensures κs qs a g x ws) ∷ ‵ ((R.row κs).own_val x (L.spell x ∷ [])) ∷ Γ) (Tokens κs qs a) (Lasting κs qs a ws) (tokens_of 𝓛 n κs qs) (lasts_of_law 𝓛 κs ks a ws) $ f x is ws)
 
     module _ (κs : Lfts n) (qs : Shares n) (a : Args S κs) {K : Type 0} (t : K) (g : (c κs a).ghost) (v : Val) (x : Res S κs) (ws : Lasts (ended n ks R) κs a) where
       pub answers_whole : Seq K W (raw (Tokens κs qs a) ∷ raw (Lasting κs qs a ws) ∷ ‵ ((R.row κs).own_val x (v ∷ [])) ∷ raw (Ensures κs qs a g x ws) ∷ []) (prop (promise.post (bound κs qs a g) v))
@@ -154,7 +154,7 @@ module _ {M : Type 1} {𝓤 : Ura M} (𝓛 : Logic 𝓤) (𝓜 : Model 𝓤 𝓛
         (comm∗ 𝓤 (wand 𝓤 P (Q y.0.4)) P))
         (apply∗ 𝓤 P (Q y.0.4))
 
-    module _ (key : Name) (closed : Closed 𝓤 H C Λ key f) where
+    module _ (key : Callee) (closed : Closed 𝓤 H C Λ key f) where
       pub walks_whole : Fitting → ((κs : Lfts n) (qs : Shares n) (a : Args (signed n ks R) κs) (g : (c κs a).ghost) → Are (Ts ks κs) (Ises (Ts ks κs)) a (spelt ks κs a) → (bs : Blocks f.locals) → Whole κs qs a g (env bs) (room ∷ values (args ks κs a)) f.body) → Triple 𝓤 (𝓡.run (γ key)) (promise n ks R c)
       walks_whole fits k = entered 𝓤 H (promise n ks R c) C Λ key f closed (walked fits k)
 
@@ -163,7 +163,7 @@ module _ {M : Type 1} {𝓤 : Ura M} (𝓛 : Logic 𝓤) (𝓜 : Model 𝓤 𝓛
           spreads W (tokens n κs qs) (parts (Ts ks κs) a (spelt ks κs a)) (Locals (env bs) (room ∷ values (args ks κs a)) ∷ raw ((c κs a).requires g) ∷ []) (toks 𝓛 n κs qs) (sem 𝓛 (owns (Ts ks κs) a (spelt ks κs a))) (tokens_of 𝓛 n κs qs) (parts_of_law 𝓛 (Ts ks κs) a (spelt ks κs a)) $
           k κs qs a g are bs)
 
-      module _ (k : Name) (r : Routine) (means : γ k ≡ r) (met : Triple 𝓤 (𝓡.run r) (promise n ks R c)) (L : (κs : Lfts n) → Spelling 𝓛 (R.row κs)) where
+      module _ (k : Callee) (r : Routine) (means : γ k ≡ r) (met : Triple 𝓤 (𝓡.run r) (promise n ks R c)) (L : (κs : Lfts n) → Spelling 𝓛 (R.row κs)) where
         -- the call, once the arguments stand in locals
         abbrev Last : (κs : Lfts n) → Shares n → (a : Args (signed n ks R) κs) → (c κs a).ghost → Env 𝓤 H → Type 2
         Last κs qs a g E = (hs : List Held) (xs : List Operand) → Opds (Go {0}) W (raw ((promise n ks R c).pre (bound n ks R c κs qs a g)) ∷ Locals E hs ∷ []) E xs (args ks κs a)

@@ -6,10 +6,10 @@ use Rattle.std.specs.Prelude.{◌≡◌, length, take, drop as dropped}
 use Rattle.std.proofs.Math.Path.{refl}
 use Rattle.std.proofs.Common.{sym, ◌∙◌, arith, take-append-drop, lit<}
 use Prim.Native.Nat.{ℕ, zero}
-use Rattle.std.proofs.Math.Option.{some as just}
+use Rattle.std.proofs.Math.Option.{some}
 use mathlib.Core.List.{List, [], ◌∷◌, ◌++◌}
 use seplogic.Ra.Ura.{Ura}
-use seplogic.Ra.TreeShare.{full_share}
+use base.Fraction.{full_share}
 use mir.Syntax.{Ty, ty_array, Lifetime}
 use mir.Val.{Val}
 use base.Logic.{ent, sep}
@@ -20,7 +20,7 @@ use types.Kit.{Item, Goal, Soaks, Seq, Step, step, ‵, ◌⊛◌, ◌$◌, ◌�
 use types.SemTy.{cells}
 use types.Share.{arr_parts}
 use Rattle.std.specs.Borrow.{RattleType, MutBor}
-use denote.Memory.{mem, cell_at, part_at, partOf, shares as part-of, lone}
+use denote.Memory.{mem, cell_at, part_at, part_of, shares as share_of, lone}
 use denote.Array.{Array, array_val}
 use denote.ArrayMemory.{Single, Array-apart, Array-whole}
 use denote.Steps.{nothing}
@@ -48,15 +48,15 @@ module _ (R : RattleType) where
     open 𝓛 use {H}
 
     into : Single R.mir → (xs : List R.Denot) (u : Val) (l : ℕ) → ent 𝓤 (sep 𝓤 (H.at full_share (arr n) l zero u) (sem 𝓛 ((Array R n).own_val xs (u ∷ [])))) (sem 𝓛 (cells (mem R) xs l zero))
-    unfolding partOf
+    unfolding part_of
     into one xs u l =
         qed 𝓛 (‵ (fat full_share (arr n) l zero u) ∷ ‵ ((Array R n).own_val xs (u ∷ [])) ∷ []) ∵
         use1 𝓛 (‵ (cell_at full_share (Array R n).mir (u ∷ []) l zero)) (𝓛.laws.at_raw full_share (arr n) l zero u) $ fjoin ! $
         fpack ! (List Val) (λ us. fsep (cell_at full_share (Array R n).mir us l zero) ((Array R n).own_val xs us)) (u ∷ []) $
-        use1 𝓛 (‵ ((arr_parts (part-of R) n).part full_share xs l zero)) (Array-apart 𝓛 R full_share one n xs l zero) $ fsplit ! $ drop ! $ use1 𝓛 (‵ (cells (mem R) xs l zero)) (whole_in 𝓛 R xs l zero) $ done !
+        use1 𝓛 (‵ ((arr_parts (share_of R) n).part full_share xs l zero)) (Array-apart 𝓛 R full_share one n xs l zero) $ fsplit ! $ drop ! $ use1 𝓛 (‵ (cells (mem R) xs l zero)) (whole_in 𝓛 R xs l zero) $ done !
 
     outof : (xs : List R.Denot) (l : ℕ) → length xs ≡ n → ent 𝓤 (sem 𝓛 (cells (mem R) xs l zero)) (H.room (arr n) l zero)
-    unfolding partOf
+    unfolding part_of
     outof xs l e =
         qed 𝓛 (‵ (cells (mem R) xs l zero) ∷ []) ∵ use1 𝓛 (‵ (row R full_share xs l zero)) (whole_out 𝓛 R xs l zero) $ feq_i ! ℕ (length xs) n e $ fjoin ! $
         use1 𝓛 (‵ (part_at (Array R n) full_share xs l zero)) (Array-whole 𝓛 R full_share n xs l zero) $
@@ -68,7 +68,7 @@ module _ {M : Type 1} {𝓤 : Ura M} {𝓛 : Logic 𝓤} {K : Type 0} (t : K) (R
   open 𝓛 use {H}
 
   module _ {E : Env 𝓤 H} {hs : List L.Held} (i n k : ℕ) (xs : List R.Denot) (p : (spot_of 𝓤 H E i).0 ≡ arr R n) where
-    pub opens : Single R.mir → {u : Val} → value_at E hs i ≡ just u
+    pub opens : Single R.mir → {u : Val} → value_at E hs i ≡ some u
         → Step K 𝓛 (‵ (cells (mem R) (take k xs) (spot_of 𝓤 H E i).1 zero) ∷ ‵ (others R (spot_of 𝓤 H E i).1 k xs) ∷ Locals E (set_at i away hs) ∷ Γ) G (Locals E hs ∷ ‵ ((Array R n).own_val xs (u ∷ [])) ∷ Γ) G
     opens one {u} e = step (λ s. goes_out t i e $ rewrite t 0 (λ (τ : Ty). ‵ (fat full_share τ (spot_of 𝓤 H E i).1 zero u)) p refl $ move t (0 ∷ 2 ∷ []) $
         use2 𝓛 (‵ (cells (mem R) xs (spot_of 𝓤 H E i).1 zero)) (into R 𝓛 n one xs u (spot_of 𝓤 H E i).1) $

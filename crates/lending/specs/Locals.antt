@@ -13,7 +13,7 @@ use Prim.Native.Nat.{ℕ, zero, suc}
 use Rattle.std.proofs.Math.Option.{Option, none, some}
 use mathlib.Core.List.{List, [], ◌∷◌}
 use seplogic.Ra.Ura.{Ura}
-use seplogic.Ra.TreeShare.{full_share}
+use base.Fraction.{full_share}
 use mir.Syntax.{Ty, Local, local, Fn, return}
 use mir.Val.{Val, WT, has_ty}
 use base.Logic.{SProp, ent, sep, wand, all, guard, emp, id⊢, mono∗, mono_r, all_e, apply∗, guard_i}
@@ -286,12 +286,12 @@ module _ {M : Type 1} {𝓤 : Ura M} {𝓛 : Logic 𝓤} {K : Type 0} where
   allocated : K → {Γ : List (Item 𝓤)} (ls : List Local) {Kt : Env 𝓤 H → Goal 𝓤 H} → ((bs : Blocks ls) → Seq K 𝓛 (Locals (env_of ls bs) [] ∷ Γ) (Kt (env_of ls bs))) → Seq K 𝓛 Γ (allocs ls Kt)
   unfolding locals
   allocated t [] k = alloc0 t $ nothing t $ shut t [] [] $ k tt
-  allocated t (local τ h ∷ ls) k = alloc1 t (λ b. allocated t ls (λ bs. rejoined t (τ, b) (env_of ls bs) [] $ k (b, bs)))
+  allocated t {Γ = Γ} (local τ h ∷ ls) k = alloc1 t (λ b. allocated t {Γ = ‵ (cell τ b room) ∷ ‵ (fdies τ b) ∷ Γ} ls (λ bs. rejoined t (τ, b) (env_of ls bs) [] $ k (b, bs)))
 
   stored_all : K → {Γ : List (Item 𝓤)} {g : Goal 𝓤 H} (E : Env 𝓤 H) (vs : List Val) → Fits E vs → Seq K 𝓛 (Locals E (values vs) ∷ Γ) g → Seq K 𝓛 (Locals E [] ∷ Γ) (passes E vs g)
   stored_all t E [] fs s = pass0 t $ s
   stored_all t [] (v ∷ vs) fs s = absurd fs
-  stored_all t (e ∷ E) (v ∷ vs) fs s = parted t e E [] $ pass1 t (init t 1 refl fs.0) $ stored_all t E vs fs.1 (rejoined t e E (value v ∷ values vs) $ s)
+  stored_all t {Γ = Γ} (e ∷ E) (v ∷ vs) fs s = parted t e E [] $ pass1 t (init t 1 refl fs.0) $ stored_all t {Γ = ‵ (cell e.0 e.1 (value v)) ∷ ‵ (fdies e.0 e.1) ∷ Γ} E vs fs.1 (rejoined t e E (value v ∷ values vs) $ s)
 
   params_stored : K → {Γ : List (Item 𝓤)} {g : Goal 𝓤 H} (E : Env 𝓤 H) (vs : List Val) → Arguments E vs → Seq K 𝓛 (Locals E (room ∷ values vs) ∷ Γ) g → Seq K 𝓛 (Locals E [] ∷ Γ) (params' E vs g)
   params_stored t [] vs fs s = absurd fs

@@ -8,7 +8,7 @@
 --     token_in, last_in        the token of 'j goes back, and what is left in k
 -- Assumes nothing.
 use Rattle.std.specs.Prelude.{◌≡◌, refl, ℕ, zero, suc, Bool, true, false, ◌&&◌, List, [], ◌∷◌, ◌++◌, T}
-use Rattle.std.proofs.Common.{ap, ap₂, subst}
+use Rattle.std.proofs.Common.{sym, ap, ap₂, subst}
 use seplogic.Ra.Ura.{Ura}
 use mir.Syntax.{named}
 use base.Logic.{SProp, ent, sep, id⊢, via, comm∗, assoc∗, assoc', mono∗, mono_l, mono_r}
@@ -17,8 +17,8 @@ use types.Logic.{Logic, sem}
 use contract.Lifetimes.{Lfts, Shares, Within, lft_at, toks}
 use denote.RattleType.{Denots, owns}
 use denote.Laws.{Is, Ises, Are, valss}
-use denote.Ref.{MutRef, shr_vals}
-use denote.Slice.{MutSlice, ShrSlice, shr_slice_vals}
+use denote.Ref.{MutRef, mut_vals}
+use denote.Slice.{MutSlice, ShrSlice, shr_slice_vals, mut_slice_vals}
 use denote.Exit.{yes, Last, left}
 use denote.Signature.{types_at}
 use denote.Triple.End.{all, Fins, lasts_of}
@@ -172,23 +172,23 @@ module _ (n j : ℕ) where
     own_same number d x = refl
     own_same (copied D L cs) d x = refl
     own_same (shared i ok R) d x = ap (λ (ι : Lft). (ShrSlice (named i) ι R).own_val x (shr_slice_vals x)) (other_lft n i j ok oj κ κs d)
-    own_same (lent i ok R) d x = ap (λ (ι : Lft). (MutSlice (named i) ι R).own_val x (shr_slice_vals x)) (other_lft n i j ok oj κ κs d)
-    own_same (lent_one i ok R) d x = ap (λ (ι : Lft). (MutRef (named i) ι R).own_val x (shr_vals x)) (other_lft n i j ok oj κ κs d)
+    own_same (lent i ok R) d x = ap (λ (ι : Lft). (MutSlice (named i) ι R).own_val x (mut_slice_vals x)) (other_lft n i j ok oj κ κs d)
+    own_same (lent_one i ok R) d x = ap (λ (ι : Lft). (MutRef (named i) ι R).own_val x (mut_vals x)) (other_lft n i j ok oj κ κs d)
 
     owns_same : (ks : List (Kind n)) → T (asides ks) → (a : Denots (types_at (slots ks) κs)) → Owns κs ks a ≡ Owns κs' ks (agains ks a)
     owns_same [] d a = refl
     owns_same (k ∷ ks) d a = ap₂ fsep (own_same k (both (aside k) (asides ks) d).0 a.0) (owns_same ks (both (aside k) (asides ks) d).1 a.1)
 
-    left_same : (k : Kind n) (x : ((slot k).row κs).Denot) (w : LeftIn κs' k (again k x)) → Left κs' k (again k x) w ≡ Left κs k x (left_back k x w)
-    left_same number x w = refl
-    left_same (copied D L cs) x w = refl
-    left_same (shared i ok R) x w = refl
-    left_same (lent i ok R) x w = refl
-    left_same (lent_one i ok R) x w = refl
+    left_same : (k : Kind n) → T (aside k) → (x : ((slot k).row κs).Denot) (w : LeftIn κs' k (again k x)) → Left κs' k (again k x) w ≡ Left κs k x (left_back k x w)
+    left_same number d x w = refl
+    left_same (copied D L cs) d x w = refl
+    left_same (shared i ok R) d x w = refl
+    left_same (lent i ok R) d x w = ap (λ (ι : Lft). left ((MutSlice (named i) ι R).exit yes) x w) (sym (other_lft n i j ok oj κ κs d))
+    left_same (lent_one i ok R) d x w = ap (λ (ι : Lft). left ((MutRef (named i) ι R).exit yes) x w) (sym (other_lft n i j ok oj κ κs d))
 
-    lefts_same : (ks : List (Kind n)) (a : Denots (types_at (slots ks) κs)) (ws : LeftsIn κs' ks (agains ks a)) → Lefts κs' ks (agains ks a) ws ≡ Lefts κs ks a (lefts_back ks a ws)
-    lefts_same [] a ws = refl
-    lefts_same (k ∷ ks) a ws = ap₂ fsep (left_same k a.0 ws.0) (lefts_same ks a.1 ws.1)
+    lefts_same : (ks : List (Kind n)) → T (asides ks) → (a : Denots (types_at (slots ks) κs)) (ws : LeftsIn κs' ks (agains ks a)) → Lefts κs' ks (agains ks a) ws ≡ Lefts κs ks a (lefts_back ks a ws)
+    lefts_same [] d a ws = refl
+    lefts_same (k ∷ ks) d a ws = ap₂ fsep (left_same k (both (aside k) (asides ks) d).0 a.0 ws.0) (lefts_same ks (both (aside k) (asides ks) d).1 a.1 ws.1)
 
     -- k' in place of k
     module _ (k k' : Kind n) (post : List (Kind n)) where
@@ -226,9 +226,9 @@ module _ (n j : ℕ) where
           part_replaced z [] d a = out_of 𝓤 ⟦ Own κs k a.0 ⟧ ⟦ Owns κs' post (agains post a.1) ⟧ (id⊢ 𝓤 ⟦ Own κs' k' x ⟧) (mono_r 𝓤 ⟦ Own κs k a.0 ⟧ (is (owns_same post z a.1)))
           part_replaced z (p ∷ pre) d a = past 𝓤 ⟦ Own κs' k' x ⟧ ⟦ Own κs k (param_at κs k post pre a.1) ⟧ ⟦ Owns κs (pre ++ k ∷ post) a.1 ⟧ ⟦ Owns κs' (pre ++ k' ∷ post) (replaced pre a.1) ⟧ (is (own_same p (both (aside p) (asides pre) d).0 a.0)) (part_replaced z pre (both (aside p) (asides pre) d).1 a.1)
 
-          pub last_out : (pre : List (Kind n)) (a : Params pre) (ws : After pre a) → ent 𝓤 ⟦ Lefts κs' (pre ++ k' ∷ post) (replaced pre a) ws ⟧ (sep 𝓤 ⟦ Left κs' k' x (last_at pre a ws) ⟧ ⟦ other_lasts pre a ws ⟧)
-          last_out [] a ws = mono_r 𝓤 ⟦ Left κs' k' x ws.0 ⟧ (is (lefts_same post a.1 ws.1))
-          last_out (p ∷ pre) a ws = out_of 𝓤 ⟦ Left κs' k' x (last_at pre a.1 ws.1) ⟧ ⟦ other_lasts pre a.1 ws.1 ⟧ (is (left_same p a.0 ws.0)) (last_out pre a.1 ws.1)
+          pub last_out : T (asides post) → (pre : List (Kind n)) → T (asides pre) → (a : Params pre) (ws : After pre a) → ent 𝓤 ⟦ Lefts κs' (pre ++ k' ∷ post) (replaced pre a) ws ⟧ (sep 𝓤 ⟦ Left κs' k' x (last_at pre a ws) ⟧ ⟦ other_lasts pre a ws ⟧)
+          last_out z [] d a ws = mono_r 𝓤 ⟦ Left κs' k' x ws.0 ⟧ (is (lefts_same post z a.1 ws.1))
+          last_out z (p ∷ pre) d a ws = out_of 𝓤 ⟦ Left κs' k' x (last_at pre a.1 ws.1) ⟧ ⟦ other_lasts pre a.1 ws.1 ⟧ (is (left_same p (both (aside p) (asides pre) d).0 a.0 ws.0)) (last_out z pre (both (aside p) (asides pre) d).1 a.1 ws.1)
 
           pub last_in : (pre : List (Kind n)) (a : Params pre) (ws : After pre a) (w : LeftIn κs k (param_at κs k post pre a)) → ent 𝓤 (sep 𝓤 ⟦ Left κs k (param_at κs k post pre a) w ⟧ ⟦ other_lasts pre a ws ⟧) ⟦ Lefts κs (pre ++ k ∷ post) a (lasts_with pre a ws w) ⟧
           last_in [] a ws w = id⊢ 𝓤 (sep 𝓤 ⟦ Left κs k a.0 w ⟧ ⟦ other_lasts [] a ws ⟧)

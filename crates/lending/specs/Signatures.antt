@@ -9,16 +9,19 @@ use seplogic.Ra.Ura.{Ura}
 use mir.Syntax.{w64, named}
 use mir.Val.{Val, vint}
 use base.Logic.{SProp, ent, sep, emp, id⊢, via, mono∗, mono_l, mono_r, snd∗, emp∗}
-use base.Fml.{Fml, ftrue, fsep, feq, flft, fres}
+use base.Fml.{Lft, Fml, ftrue, fsep, feq, flft, fres, fbor}
 use types.Logic.{Logic, sem}
 use contract.Lifetimes.{Lfts, Shares, Within, toks}
 use types.Kit.{Item, Goal, Step, step, ‵, raw, mean, ⋆, push, pop, ++⊢, ⊢++}
+use types.SemTy.{Arr, Body}
+use types.Hole.{Holey}
 use denote.RattleType.{RattleType, Denots, Valss, owns}
+use denote.Memory.{mem}
 use denote.Laws.{Ises, Spells, Tellss, Lawfuls}
 use denote.Plain.{uint_Tells, uint_Lawful}
 use Rattle.std.specs.Borrow.{usize}
-use denote.Ref.{MutBor, shr_vals, mut_Tells, mut_Lawful}
-use denote.Slice.{finally, shr_slice_vals, mut_slice_Tells, shr_slice_Tells, mut_slice_Lawful, shr_slice_Lawful}
+use denote.Ref.{MutBor, mut_vals, mut_Tells, mut_Lawful}
+use denote.Slice.{finally, shr_slice_vals, mut_slice_vals, mut_slice_Tells, shr_slice_Tells, mut_slice_Lawful, shr_slice_Lawful}
 use denote.Exit.{yes, Exit, unchanged, Last, left}
 use denote.Signature.{Slot, Signature, plain, shr_slice_of, mut_slice_of, mut_ref_to, meet_at, types_at}
 use denote.Struct.Declared.{Declared, row}
@@ -50,8 +53,8 @@ module _ {n : ℕ} where
     spelled number x = vint w64 x ∷ []
     spelled (copied D L cs) x = LL.vals D L x
     spelled (shared j ok R) x = shr_slice_vals x
-    spelled (lent j ok R) x = shr_slice_vals x
-    spelled (lent_one j ok R) x = shr_vals x
+    spelled (lent j ok R) x = mut_slice_vals x
+    spelled (lent_one j ok R) x = mut_vals x
 
     abbrev pub spells : (ks : List (Kind n)) → Spells (types_at (slots ks) κs)
     spells [] = tt
@@ -80,12 +83,12 @@ signed n ks R = record { lifetimes = n; outlives = []; params = slots ks; result
 abbrev pub ended : (n : ℕ) → List (Kind n) → Slot n → Ended
 ended n ks R = record { signature = signed n ks R; kept = all yes (slots ks) }
 
--- what a call leaves in a slice, or behind a reference
-abbrev pub last : (R : RattleType) → MutBor (List R.Denot) → List R.Denot → Fml
-last R x w = fsep (finally R x.ghost_name w) (feq ℕ (length w) (length x.now))
+-- what a call leaves in a slice that was lent for κ, or behind a reference: its last value, and the borrow, closed
+abbrev pub last : Lft → (R : RattleType) → MutBor (List R.Denot) → List R.Denot → Fml
+last κ R x w = fsep (fsep (finally R x.ghost_name w) (feq ℕ (length w) (length x.now))) (fbor κ (Body (Arr (Holey (mem R)) (length x.now)) x.ref_ptr.0 x.ref_ptr.1 x.ghost_name))
 
-abbrev pub last_one : (R : RattleType) → MutBor R.Denot → R.Denot → Fml
-last_one R x w = fres x.ghost_name (R.coded.code w)
+abbrev pub last_one : Lft → (R : RattleType) → MutBor R.Denot → R.Denot → Fml
+last_one κ R x w = fsep (fres x.ghost_name (R.coded.code w)) (fbor κ (Body (mem R) x.ref_ptr.0 x.ref_ptr.1 x.ghost_name))
 
 -- or in what can be copied
 nothing_left : {X : Type 0} (e : Exit X) → e ≡ unchanged → (x : X) (w : Last e x) → left e x w ≡ ftrue
@@ -106,8 +109,8 @@ module _ {M : Type 1} {𝓤 : Ura M} where
     lasts (number ∷ ks) a ws = lasts ks a.1 ws.1
     lasts (copied D L cs ∷ ks) a ws = lasts ks a.1 ws.1
     lasts (shared j ok R ∷ ks) a ws = lasts ks a.1 ws.1
-    lasts (lent j ok R ∷ ks) a ws = ‵ (last R a.0 ws.0) ∷ lasts ks a.1 ws.1
-    lasts (lent_one j ok R ∷ ks) a ws = ‵ (last_one R a.0 ws.0) ∷ lasts ks a.1 ws.1
+    lasts (lent j ok R ∷ ks) a ws = ‵ (last (meet_at n (j ∷ []) ok κs) R a.0 ws.0) ∷ lasts ks a.1 ws.1
+    lasts (lent_one j ok R ∷ ks) a ws = ‵ (last_one (meet_at n (j ∷ []) ok κs) R a.0 ws.0) ∷ lasts ks a.1 ws.1
 
 module _ {M : Type 1} {𝓤 : Ura M} (𝓛 : Logic 𝓤) where
   -- an entry more, on either side
@@ -140,13 +143,13 @@ module _ {M : Type 1} {𝓤 : Ura M} (𝓛 : Logic 𝓤) where
     abbrev said : (ks : List (Kind n)) (a : Denots (types_at (slots ks) κs)) → Left ks a → SProp 𝓤
     said ks a ws = sem 𝓛 (lasts_of κs (slots ks) (all yes (slots ks)) a ws)
 
-    pub lasts_of : (ks : List (Kind n)) (a : Denots (types_at (slots ks) κs)) (ws : Left ks a) → ent 𝓤 (said ks a ws) (⋆ 𝓛 (lasts κs ks a ws))
-    lasts_of [] a ws = id⊢ 𝓤 (emp 𝓤)
-    lasts_of (number ∷ ks) a ws = via 𝓤 (said ks a.1 ws.1) (snd∗ 𝓤 (emp 𝓤) (said ks a.1 ws.1)) (lasts_of ks a.1 ws.1)
-    lasts_of (copied D L cs ∷ ks) a ws = via 𝓤 (said ks a.1 ws.1) (snd∗ 𝓤 (sem 𝓛 (left ((row D).exit yes) a.0 ws.0)) (said ks a.1 ws.1)) (lasts_of ks a.1 ws.1)
-    lasts_of (shared j ok R ∷ ks) a ws = via 𝓤 (said ks a.1 ws.1) (snd∗ 𝓤 (emp 𝓤) (said ks a.1 ws.1)) (lasts_of ks a.1 ws.1)
-    lasts_of (lent j ok R ∷ ks) a ws = out (‵ (last R a.0 ws.0)) (lasts κs ks a.1 ws.1) _ (lasts_of ks a.1 ws.1)
-    lasts_of (lent_one j ok R ∷ ks) a ws = out (‵ (last_one R a.0 ws.0)) (lasts κs ks a.1 ws.1) _ (lasts_of ks a.1 ws.1)
+    pub lasts_of_law : (ks : List (Kind n)) (a : Denots (types_at (slots ks) κs)) (ws : Left ks a) → ent 𝓤 (said ks a ws) (⋆ 𝓛 (lasts κs ks a ws))
+    lasts_of_law [] a ws = id⊢ 𝓤 (emp 𝓤)
+    lasts_of_law (number ∷ ks) a ws = via 𝓤 (said ks a.1 ws.1) (snd∗ 𝓤 (emp 𝓤) (said ks a.1 ws.1)) (lasts_of_law ks a.1 ws.1)
+    lasts_of_law (copied D L cs ∷ ks) a ws = via 𝓤 (said ks a.1 ws.1) (snd∗ 𝓤 (sem 𝓛 (left ((row D).exit yes) a.0 ws.0)) (said ks a.1 ws.1)) (lasts_of_law ks a.1 ws.1)
+    lasts_of_law (shared j ok R ∷ ks) a ws = via 𝓤 (said ks a.1 ws.1) (snd∗ 𝓤 (emp 𝓤) (said ks a.1 ws.1)) (lasts_of_law ks a.1 ws.1)
+    lasts_of_law (lent j ok R ∷ ks) a ws = out (‵ (last (meet_at n (j ∷ []) ok κs) R a.0 ws.0)) (lasts κs ks a.1 ws.1) _ (lasts_of_law ks a.1 ws.1)
+    lasts_of_law (lent_one j ok R ∷ ks) a ws = out (‵ (last_one (meet_at n (j ∷ []) ok κs) R a.0 ws.0)) (lasts κs ks a.1 ws.1) _ (lasts_of_law ks a.1 ws.1)
 
     pub of_lasts : (ks : List (Kind n)) (a : Denots (types_at (slots ks) κs)) (ws : Left ks a) → ent 𝓤 (⋆ 𝓛 (lasts κs ks a ws)) (said ks a ws)
     of_lasts [] a ws = id⊢ 𝓤 (emp 𝓤)
@@ -154,8 +157,8 @@ module _ {M : Type 1} {𝓤 : Ura M} (𝓛 : Logic 𝓤) where
     of_lasts (copied D L cs ∷ ks) a ws = subst (λ (P : Fml). ent 𝓤 (⋆ 𝓛 (lasts κs ks a.1 ws.1)) (sep 𝓤 (sem 𝓛 P) (said ks a.1 ws.1))) (sym (nothing_left ((row D).exit yes) (LL.still D cs yes) a.0 ws.0))
         (via 𝓤 (said ks a.1 ws.1) (of_lasts ks a.1 ws.1) (emp∗ 𝓤 (said ks a.1 ws.1)))
     of_lasts (shared j ok R ∷ ks) a ws = via 𝓤 (said ks a.1 ws.1) (of_lasts ks a.1 ws.1) (emp∗ 𝓤 (said ks a.1 ws.1))
-    of_lasts (lent j ok R ∷ ks) a ws = back (‵ (last R a.0 ws.0)) (lasts κs ks a.1 ws.1) _ (of_lasts ks a.1 ws.1)
-    of_lasts (lent_one j ok R ∷ ks) a ws = back (‵ (last_one R a.0 ws.0)) (lasts κs ks a.1 ws.1) _ (of_lasts ks a.1 ws.1)
+    of_lasts (lent j ok R ∷ ks) a ws = back (‵ (last (meet_at n (j ∷ []) ok κs) R a.0 ws.0)) (lasts κs ks a.1 ws.1) _ (of_lasts ks a.1 ws.1)
+    of_lasts (lent_one j ok R ∷ ks) a ws = back (‵ (last_one (meet_at n (j ∷ []) ok κs) R a.0 ws.0)) (lasts κs ks a.1 ws.1) _ (of_lasts ks a.1 ws.1)
 
 -- two assertions spread out into entries, and gathered again
 module _ {M : Type 1} {𝓤 : Ura M} {K : Type 0} (𝓛 : Logic 𝓤) {G : Goal 𝓤 𝓛.H} (Δ Δ' Γ : List (Item 𝓤)) (P Q : SProp 𝓤) where

@@ -10,8 +10,8 @@ use Rattle.std.specs.Prelude.{◌≡◌, refl, ℕ, zero, ◌<◌, ◌^◌, List
 use Rattle.std.proofs.Common.{sym, ap, subst}
 use Rattle.std.proofs.Math.Option.{some}
 use seplogic.Ra.Ura.{Ura}
-use seplogic.Ra.TreeShare.{full_share}
-use mir.Syntax.{Ty, Name, w64, field, deref, place, Opd as Operand, copy, int_big, rv_opd, addr_of, aggregate, Body, seq, assign, call}
+use base.Fraction.{full_share}
+use mir.Syntax.{Ty, Callee, w64, field, deref, place, Opd as Operand, copy, int_big, rv_opd, addr_of, aggregate, Body, seq, assign, call}
 use mir.Val.{Val, vint, vptr, Fits, WT, has_ty, bits}
 use base.Logic.{id⊢, via, guard_i}
 use prog.Memory.{field_of}
@@ -108,7 +108,7 @@ module _ {M : Type 1} {𝓤 : Ura M} {𝓛 : Logic 𝓤} {K : Type 0} {E : Env �
   gives t {i} {k} e os = and_then t (load t (from t (stop t)) (look_in t 1 (local_part t k e))) os
 
   -- the result's value is spelled out
-  pub calls : K → {C : Calls 𝓤 H} {Λ : Loops 𝓤 H} {q : Post 𝓤 H} {rest : Body} {f : Name} {xs : List Operand} {i : ℕ} → FmC 𝓤 H 𝓛.laws C → (S : Signature) (s : Spec 𝓤 S) → Triple 𝓤 (C f) (triple_of 𝓛 S s) → (y : (triple_of 𝓛 S s).Ghost)
+  pub calls : K → {C : Calls 𝓤 H} {Λ : Loops 𝓤 H} {q : Post 𝓤 H} {rest : Body} {f : Callee} {xs : List Operand} {i : ℕ} → FmC 𝓤 H 𝓛.laws C → (S : Signature) (s : Spec 𝓤 S) → Triple 𝓤 (C f) (triple_of 𝓛 S s) → (y : (triple_of 𝓛 S s).Ghost)
       → Opds K 𝓛 (raw ((triple_of 𝓛 S s).pre y) ∷ Locals E hs ∷ Γ) E xs ((triple_of 𝓛 S s).args y) → (L : Spelling 𝓛 (type_at S.result y.0.0)) → ((r : Res S y.0.0) → Typed (type_at S.result y.0.0).mir (L.spell r ∷ []) → T (takes E hs i (L.spell r)) × WT (L.spell r))
       → ((r : Res S y.0.0) → Is (type_at S.result y.0.0) r (L.spell r ∷ [])
       → Seq K 𝓛 (Locals E (set_at i (value (L.spell r)) hs) ∷ raw (alive 𝓛 S y.0.0 y.0.1) ∷ raw ((s y.0.0 y.0.3).ensures y.1 r) ∷ ‵ ((type_at S.result y.0.0).own_val r (L.spell r ∷ [])) ∷ Γ) (runs C Λ E rest q))
