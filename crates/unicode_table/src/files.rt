@@ -1,7 +1,10 @@
 // The files that the arguments name, in the parts that the system hands over.
-ghost use Rattle.std.specs.Prelude.{◌<◌, ◌≤◌};
+ghost use Rattle.std.specs.Prelude.{◌<◌, ◌≤◌, length};
 ghost use Rattle.unicode_table.specs.Files.{PartRead, PartsRead, FileRead, AllRead};
 
+use std::fs::File;
+use std::io;
+use std::io::Read;
 use unicode_io::reading::{Reading, begin, end_file, read_part};
 
 // What was read, whether the file has more, and whether the system failed.
@@ -12,26 +15,69 @@ pub(crate) struct Reach {
     pub(crate) failed: bool,
 }
 
+// Says on standard error what failed, and why.
+fn fail(rt: &HostRuntime, path: &str, error: &io::Error) {
+    if eprintln!(rt; "{path}: {error}").is_err() {
+        return;
+    }
+}
+
+// How many bytes the system handed over, and whether it failed.
+#[derive(Clone, Copy)]
+struct Taken {
+    count: usize,
+    failed: bool,
+}
+
+fn take_part(rt: &HostRuntime, file: &mut File, path: &str, buf: &mut [u8]) -> Taken
+    ensures { result.count ≤ length buf.new }
+{
+    match file.read(buf) {
+        Ok(n) => Taken {
+            count: n,
+            failed: false,
+        },
+        Err(error) => {
+            fail(rt, path, &error);
+            Taken {
+                count: 0,
+                failed: true,
+            }
+        }
+    }
+}
+
 // One part more; the file has ended where it is empty.
-fn more(cells: &mut [u32], fd: i32, path: &[u8], file: usize, before: Reading) -> Reach
+fn more(
+    rt: &HostRuntime,
+    cells: &mut [u32],
+    opened: &mut File,
+    path: &str,
+    file: usize,
+    before: Reading,
+) -> Reach
     ensures { PartRead file before cells.old cells.new result }
 {
-    let mut buf = io::large_buffer();
-    let got = libc::read(fd, &mut buf);
-    if got < 0 {
-        os::fail(path);
-    }
-    let n = io::count(got, &buf);
+    let mut buf = [0u8; 65536];
+    let part = take_part(rt, opened, path, &mut buf);
+    let n = part.count;
     let reading = read_part(cells, file, before, &buf[..n]);
     Reach {
         reading: reading,
         on: 0 < n,
-        failed: got < 0,
+        failed: part.failed,
     }
 }
 
 // A file that is open. A proved loop has to end, so it counts its turns down, from a number that no run uses up.
-fn read_open(cells: &mut [u32], fd: i32, path: &[u8], file: usize, before: Reading) -> Reach
+fn read_open(
+    rt: &HostRuntime,
+    cells: &mut [u32],
+    opened: &mut File,
+    path: &str,
+    file: usize,
+    before: Reading,
+) -> Reach
     ensures { PartsRead file before cells.old cells.new result }
 {
     let mut state = Reach {
@@ -42,7 +88,7 @@ fn read_open(cells: &mut [u32], fd: i32, path: &[u8], file: usize, before: Readi
     let mut turns: usize = usize::MAX;
     while 0 < turns {
         if state.on {
-            state = more(cells, fd, path, file, state.reading);
+            state = more(rt, cells, opened, path, file, state.reading);
             turns -= 1;
         } else {
             return state;
@@ -51,36 +97,37 @@ fn read_open(cells: &mut [u32], fd: i32, path: &[u8], file: usize, before: Readi
     state
 }
 
-// The file that argument `file + 1` names.
-fn read_file(cells: &mut [u32], file: usize, before: Reading) -> Reach
+// The file at a path, the one of that number.
+fn read_file(rt: &HostRuntime, cells: &mut [u32], path: &str, file: usize, before: Reading) -> Reach
     requires { file < 4 }
     ensures { FileRead file before cells.old cells.new result }
 {
-    let mut path = io::buffer();
-    let n = os::arg(file + 1, &mut path);
-    let fd = os::open_read(&path[..n]);
-    if fd < 0 {
-        os::fail(&path[..n]);
-        return Reach {
-            reading: before,
-            on: false,
-            failed: true,
-        };
-    }
-    let r = read_open(cells, fd, &path[..n], file, before);
-    libc::close(fd);
-    let reading = end_file(cells, file, r.reading);
-    Reach {
-        reading: reading,
-        on: false,
-        failed: r.failed,
+    match File::open(rt, path) {
+        Ok(opened) => {
+            let mut opened = opened;
+            let r = read_open(rt, cells, &mut opened, path, file, before);
+            let reading = end_file(cells, file, r.reading);
+            Reach {
+                reading: reading,
+                on: false,
+                failed: r.failed,
+            }
+        }
+        Err(error) => {
+            fail(rt, path, &error);
+            Reach {
+                reading: before,
+                on: false,
+                failed: true,
+            }
+        }
     }
 }
 
-// All files, as many as there are arguments after the program's name.
-pub(crate) fn read_all(cells: &mut [u32], count: usize) -> Reach
-    requires { count ≤ 4 }
-    ensures { AllRead count cells.old cells.new result }
+// All files, in the order of their paths.
+pub(crate) fn read_all(rt: &HostRuntime, cells: &mut [u32], paths: &[String]) -> Reach
+    requires { length paths.now ≤ 4 }
+    ensures { AllRead (length paths.now) cells.old cells.new result }
 {
     let mut state = Reach {
         reading: begin(),
@@ -88,11 +135,11 @@ pub(crate) fn read_all(cells: &mut [u32], count: usize) -> Reach
         failed: false,
     };
     let mut file: usize = 0;
-    while file < count {
+    while file < paths.len() {
         if state.failed {
             return state;
         }
-        state = read_file(cells, file, state.reading);
+        state = read_file(rt, cells, paths[file].as_str(), file, state.reading);
         file += 1;
     }
     state

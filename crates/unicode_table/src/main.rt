@@ -3,20 +3,21 @@
 // unicode_table GraphemeBreakProperty EastAsianWidth emoji-data [DerivedCoreProperties]: the rows of equal class, width and, with the fourth
 // file, conjunct value; `refused 13` where a line is of another form, `refused 14` where two ranges of one property overlap.
 #![tactic(auto)]
+
 mod files;
 mod table;
 
+ghost use Rattle.std.specs.Prelude.{length};
 ghost use Rattle.unicode_table.specs.Printed.{Begun, Made};
 
-use libc::STDERR_FILENO;
+use std::{env, io};
 use unicode_io::cells::classify;
 use unicode_io::reading::refusal_of;
 
-fn usage() {
-    io::write_all(
-        STDERR_FILENO,
-        b"usage: unicode_table GraphemeBreakProperty EastAsianWidth emoji-data [DerivedCoreProperties]\n",
-    );
+fn usage(rt: &HostRuntime) -> io::Result<()> {
+    eprintln!(rt;
+        "usage: unicode_table GraphemeBreakProperty EastAsianWidth emoji-data [DerivedCoreProperties]"
+    )
 }
 
 // Whether the files could be read, and whether the system took all that was printed.
@@ -26,12 +27,12 @@ struct Outcome {
     taken: bool,
 }
 
-// The table that so many files make, or a refusal.
-fn make(cells: &mut [u32], count: usize) -> Outcome
-    requires { Begun cells.old count }
-    ensures { Made count result }
+// The table that the files make, or a refusal.
+fn make(rt: &HostRuntime, cells: &mut [u32], paths: &[String]) -> Outcome
+    requires { Begun cells.old (length paths.now) }
+    ensures { Made (length paths.now) result }
 {
-    let r = files::read_all(cells, count);
+    let r = files::read_all(rt, cells, paths);
     if r.failed {
         return Outcome {
             read: false,
@@ -42,26 +43,25 @@ fn make(cells: &mut [u32], count: usize) -> Outcome
     if 0 < refusal {
         return Outcome {
             read: true,
-            taken: table::refuse(refusal),
+            taken: table::refuse(rt, refusal),
         };
     }
     classify(cells);
     Outcome {
         read: true,
-        taken: table::print(cells),
+        taken: table::print(rt, cells),
     }
 }
 
-fn main() {
-    let count = os::arg_count();
-    if count < 4 {
-        usage();
-        return;
+fn main(rt: HostRuntime) -> io::Result<()> {
+    let mut paths = Vec::new(rt.alloc());
+    for argument in env::args(&rt)?.skip(1) {
+        paths.push(argument)?;
     }
-    if 5 < count {
-        usage();
-        return;
+    if paths.len() < 3 || 4 < paths.len() {
+        return usage(&rt);
     }
     let mut cells = [0u32; 1114112];
-    make(&mut cells, count - 1);
+    make(&rt, &mut cells, &paths);
+    Ok(())
 }

@@ -4,7 +4,8 @@ ghost use Rattle.unicode_io.specs.Rows.{rows_from};
 ghost use Rattle.unicode_io.specs.Output.{table_text, refusal};
 ghost use Rattle.unicode_table.specs.Printed.{Handed, RowHanded};
 
-use libc::STDOUT_FILENO;
+use std::io;
+use std::io::Write;
 use unicode_io::output::{push_refusal, push_row};
 use unicode_io::rows::{count_rows, next_row};
 
@@ -15,30 +16,42 @@ struct Turn {
     taken: bool,
 }
 
+// Whether the system took the bytes; where it did not, that is said on standard error.
+fn given(rt: &HostRuntime, out: &[u8]) -> bool {
+    match io::writer(rt).write_all(out) {
+        Ok(()) => true,
+        Err(error) => {
+            if eprintln!(rt; "standard output: {error}").is_err() {
+                return false;
+            }
+            false
+        }
+    }
+}
+
 // The first n bytes, handed to the system; where it does not take them, that is said.
-fn written(out: &[u8], n: usize) -> bool
+fn written(rt: &HostRuntime, out: &[u8], n: usize) -> bool
     ensures { Handed (take n out.now) result }
 {
     if n <= out.len() {
-        if io::write_all(STDOUT_FILENO, &out[..n]) {
+        if given(rt, &out[..n]) {
             return true;
         }
-        os::fail(b"standard output");
         return false;
     }
     false
 }
 
-pub(crate) fn refuse(number: usize) -> bool
+pub(crate) fn refuse(rt: &HostRuntime, number: usize) -> bool
     ensures { Handed (refusal number) result }
 {
     let mut out = [0u8; 64];
     let n = push_refusal(&mut out, 0, number);
-    written(&out, n)
+    written(rt, &out, n)
 }
 
 // Row i, the first from a place on.
-fn print_row(kinds: &[u32], total: usize, i: usize, place: usize) -> Turn
+fn print_row(rt: &HostRuntime, kinds: &[u32], total: usize, i: usize, place: usize) -> Turn
     ensures { RowHanded kinds.now total i place result }
 {
     let mut out = [0u8; 256];
@@ -46,19 +59,19 @@ fn print_row(kinds: &[u32], total: usize, i: usize, place: usize) -> Turn
     let n = push_row(&mut out, 0, total, i, row);
     Turn {
         end: row.end,
-        taken: written(&out, n),
+        taken: written(rt, &out, n),
     }
 }
 
 // All rows, as far as the system takes them.
-pub(crate) fn print(kinds: &[u32]) -> bool
+pub(crate) fn print(rt: &HostRuntime, kinds: &[u32]) -> bool
     ensures { Handed (table_text (rows_from 0 kinds.now)) result }
 {
     let total = count_rows(kinds);
     let mut i: usize = 0;
     let mut place: usize = 0;
     while i < total {
-        let r = print_row(kinds, total, i, place);
+        let r = print_row(rt, kinds, total, i, place);
         if r.taken {
             place = r.end;
             i += 1;

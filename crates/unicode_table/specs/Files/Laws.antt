@@ -1,7 +1,7 @@
 -- Part by part, and file by file.
-use Rattle.std.specs.Prelude.{◌≡◌, ℕ, zero, suc, ◌+◌, ◌-◌, ◌≤◌, ◌<◌, Bool, cond, length, take, replicate, ltb}
+use Rattle.std.specs.Prelude.{◌≡◌, ℕ, suc, ◌+◌, ◌-◌, ◌≤◌, ◌<◌, Bool, cond, length, take, replicate, ltb}
 use Rattle.std.proofs.Math.Path.{refl, ap}
-use Rattle.std.proofs.Common.{sym, ap₂, ◌∙◌, add-one, arith, length-append, lt-ltb}
+use Rattle.std.proofs.Common.{sym, ap₂, ◌∙◌, arith, length-append, lt-ltb}
 use Rattle.std.proofs.Math.Bool.{true, false}
 use mathlib.Core.List.{List, [], ◌∷◌, ◌++◌, append_assoc}
 use Rattle.std.proofs.lemmas.List.{length-replicate}
@@ -10,7 +10,7 @@ use Rattle.unicode_io.specs.Reading.{State, state_of, reading, bytes_read, file_
 use Rattle.unicode_io.specs.Reading.Laws.{in_parts}
 use Rattle.unicode_io.specs.declared.reading.Reading.{Reading}
 use Rattle.unicode_table.specs.declared.files.Reach.{Reach}
-use Rattle.unicode_table.specs.Files.{bytes_of, PartRead, PartsRead, Whole, FileRead, files_read, Files, AllRead}
+use Rattle.unicode_table.specs.Files.{bytes_of, PartRead, PartsRead, FileRead, files_read, Files, AllRead}
 
 abbrev reach : Reading → Bool → Bool → Reach
 reach r on failed = record { reading = r; on = on; failed = failed }

@@ -1,12 +1,11 @@
 -- Text by text, and the rows of a table one after the other.
-use Rattle.std.specs.Prelude.{◌≡◌, refl, ◌⊎◌, ℕ, zero, suc, ◌+◌, ◌-◌, ◌≤◌, ◌<◌, Bool, true, false, cond, List, [], ◌∷◌, ◌++◌, map, length, take, drop, get_or, replicate, eqb}
-use Rattle.std.proofs.Common.{sym, ap, subst, ◌∙◌, inl, inr, ⊎_elim, add-one, arith, append-nil, append_assoc, eq-eqb, ne_eqb, eqb-true}
+use Rattle.std.specs.Prelude.{◌≡◌, refl, ℕ, suc, ◌+◌, ◌≤◌, ◌<◌, Bool, true, false, List, [], ◌∷◌, ◌++◌, map, length, take, drop, replicate}
+use Rattle.std.proofs.Common.{sym, ap, subst, ◌∙◌, add-one, arith, append-nil, append_assoc}
 use Rattle.std.proofs.lemmas.List.{length-replicate, get_or-replicate}
-use Rattle.std.proofs.lemmas.Bool.{eqb-false}
 use Rattle.buffer.specs.Sink.{sink, emit}
 use Rattle.unicode_io.specs.Line.{empty}
 use Rattle.unicode_io.specs.Cells.{kind_of}
-use Rattle.unicode_io.specs.Reading.{State, state_of, reading}
+use Rattle.unicode_io.specs.Reading.{state_of, reading}
 use Rattle.unicode_io.specs.Rows.{rows_from, next_row}
 use Rattle.unicode_io.specs.Rows.Laws.{next_some, next_none, no_rows_law}
 use Rattle.unicode_io.specs.Output.{row_text, row_texts, table_text, refusal}
@@ -14,12 +13,10 @@ use Rattle.unicode_io.specs.Output.Laws.{row_length, refusal_length, text_pushed
 use Rattle.unicode_io.specs.Generator.{refusal_of}
 use Rattle.unicode_io.specs.Generator.Laws.{printed_of, answer_refused, answer_table, prints_three, prints_four}
 use Rattle.unicode_io.specs.declared.rows.Row.{Row}
-use Rattle.unicode_io.specs.declared.reading.Reading.{Reading}
 use Rattle.unicode_table.specs.Files.{files_read, Files, AllRead}
 use Rattle.unicode_table.specs.Printed.{Handed, RowHanded, generated, Begun, Printed, Made}
 use Rattle.unicode_table.specs.declared.files.Reach.{Reach}
 use Rattle.unicode_table.specs.declared.table.Turn.{Turn}
-use Rattle.unicode_table.specs.declared.Outcome.{Outcome}
 
 never : {A : Type 0} → false ≡ true → A
 never e = absurd (let y : ◌≡◌ {A = ℕ} 0 1 = cc in omega arith)
