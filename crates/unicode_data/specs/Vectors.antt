@@ -1,7 +1,7 @@
 -- What the table of Unicode 15.0 says of some scalars, computed.
-use Rattle.std.specs.Prelude.{ℕ, ◌≡◌, refl, List, [], ◌∷◌, map}
+use Rattle.std.specs.Prelude.{◌≡◌, refl, [], ◌∷◌, map}
 use Rattle.unicode_data.specs.Classes.{class_l, class_lv, class_lvt, class_v, control, extend, extended_pictographic, other, prepend, regional_indicator, spacing_mark}
-use Rattle.unicode_data.specs.Table.{Row, row, row_of}
+use Rattle.unicode_data.specs.Table.{row, row_of}
 use Rattle.unicode_data.specs.Table150.{table150}
 
 pub rows_150 : map (row_of table150)

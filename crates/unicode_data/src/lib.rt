@@ -8,6 +8,7 @@
 // 3. `rt fmt`, `rt check unicode`: the table ascends by one computed test. `tests/unicode-table VERSION FOLDER` reads the files once more, in another way.
 // Look at the rows that differ from the version before, and at what crates/text says of ranges of scalars. Table.antt, its laws and rows.rt stay.
 #![tactic(auto)]
+
 pub mod lookup_150;
 mod rows;
 mod table_150;

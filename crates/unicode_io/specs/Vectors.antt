@@ -6,7 +6,7 @@ use Rattle.unicode_io.specs.Grammar.{entry, nothing, other_form, line_of}
 use Rattle.unicode_io.specs.Rows.{row, rows_from}
 use Rattle.unicode_io.specs.Output.{head_of, table_text, refusal}
 use Rattle.unicode_io.specs.Generator.{generated3}
-use Rattle.unicode_io.specs.Entries.{entries_from, entries_of, malformed, overlap, kind_by, kind_at}
+use Rattle.unicode_io.specs.Entries.{entries_from, entries_of, overlap, kind_by}
 use Rattle.unicode_io.specs.declared.line.Entry.{Entry}
 
 -- ---- lines: each part of the grammar, and each way to fail it

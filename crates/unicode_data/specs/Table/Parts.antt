@@ -1,9 +1,9 @@
 -- A table in parts: each is a table of its own, and a scalar is looked up in the last part whose first scalar is not above it.
-use Rattle.std.specs.Prelude.{ℕ, zero, suc, ◌+◌, ◌*◌, ◌≤◌, ◌<◌, ◌≡◌, refl, Bool, true, false, cond, ◌&&◌, List, [], ◌∷◌, ◌++◌, map, T, ltb, get_or}
+use Rattle.std.specs.Prelude.{ℕ, zero, suc, ◌≤◌, ◌<◌, ◌≡◌, refl, Bool, true, false, cond, ◌&&◌, List, [], ◌∷◌, ◌++◌, map, T, ltb, get_or}
 use Rattle.std.proofs.Common.{arith, sym, ap, ◌∙◌, lt-ltb, le-ltb, ltb-true, ltb-false}
 use Rattle.std.proofs.Math.ListN.{get_or-map}
-use Rattle.unicode_data.specs.Table.{Row, row, row_of, kind_of, kind_in, ascending, ascending_from, joined}
-use Rattle.unicode_data.specs.Table.Laws.{First, and_T, cases, first, first_back, skip, keep}
+use Rattle.unicode_data.specs.Table.{Row, row_of, kind_of, kind_in, ascending, ascending_from, joined}
+use Rattle.unicode_data.specs.Table.Laws.{and_T, cases, first, first_back, skip, keep}
 
 -- its first scalar
 unfoldable pub begins : List Row → ℕ

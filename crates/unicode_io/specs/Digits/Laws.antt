@@ -1,6 +1,6 @@
 -- The fewest digits that hold a number are its digits without the zeros in front, in any base up to 16.
-use Rattle.std.specs.Prelude.{◌≡◌, ℕ, zero, suc, ◌+◌, ◌-◌, ◌*◌, ◌/◌, ◌%◌, ◌^◌, ◌<◌, ◌≤◌, Bool, true, false, cond, ◌⊎◌, List, [], ◌∷◌, ◌++◌, length, ◌==◌, ◌≢◌, nat_lt, refl}
-use Rattle.std.proofs.Common.{sym, ap, subst, ◌∙◌, inl, inr, ⊎_elim, add-zero, div-one, div-lt_iff_lt-mul, le-div_iff_mul-le, mod-eq_of_lt, one-mul, arith, length-append, ne_eqb, ltb-true, ltb-false, leb-true, leb-false}
+use Rattle.std.specs.Prelude.{◌≡◌, ℕ, zero, suc, ◌+◌, ◌-◌, ◌*◌, ◌/◌, ◌%◌, ◌^◌, ◌<◌, ◌≤◌, Bool, true, false, cond, List, [], ◌∷◌, ◌++◌, length, ◌==◌, ◌≢◌, nat_lt, refl}
+use Rattle.std.proofs.Common.{sym, ap, subst, ◌∙◌, ⊎_elim, add-zero, div-one, div-lt_iff_lt-mul, le-div_iff_mul-le, mod-eq_of_lt, one-mul, arith, length-append, ne_eqb}
 use Rattle.std.proofs.Math.Nat.{div-eq_of_lt, div-div-eq-div-mul, one-le-pow, pow-zero, pow-succ', pow-le-pow_right, zero-mod}
 use Rattle.io.specs.Digits.{last_digits, hex_digit_ascii, IsDigitCount}
 use Rattle.unicode_io.specs.Tests.{le_or_lt}

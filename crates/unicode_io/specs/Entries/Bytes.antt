@@ -1,8 +1,8 @@
 -- Bytes to entries: what the code has read says what the entries of the file say.
-use Rattle.std.specs.Prelude.{◌≡◌, ℕ, zero, suc, ◌+◌, ◌-◌, ◌<◌, ◌≤◌, Bool, true, false, cond, ◌&&◌, ◌||◌, ◌⊎◌, List, [], ◌∷◌, ◌++◌, length, take, ◌==◌, nat_eq, nat_le, nat_lt, refl}
-use Rattle.std.proofs.Common.{sym, ap, subst, ◌∙◌, inl, inr, ⊎_elim, arith, eq-eqb, ne_eqb, eqb-true, leb-true, ltb-true}
+use Rattle.std.specs.Prelude.{◌≡◌, ℕ, ◌≤◌, Bool, true, false, cond, ◌&&◌, ◌||◌, ◌⊎◌, List, [], ◌∷◌, ◌++◌, take, ◌==◌, nat_eq, nat_le, nat_lt, refl}
+use Rattle.std.proofs.Common.{sym, ap, subst, ◌∙◌, inl, inr, ⊎_elim, arith, eqb-true, leb-true, ltb-true}
 use Rattle.std.proofs.lemmas.Bool.{eqb-false}
-use Rattle.unicode_io.specs.Tests.{never, and_left, and_right}
+use Rattle.unicode_io.specs.Tests.{never, and_right}
 use Rattle.unicode_io.specs.Names.{name_number}
 use Rattle.unicode_io.specs.Names.Laws.{names_in, name_few, name_most}
 use Rattle.unicode_io.specs.Grammar.{entry, nothing, other_form, line_of}
@@ -10,7 +10,7 @@ use Rattle.unicode_io.specs.Grammar.Laws.{line_is}
 use Rattle.unicode_io.specs.Line.{empty, with_byte, line_from, entry_of, ranged, is_scalar}
 use Rattle.unicode_io.specs.Reading.{State, state_of, reading, with_entry, line_ended, byte_read, bytes_read, taken_by_entry, fill_entry}
 use Rattle.unicode_io.specs.Reading.Laws.{ended_nothing, ended_other, ended_overlapped, ended_entry, byte_newline, byte_more}
-use Rattle.unicode_io.specs.Entries.{is_entry, meet, meets_any, overlap, malformed, entries_from}
+use Rattle.unicode_io.specs.Entries.{is_entry, meets_any, overlap, malformed, entries_from}
 use Rattle.unicode_io.specs.Entries.Steps.{Good, AllGood, Tells, tells_past, tells_entry, taken_meets}
 use Rattle.unicode_io.specs.declared.line.Number.{Number}
 use Rattle.unicode_io.specs.declared.line.Line.{Line}

@@ -1,13 +1,13 @@
 -- A cell holds what the entries say of its scalar: below 256 the values of the names, above a bit for each property that it has.
 use Rattle.std.specs.Prelude.{◌≡◌, ℕ, zero, suc, ◌+◌, ◌-◌, ◌*◌, ◌/◌, ◌%◌, ◌^◌, ◌<◌, ◌≤◌, Bool, true, false, cond, ◌&&◌, ◌||◌, List, [], ◌∷◌, ◌==◌, ◌≢◌, nat_eq, nat_le, nat_lt}
 use Rattle.std.proofs.Math.Path.{refl}
-use Rattle.std.proofs.Common.{sym, ap, ◌∙◌, arith, eq-eqb, ne_eqb, eqb-true, lt-ltb, le-ltb, le-leb, ltb-true, ltb-false, leb-true, leb-false}
+use Rattle.std.proofs.Common.{sym, ap, ◌∙◌, arith, eq-eqb, ne_eqb, eqb-true, le-ltb, leb-true}
 use Rattle.std.proofs.Math.Nat.{div-div-eq-div-mul, mod-eq_of_lt}
-use Rattle.std.proofs.lemmas.Bool.{eqb-false, lt-leb}
+use Rattle.std.proofs.lemmas.Bool.{eqb-false}
 use Rattle.unicode_io.specs.Names.{property_of, value_of}
 use Rattle.unicode_io.specs.Cells.{bit_of, is_taken, filled}
 use Rattle.unicode_io.specs.Reading.{weight_of}
-use Rattle.unicode_io.specs.Reading.Laws.{property_small, value_small, bit_most}
+use Rattle.unicode_io.specs.Reading.Laws.{property_small, value_small}
 use Rattle.unicode_io.specs.Entries.{is_entry, says, name_at}
 use Rattle.unicode_io.specs.Entries.Laws.{bit_at, bit_set, bit_others, bit_within}
 use Rattle.unicode_io.specs.declared.line.Entry.{Entry}

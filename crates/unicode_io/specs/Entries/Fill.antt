@@ -1,13 +1,13 @@
 -- What an entry fills, cell by cell, and whether it meets one before it.
-use Rattle.std.specs.Prelude.{◌≡◌, ℕ, zero, suc, ◌+◌, ◌-◌, ◌<◌, ◌≤◌, Bool, true, false, cond, ◌&&◌, ◌||◌, ◌⊎◌, List, [], ◌∷◌, ◌++◌, map, length, take, drop, ◌==◌, ◌≢◌, nat_le, slice_index}
+use Rattle.std.specs.Prelude.{◌≡◌, ℕ, zero, suc, ◌+◌, ◌-◌, ◌<◌, ◌≤◌, Bool, true, false, ◌&&◌, ◌||◌, ◌⊎◌, List, [], ◌∷◌, ◌++◌, map, length, take, drop, ◌==◌, ◌≢◌, nat_le, slice_index}
 use Rattle.std.proofs.Math.Path.{refl}
 use Rattle.std.proofs.Common.{sym, ap, ◌∙◌, inl, inr, ⊎_elim, arith}
-use borrow.Author.Tests.{eq-eqb, ne_eqb, eqb-true, eqb-false, lt-ltb, le-ltb, le-leb, lt-leb, leb-true, leb-false}
+use borrow.Author.Tests.{eq-eqb, eqb-true, le-ltb, le-leb, lt-leb, leb-true}
 use Rattle.unicode_io.specs.Tests.{never, and_left, and_right}
 use Rattle.unicode_io.specs.Names.{property_of}
 use Rattle.unicode_io.specs.Cells.{is_taken, filled, taken_in, fill, taken}
 use Rattle.unicode_io.specs.Entries.{is_entry, says, meet, meets_any}
-use Rattle.unicode_io.specs.Entries.Cell.{covered, in_range}
+use Rattle.unicode_io.specs.Entries.Cell.{covered}
 use Rattle.unicode_io.specs.declared.line.Entry.{Entry}
 
 -- ---- n cells from the a-th on

@@ -1,19 +1,17 @@
 -- Entry by entry: the code's state says what the entries say.
-use Rattle.std.specs.Prelude.{◌≡◌, ℕ, zero, suc, ◌+◌, ◌-◌, ◌<◌, ◌≤◌, Bool, true, false, cond, ◌&&◌, ◌||◌, ◌⊎◌, List, [], ◌∷◌, length, ◌==◌, nat_le, slice_index}
+use Rattle.std.specs.Prelude.{◌≡◌, ℕ, ◌<◌, ◌≤◌, Bool, true, false, ◌&&◌, ◌||◌, ◌⊎◌, List, [], ◌∷◌, length, ◌==◌, nat_le, slice_index}
 use Rattle.std.proofs.Math.Path.{refl, sym}
-use Rattle.std.proofs.Common.{ap, ◌∙◌, inl, inr, ⊎_elim, arith}
-use borrow.Author.Tests.{eq-eqb, ne_eqb, eqb-true, eqb-false, le-leb, lt-leb, leb-true, leb-false}
+use Rattle.std.proofs.Common.{◌∙◌, inl, inr, ⊎_elim, arith}
+use borrow.Author.Tests.{le-leb, lt-leb, leb-true}
 use Rattle.unicode_io.specs.Tests.{never, and_left, and_right, le_or_lt}
-use Rattle.unicode_io.specs.Names.{property_of, value_of}
+use Rattle.unicode_io.specs.Names.{property_of}
 use Rattle.unicode_io.specs.Names.Laws.{names_in}
-use Rattle.unicode_io.specs.Cells.{bit_of, is_taken, filled, fill, taken}
-use Rattle.unicode_io.specs.Line.{empty}
-use Rattle.unicode_io.specs.Reading.{State, state_of, reading, weight_of, fill_entry, taken_by_entry, with_entry}
-use Rattle.unicode_io.specs.Entries.{is_entry, says, meet, meets_any, overlap, malformed}
-use Rattle.unicode_io.specs.Entries.Cell.{covered, in_range, Holds, held_past, held_here}
-use Rattle.unicode_io.specs.Entries.Fill.{Some, Found, Rising, met_at, meets_at, fill_in, fill_out, fill_length, taken_none, taken_some}
+use Rattle.unicode_io.specs.Cells.{bit_of, is_taken, fill, taken}
+use Rattle.unicode_io.specs.Reading.{weight_of, fill_entry, taken_by_entry}
+use Rattle.unicode_io.specs.Entries.{is_entry, says, meet, meets_any}
+use Rattle.unicode_io.specs.Entries.Cell.{covered, Holds, held_past, held_here}
+use Rattle.unicode_io.specs.Entries.Fill.{Found, met_at, meets_at, fill_in, fill_out, fill_length, taken_none, taken_some}
 use Rattle.unicode_io.specs.declared.line.Entry.{Entry}
-use Rattle.unicode_io.specs.declared.reading.Reading.{Reading}
 
 -- what a line of a file can be
 pub record Good (file : ℕ) (e : Entry) : Type 0 where

@@ -1,12 +1,10 @@
 -- What the code has read and filled after the last file makes the text that is to be printed.
-use Rattle.std.specs.Prelude.{◌≡◌, ℕ, zero, suc, ◌+◌, ◌-◌, ◌*◌, ◌/◌, ◌%◌, ◌^◌, ◌<◌, ◌≤◌, Bool, true, false, cond, ◌&&◌, ◌||◌, ◌⊎◌, List, [], ◌∷◌, ◌++◌, map, length, get_or, replicate, ◌==◌, nat_eq, nat_le, slice_index, slice_index_or}
+use Rattle.std.specs.Prelude.{◌≡◌, ℕ, zero, suc, ◌+◌, ◌-◌, ◌*◌, ◌/◌, ◌%◌, ◌^◌, ◌<◌, ◌≤◌, Bool, true, false, cond, ◌||◌, List, [], ◌∷◌, ◌++◌, map, length, get_or, ◌==◌, nat_eq, nat_le, slice_index, slice_index_or}
 use Rattle.std.proofs.Math.Path.{refl, ap}
-use Rattle.std.proofs.Common.{sym, subst, ◌∙◌, inl, inr, ⊎_elim, arith, ext_get_or, eq-eqb, ne_eqb, eqb-true, leb-true, leb-false}
+use Rattle.std.proofs.Common.{sym, ◌∙◌, arith, ext_get_or, eq-eqb, ne_eqb, leb-false}
 use Rattle.std.proofs.Math.Nat.{div-div-eq-div-mul, div-eq_of_lt, zero-div}
-use Rattle.std.proofs.lemmas.List.{length-replicate, get_or-replicate}
 use Rattle.std.proofs.Math.ListN.{length-map, get_or-map}
-use Rattle.std.proofs.lemmas.Bool.{eqb-false}
-use Rattle.unicode_io.specs.Names.{property_of, value_of}
+use Rattle.unicode_io.specs.Names.{value_of}
 use Rattle.unicode_io.specs.Names.Laws.{names_in}
 use Rattle.unicode_io.specs.Grammar.{line_of}
 use Rattle.unicode_io.specs.Line.{empty, line_from, entry_of}
@@ -16,9 +14,9 @@ use Rattle.unicode_io.specs.Rows.{rows_from}
 use Rattle.unicode_io.specs.Output.{table_text, refusal}
 use Rattle.unicode_io.specs.Entries.{says, name_at, entries_from, entries_of, malformed, overlap, class_by, width_by, conjunct_by, kind_by, kind_at}
 use Rattle.unicode_io.specs.Entries.Cell.{covered, valued, Holds}
-use Rattle.unicode_io.specs.Entries.Steps.{Good, AllGood, Tells}
+use Rattle.unicode_io.specs.Entries.Steps.{AllGood}
 use Rattle.unicode_io.specs.Entries.Bytes.{Stands, file_stands, ended_line, good_of}
-use Rattle.unicode_io.specs.Generator.{refusal_of, kinds_from, table_of, answer, generated3, generated4}
+use Rattle.unicode_io.specs.Generator.{refusal_of, kinds_from, answer, generated3, generated4}
 use Rattle.unicode_io.specs.declared.line.Entry.{Entry}
 
 -- ---- from file to file

@@ -1,15 +1,15 @@
 -- The table of stages reads a line as the grammar says.
-use Rattle.std.specs.Prelude.{◌≡◌, ℕ, zero, suc, ◌+◌, ◌*◌, ◌%◌, ◌^◌, ◌<◌, ◌≤◌, Bool, true, false, cond, ◌&&◌, ◌||◌, ltb, leb, List, [], ◌∷◌, ◌++◌, length, take, replicate, ◌==◌, ◌≢◌, nat_eq, nat_le, nat_lt, slice_index, slice_set}
+use Rattle.std.specs.Prelude.{◌≡◌, ℕ, suc, ◌+◌, ◌*◌, ◌%◌, ◌^◌, ◌<◌, ◌≤◌, Bool, true, false, cond, ◌&&◌, ◌||◌, ltb, leb, List, [], ◌∷◌, ◌++◌, length, take, replicate, ◌==◌, ◌≢◌, nat_eq, nat_le, nat_lt, slice_index, slice_set}
 use Rattle.std.proofs.Math.Path.{refl, sym, ap, ap₂}
 use Rattle.std.proofs.Common.{subst, ◌∙◌, add-one, arith, append-nil, append_assoc, length-set, take-suc-set}
 use Rattle.std.proofs.Math.Nat.{pow-zero, pow-succ', pow-le-pow_right}
 use Rattle.std.proofs.Math.ListN.{length-append}
-use borrow.Author.Tests.{eqb-true, eqb-false, ltb-true, ltb-false, leb-true, leb-false, lt-ltb, le-ltb, le-leb, ne_eqb}
+use borrow.Author.Tests.{eqb-true, ltb-true, ltb-false, leb-true, leb-false, lt-ltb, le-ltb, le-leb, ne_eqb}
 use Rattle.unicode_io.specs.Tests.{never, and_left, and_right}
 use Rattle.unicode_io.specs.Names.{name_number}
 use Rattle.unicode_io.specs.Names.Laws.{long_none, spaced_none, ended_none, empty_none}
 use Rattle.unicode_io.specs.Line.{kind_of, stages, next_stage, with_digit, is_scalar, empty, at_stage, in_comment, with_low, with_high, with_name, in_name, with_byte, line_from, ranged, entry_of}
-use Rattle.unicode_io.specs.Grammar.{is_hex, hex_value, nothing, other_form, entry, uncommented, unspaced, digits_of, after_digits, value_from, scalar_of, is_number, Range, one, range, range_entry, space_before, trimmed, named, after_high, after_dot, after_low, content, line_of}
+use Rattle.unicode_io.specs.Grammar.{is_hex, hex_value, other_form, entry, uncommented, unspaced, digits_of, after_digits, value_from, scalar_of, is_number, Range, one, range, range_entry, space_before, trimmed, named, after_high, after_dot, after_low, content, line_of}
 use Rattle.unicode_io.specs.declared.line.Number.{Number}
 use Rattle.unicode_io.specs.declared.line.Line.{Line}
 use Rattle.unicode_io.specs.declared.line.Entry.{Entry}

@@ -1,13 +1,12 @@
 -- A line's bytes one by one, and what it is at its end.
-use Rattle.std.specs.Prelude.{◌≡◌, ℕ, zero, suc, ◌+◌, ◌-◌, ◌*◌, ◌%◌, ◌<◌, ◌≤◌, Bool, true, false, cond, ◌&&◌, ◌||◌, leb, List, [], ◌∷◌, length, take, ◌==◌, ◌≢◌, nat_le, slice_index, refl}
-use Rattle.std.proofs.Common.{sym, ap, ◌∙◌, arith, take_all, eq-eqb, ne_eqb, lt-ltb, le-ltb, le-leb}
-use Rattle.std.proofs.lemmas.Bool.{lt-leb}
+use Rattle.std.specs.Prelude.{◌≡◌, ℕ, ◌+◌, ◌*◌, ◌%◌, ◌<◌, ◌≤◌, Bool, true, false, cond, ◌&&◌, leb, List, length, take, ◌==◌, ◌≢◌, nat_le, slice_index, refl}
+use Rattle.std.proofs.Common.{sym, ap, ◌∙◌, arith, eq-eqb, ne_eqb, lt-ltb, le-leb}
 use Rattle.buffer.specs.Conditions.{on_true, on_false}
 use Rattle.buffer.specs.Numbers.{smaller_of}
 use Rattle.buffer.specs.Numbers.Parts.{take_smaller}
 use Rattle.unicode_io.specs.Names.{name_number}
-use Rattle.unicode_io.specs.Grammar.{is_hex, hex_value, nothing, other_form, entry}
-use Rattle.unicode_io.specs.Line.{kind_of, stages, next_stage, with_digit, is_scalar, at_stage, in_comment, with_low, with_high, with_name, in_name, with_byte, ranged, entry_of}
+use Rattle.unicode_io.specs.Grammar.{is_hex, hex_value, nothing, other_form}
+use Rattle.unicode_io.specs.Line.{kind_of, stages, next_stage, with_digit, at_stage, with_low, with_high, with_name, in_name, with_byte, ranged, entry_of}
 use Rattle.unicode_io.specs.declared.line.Number.{Number}
 use Rattle.unicode_io.specs.declared.line.Line.{Line}
 use Rattle.unicode_io.specs.declared.line.Entry.{Entry}

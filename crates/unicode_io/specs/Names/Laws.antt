@@ -1,13 +1,12 @@
 -- The number of a word among names, which the code finds byte by byte; no file has more than 22 names.
-use Rattle.std.specs.Prelude.{◌≡◌, ℕ, zero, suc, ◌+◌, ◌-◌, ◌*◌, ◌<◌, ◌≤◌, Bool, true, false, cond, ◌&&◌, List, [], ◌∷◌, ◌++◌, length, drop, ◌==◌, ◌≢◌, nat_le, nat_lt, slice_index}
+use Rattle.std.specs.Prelude.{◌≡◌, ℕ, suc, ◌+◌, ◌<◌, ◌≤◌, Bool, true, false, cond, ◌&&◌, List, [], ◌∷◌, ◌++◌, length, drop, ◌==◌, ◌≢◌, nat_le, nat_lt, slice_index}
 use Rattle.std.proofs.Math.Path.{refl, sym, ap}
 use Rattle.std.proofs.Common.{ap₂, ◌∙◌, length-drop, drop_of_length-le, drop-cons}
 use Rattle.std.proofs.Math.Numerals.{add-one}
 use native.Mathlib.Omega.{arith}
 use borrow.Author.Tests.{eq-eqb, ne_eqb, eqb-true, eqb-false, lt-ltb, le-ltb, ltb-true, ltb-false, lt-leb}
 use Rattle.unicode_io.specs.Tests.{never, and_both}
-use Rattle.unicode_io.specs.Text.{ascii}
-use Rattle.unicode_io.specs.Names.{break_names, width_names, emoji_names, derived_names, names_of, agreeing, number_from, name_number, property_of, value_of, same, position, joined}
+use Rattle.unicode_io.specs.Names.{break_names, width_names, emoji_names, derived_names, names_of, agreeing, number_from, name_number, same, position, joined}
 
 module _ (word : List ℕ) (at b : ℕ) where
   pub agree_on : at < length word → slice_index word at ≡ b → at + 1 ≡ agreeing word at b

@@ -1,11 +1,11 @@
 -- What the writers leave.
 use Rattle.std.specs.Prelude.{◌≡◌, ℕ, suc, ◌+◌, ◌-◌, ◌*◌, ◌/◌, ◌%◌, ◌^◌, ◌<◌, ◌≤◌, Bool, true, false, cond, ◌||◌, List, [], ◌∷◌, ◌++◌, length, take, drop, ◌==◌, ◌≢◌, refl}
-use Rattle.std.proofs.Common.{sym, ap, ap₂, ◌∙◌, mod-lt, arith, append_assoc, length-append}
+use Rattle.std.proofs.Common.{sym, ap, ap₂, ◌∙◌, mod-lt, arith, length-append}
 use Rattle.std.proofs.Math.Seq.{take-append_seam}
 use borrow.Author.Tests.{eq-eqb, ne_eqb}
 use Rattle.io.specs.Digits.{last_digits, IsDigitCount}
-use Rattle.buffer.specs.Sink.{Sink, sink, put, emit}
-use Rattle.buffer.specs.Sink.Laws.{emit_none, emit_append, then_emit, fitted}
+use Rattle.buffer.specs.Sink.{Sink, sink, emit}
+use Rattle.buffer.specs.Sink.Laws.{emit_none, then_emit, fitted}
 use Rattle.buffer.specs.Numbers.{smaller_of}
 use Rattle.buffer.specs.Numbers.Laws.{smaller_left}
 use Rattle.unicode_io.specs.Text.{ascii}

@@ -1,9 +1,8 @@
 -- One row after the other gives all rows.
-use Rattle.std.specs.Prelude.{◌≡◌, ℕ, zero, suc, ◌+◌, ◌-◌, ◌<◌, ◌≤◌, Bool, true, false, cond, ◌⊎◌, List, [], ◌∷◌, length, drop, ◌==◌, ◌≢◌, slice_index, slice_index_or}
+use Rattle.std.specs.Prelude.{◌≡◌, ℕ, suc, ◌+◌, ◌-◌, ◌<◌, ◌≤◌, Bool, true, false, cond, ◌⊎◌, List, [], ◌∷◌, length, drop, ◌==◌, ◌≢◌, slice_index, slice_index_or}
 use Rattle.std.proofs.Math.Path.{refl}
 use Rattle.std.proofs.Common.{sym, ap, ◌∙◌, add-zero, add-one, arith, inl, inr, ⊎_elim, length-drop, drop_of_length-le, drop-cons, drop-drop, get_or-drop}
-use Rattle.std.proofs.Math.Dec.{eqb_refl}
-use borrow.Author.Tests.{eq-eqb, ne_eqb, eqb-true, eqb-false, lt-ltb, le-ltb, ltb-true, ltb-false}
+use borrow.Author.Tests.{eq-eqb, ne_eqb, eqb-true, eqb-false, lt-ltb, le-ltb}
 use Rattle.unicode_io.specs.Tests.{le_or_lt}
 use Rattle.unicode_io.specs.Rows.{row, grown, runs, shown, rows_from, leading, row_at, next_row}
 use Rattle.unicode_io.specs.declared.rows.Row.{Row}

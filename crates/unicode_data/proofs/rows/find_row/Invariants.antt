@@ -1,6 +1,5 @@
 use Prim.Native.Nat.{◌-◌}
-use native.Mathlib.Omega.{arith}
-use Rattle.unicode_data.proofs.FindRow.{Search, begun, ended, go_low, go_high, found}
+use Rattle.unicode_data.proofs.FindRow.{Search}
 use Rattle.unicode_data.proofs.rows.find_row.Given as goal
 
 abbrev pub invariant-loop-low : goal.invariant-loop-low

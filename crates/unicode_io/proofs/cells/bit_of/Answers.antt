@@ -1,6 +1,5 @@
 use Rattle.unicode_io.specs.Cells.Laws.{bit_turn, bit_small, bit_end}
-use Rattle.std.proofs.Common.{◌≡◌, ◌-◌, ◌≤◌, arith, rules}
-use Rattle.unicode_io.specs.Cells.{bit_of}
+use Rattle.std.proofs.Common.{arith, rules}
 use Rattle.unicode_io.proofs.cells.bit_of.Goals as goal
 
 pub overflow_mul-bit : goal.overflow_mul-bit

@@ -1,5 +1,4 @@
-use Rattle.unicode_io.specs.Cells.Laws.{bit_turn, bit_small, bit_end}
-use Rattle.std.proofs.Common.{◌≡◌, ◌-◌, ◌≤◌, arith, rules}
+use Rattle.std.proofs.Common.{◌≡◌, ◌-◌, ◌≤◌}
 use Rattle.unicode_io.specs.Cells.{bit_of}
 use Rattle.unicode_io.proofs.cells.bit_of.Given as goal
 

@@ -1,6 +1,5 @@
 use Rattle.buffer.specs.Conditions.{branch}
 use Rattle.unicode_io.specs.Cells.{class_of}
-use Rattle.std.proofs.Common.{rules}
 use Rattle.unicode_io.proofs.cells.class.Goals as goal
 
 pub returns-then-cell-eq1 : goal.returns-then-cell-eq1

@@ -1,6 +1,4 @@
-use Rattle.std.proofs.Common.{◌≡◌, ◌-◌, length, rules}
-use Rattle.unicode_io.specs.Cells.{kept_of, kind_of}
-use Rattle.unicode_io.specs.Cells.Laws.{Changing, changing_begins, changing_turn, changing_ends}
+use Rattle.unicode_io.specs.Cells.Laws.{changing_begins, changing_turn, changing_ends}
 use Rattle.unicode_io.proofs.cells.classify.Goals as goal
 
 pub loop-i-init : goal.loop-i-init

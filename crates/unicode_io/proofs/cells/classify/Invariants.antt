@@ -1,6 +1,6 @@
-use Rattle.std.proofs.Common.{◌≡◌, ◌-◌, length, rules}
-use Rattle.unicode_io.specs.Cells.{kept_of, kind_of}
-use Rattle.unicode_io.specs.Cells.Laws.{Changing, changing_begins, changing_turn, changing_ends}
+use Rattle.std.proofs.Common.{◌-◌, length}
+use Rattle.unicode_io.specs.Cells.{kind_of}
+use Rattle.unicode_io.specs.Cells.Laws.{Changing}
 use Rattle.unicode_io.proofs.cells.classify.Given as goal
 
 abbrev pub invariant-loop-i : goal.invariant-loop-i

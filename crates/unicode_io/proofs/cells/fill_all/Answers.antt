@@ -1,6 +1,4 @@
-use Rattle.std.proofs.Common.{◌≡◌, ◌-◌, ◌≤◌, ◌||◌, length, drop, rules}
-use Rattle.unicode_io.specs.Cells.{filled, taken_in}
-use Rattle.unicode_io.specs.Cells.Laws.{changed, Filling, filling_begins, filling_turn, filling_ends}
+use Rattle.unicode_io.specs.Cells.Laws.{filling_begins, filling_turn, filling_ends}
 use Rattle.unicode_io.proofs.cells.fill_all.Goals as goal
 
 pub loop-i-init : goal.loop-i-init

@@ -1,6 +1,5 @@
-use Rattle.std.proofs.Common.{◌≡◌, ◌-◌, ◌≤◌, ◌||◌, length, drop, rules}
-use Rattle.unicode_io.specs.Cells.{filled, taken_in}
-use Rattle.unicode_io.specs.Cells.Laws.{changed, Filling, filling_begins, filling_turn, filling_ends}
+use Rattle.std.proofs.Common.{◌-◌, length}
+use Rattle.unicode_io.specs.Cells.Laws.{Filling}
 use Rattle.unicode_io.proofs.cells.fill_all.Given as goal
 
 abbrev pub invariant-loop-i : goal.invariant-loop-i

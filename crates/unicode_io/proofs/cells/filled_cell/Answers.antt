@@ -1,6 +1,5 @@
 use Rattle.buffer.specs.Conditions.{branch}
 use Rattle.unicode_io.specs.Cells.{filled}
-use Rattle.std.proofs.Common.{rules}
 use Rattle.unicode_io.proofs.cells.filled_cell.Goals as goal
 
 pub returns-then-is_taken : goal.returns-then-is_taken

@@ -1,4 +1,4 @@
-use Rattle.std.proofs.Common.{arith, rules}
+use Rattle.std.proofs.Common.{arith}
 use Rattle.unicode_io.specs.Cells.Laws.{kind_is, class_small, width_small}
 use Rattle.unicode_io.proofs.cells.kind.Goals as goal
 

@@ -1,6 +1,5 @@
 use Rattle.buffer.specs.Conditions.{branch}
 use Rattle.unicode_io.specs.Cells.Laws.{width_is}
-use Rattle.std.proofs.Common.{rules}
 use Rattle.unicode_io.proofs.cells.width.Goals as goal
 
 pub returns-then-k : goal.returns-then-k

@@ -1,5 +1,4 @@
 use Rattle.unicode_io.specs.Line.Laws.{entry_none, entry_other, entry_unnamed, entry_known}
-use Rattle.std.proofs.Common.{rules}
 use Rattle.unicode_io.proofs.line.entry_of.Goals as goal
 
 pub returns-then-l-eq0 : goal.returns-then-l-eq0

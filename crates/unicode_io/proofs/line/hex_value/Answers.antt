@@ -1,5 +1,4 @@
 use Rattle.buffer.specs.Conditions.{branch}
-use Rattle.std.proofs.Common.{rules}
 use Rattle.unicode_io.proofs.line.hex_value.Goals as goal
 
 pub returns-then-b-le57 : goal.returns-then-b-le57

@@ -1,4 +1,4 @@
-use Rattle.std.proofs.Common.{◌≡◌, ℕ, ◌≤◌, length, sym, arith, length-take-le, rules}
+use Rattle.std.proofs.Common.{sym, arith, length-take-le}
 use Rattle.buffer.specs.Numbers.Laws.{smaller_right}
 use Rattle.unicode_io.specs.Line.Laws.{named_is}
 use Rattle.unicode_io.proofs.line.named.Goals as goal

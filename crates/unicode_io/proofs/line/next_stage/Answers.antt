@@ -1,4 +1,4 @@
-use Rattle.std.proofs.Common.{◌≡◌, arith, rules}
+use Rattle.std.proofs.Common.{arith}
 use Rattle.unicode_io.specs.Line.Laws.{kind_small, stage_at}
 use Rattle.unicode_io.proofs.line.next_stage.Goals as goal
 

@@ -1,6 +1,5 @@
 use Rattle.buffer.specs.Conditions.{branch}
 use Rattle.unicode_io.specs.Line.{ranged}
-use Rattle.std.proofs.Common.{rules}
 use Rattle.unicode_io.proofs.line.range_entry.Goals as goal
 
 pub returns-then-high-eq0 : goal.returns-then-high-eq0

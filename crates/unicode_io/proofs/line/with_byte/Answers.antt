@@ -1,7 +1,6 @@
 use Rattle.unicode_io.specs.Line.Laws.{byte_low, byte_high, byte_name, byte_other}
 use Rattle.buffer.specs.Conditions.{branch}
 use Rattle.unicode_io.specs.Line.{with_byte}
-use Rattle.std.proofs.Common.{rules}
 use Rattle.unicode_io.proofs.line.with_byte.Goals as goal
 
 pub returns-then-l : goal.returns-then-l

@@ -1,4 +1,4 @@
-use Rattle.std.proofs.Common.{arith, rules}
+use Rattle.std.proofs.Common.{arith}
 use Rattle.buffer.specs.Conditions.{branch}
 use Rattle.unicode_io.specs.Line.Laws.{digit_more, hex_small}
 use Rattle.unicode_io.proofs.line.with_digit.Goals as goal

@@ -1,5 +1,4 @@
 use Rattle.unicode_io.specs.Line.Laws.{high_more}
-use Rattle.std.proofs.Common.{rules}
 use Rattle.unicode_io.proofs.line.with_high.Goals as goal
 
 pub returns : goal.returns

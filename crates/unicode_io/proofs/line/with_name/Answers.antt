@@ -1,5 +1,4 @@
 use Rattle.buffer.specs.Conditions.{branch}
-use Rattle.std.proofs.Common.{rules}
 use Rattle.unicode_io.proofs.line.with_name.Goals as goal
 
 pub returns-then-at-lt32 : goal.returns-then-at-lt32

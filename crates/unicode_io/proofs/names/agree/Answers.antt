@@ -1,5 +1,4 @@
 use Rattle.unicode_io.specs.Names.Laws.{agree_on, agree_not, agree_past}
-use Rattle.std.proofs.Common.{rules}
 use Rattle.unicode_io.proofs.names.agree.Goals as goal
 
 pub returns-then-word-at : goal.returns-then-word-at

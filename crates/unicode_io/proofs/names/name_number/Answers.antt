@@ -1,6 +1,5 @@
 use Rattle.unicode_io.specs.Names.{break_names, width_names, emoji_names, derived_names, joined}
 use Rattle.unicode_io.specs.Names.Laws.{name_0, name_1, name_2, name_3}
-use Rattle.std.proofs.Common.{rules}
 use Rattle.unicode_io.proofs.names.name_number.Goals as goal
 
 pub returns-then-file-eq0 : goal.returns-then-file-eq0

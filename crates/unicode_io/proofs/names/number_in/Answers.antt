@@ -1,5 +1,4 @@
-use Rattle.std.proofs.Common.{◌-◌, length, rules}
-use Rattle.unicode_io.specs.Names.Laws.{Scanning, scanning_begins, scanning_found, scanning_after, scanning_within, scanning_ends}
+use Rattle.unicode_io.specs.Names.Laws.{scanning_begins, scanning_found, scanning_after, scanning_within, scanning_ends}
 use Rattle.unicode_io.proofs.names.number_in.Goals as goal
 
 pub loop-i-init : goal.loop-i-init

@@ -1,5 +1,5 @@
-use Rattle.std.proofs.Common.{◌-◌, length, rules}
-use Rattle.unicode_io.specs.Names.Laws.{Scanning, scanning_begins, scanning_found, scanning_after, scanning_within, scanning_ends}
+use Rattle.std.proofs.Common.{◌-◌, length}
+use Rattle.unicode_io.specs.Names.Laws.{Scanning}
 use Rattle.unicode_io.proofs.names.number_in.Given as goal
 
 abbrev pub invariant-loop-i : goal.invariant-loop-i

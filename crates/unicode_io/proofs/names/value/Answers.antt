@@ -1,5 +1,4 @@
 use Rattle.buffer.specs.Conditions.{branch}
-use Rattle.std.proofs.Common.{rules}
 use Rattle.unicode_io.proofs.names.value.Goals as goal
 
 pub returns-then-file-eq0 : goal.returns-then-file-eq0

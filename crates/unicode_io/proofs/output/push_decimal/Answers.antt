@@ -1,4 +1,4 @@
-use Rattle.std.proofs.Common.{arith, rules}
+use Rattle.std.proofs.Common.{arith}
 use Rattle.unicode_io.specs.Output.Laws.{decimal_pushed}
 use Rattle.unicode_io.proofs.output.push_decimal.Goals as goal
 

@@ -1,7 +1,6 @@
 use Rattle.unicode_io.specs.Output.Laws.{foot_due, no_foot, place_fits}
 use Rattle.unicode_io.specs.Text.{ascii}
 use Rattle.unicode_io.specs.Output.{foot}
-use Rattle.std.proofs.Common.{rules}
 use Rattle.unicode_io.proofs.output.push_foot_of.Goals as goal
 
 pub overflow_add-i : goal.overflow_add-i

@@ -1,6 +1,5 @@
 use Rattle.unicode_io.specs.Text.{ascii}
 use Rattle.unicode_io.specs.Output.Laws.{gap_due, no_gap}
-use Rattle.std.proofs.Common.{rules}
 use Rattle.unicode_io.proofs.output.push_gap.Goals as goal
 
 pub returns-then-part-eq0 : goal.returns-then-part-eq0

@@ -1,5 +1,4 @@
 use Rattle.unicode_io.specs.Output.Laws.{head_due, no_head, few_rows}
-use Rattle.std.proofs.Common.{rules}
 use Rattle.unicode_io.proofs.output.push_head_of.Goals as goal
 
 pub push_head-requires : goal.push_head-requires

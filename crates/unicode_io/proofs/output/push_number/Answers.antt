@@ -1,6 +1,5 @@
 use Rattle.unicode_io.specs.Text.{ascii}
 use Rattle.unicode_io.specs.Output.Laws.{number_pushed}
-use Rattle.std.proofs.Common.{rules}
 use Rattle.unicode_io.proofs.output.push_number.Goals as goal
 
 pub returns : goal.returns

@@ -1,5 +1,4 @@
 use Rattle.unicode_io.specs.Output.Laws.{numbers_pushed}
-use Rattle.std.proofs.Common.{rules}
 use Rattle.unicode_io.proofs.output.push_numbers.Goals as goal
 
 pub returns : goal.returns

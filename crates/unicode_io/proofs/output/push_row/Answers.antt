@@ -1,5 +1,4 @@
 use Rattle.unicode_io.specs.Output.Laws.{row_pushed}
-use Rattle.std.proofs.Common.{rules}
 use Rattle.unicode_io.proofs.output.push_row.Goals as goal
 
 pub returns : goal.returns

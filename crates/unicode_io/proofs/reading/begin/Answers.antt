@@ -1,5 +1,4 @@
 use Rattle.unicode_io.specs.Reading.Laws.{begun}
-use Rattle.std.proofs.Common.{rules}
 use Rattle.unicode_io.proofs.reading.begin.Goals as goal
 
 pub returns : goal.returns

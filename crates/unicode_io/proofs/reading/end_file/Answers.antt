@@ -1,5 +1,4 @@
 use Rattle.unicode_io.specs.Reading.Laws.{file_ended_law}
-use Rattle.std.proofs.Common.{rules}
 use Rattle.unicode_io.proofs.reading.end_file.Goals as goal
 
 pub returns : goal.returns

@@ -1,5 +1,4 @@
 use Rattle.unicode_io.specs.Reading.Laws.{entry_few, line_ended_law}
-use Rattle.std.proofs.Common.{rules}
 use Rattle.unicode_io.proofs.reading.end_line.Goals as goal
 
 pub with_entry-requires : goal.with_entry-requires

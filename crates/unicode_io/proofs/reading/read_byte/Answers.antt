@@ -1,5 +1,4 @@
 use Rattle.unicode_io.specs.Reading.Laws.{byte_newline, byte_more}
-use Rattle.std.proofs.Common.{rules}
 use Rattle.unicode_io.proofs.reading.read_byte.Goals as goal
 
 pub returns-then-b-eq10 : goal.returns-then-b-eq10

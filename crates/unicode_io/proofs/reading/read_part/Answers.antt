@@ -1,6 +1,5 @@
-use Rattle.std.proofs.Common.{◌≡◌, ◌-◌, length, rules}
-use Rattle.unicode_io.specs.Reading.{state_of}
-use Rattle.unicode_io.specs.Reading.Laws.{Left, left_begins, left_turn, left_ends}
+use Rattle.std.proofs.Common.{rules}
+use Rattle.unicode_io.specs.Reading.Laws.{left_begins, left_turn, left_ends}
 use Rattle.unicode_io.proofs.reading.read_part.Goals as goal
 
 pub loop-i-init : goal.loop-i-init

@@ -1,6 +1,6 @@
-use Rattle.std.proofs.Common.{◌≡◌, ◌-◌, length, rules}
+use Rattle.std.proofs.Common.{◌≡◌, ◌-◌, length}
 use Rattle.unicode_io.specs.Reading.{state_of}
-use Rattle.unicode_io.specs.Reading.Laws.{Left, left_begins, left_turn, left_ends}
+use Rattle.unicode_io.specs.Reading.Laws.{Left}
 use Rattle.unicode_io.proofs.reading.read_part.Given as goal
 
 abbrev pub invariant-loop-i : goal.invariant-loop-i

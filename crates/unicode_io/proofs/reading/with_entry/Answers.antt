@@ -1,5 +1,4 @@
 use Rattle.unicode_io.specs.Reading.Laws.{ended_nothing, ended_other, ended_overlapped, ended_entry}
-use Rattle.std.proofs.Common.{rules}
 use Rattle.unicode_io.proofs.reading.with_entry.Goals as goal
 
 pub returns-then-e-eq0 : goal.returns-then-e-eq0

@@ -1,5 +1,4 @@
-use Rattle.std.proofs.Common.{◌-◌, length, rules}
-use Rattle.unicode_io.specs.Rows.Laws.{Counting, counting_begins, counting_turn, counting_stops, counting_ends, counting_less}
+use Rattle.unicode_io.specs.Rows.Laws.{counting_begins, counting_turn, counting_stops, counting_ends, counting_less}
 use Rattle.unicode_io.proofs.rows.count_rows.Goals as goal
 
 pub loop-at-init : goal.loop-at-init

@@ -1,5 +1,5 @@
-use Rattle.std.proofs.Common.{◌-◌, length, rules}
-use Rattle.unicode_io.specs.Rows.Laws.{Counting, counting_begins, counting_turn, counting_stops, counting_ends, counting_less}
+use Rattle.std.proofs.Common.{◌-◌, length}
+use Rattle.unicode_io.specs.Rows.Laws.{Counting}
 use Rattle.unicode_io.proofs.rows.count_rows.Given as goal
 
 abbrev pub invariant-loop-at : goal.invariant-loop-at

@@ -1,5 +1,4 @@
 use Rattle.unicode_io.specs.Rows.Laws.{row_found, row_none}
-use Rattle.std.proofs.Common.{rules}
 use Rattle.unicode_io.proofs.rows.next_row.Goals as goal
 
 pub returns-then-low-kinds : goal.returns-then-low-kinds

@@ -1,5 +1,4 @@
-use Rattle.std.proofs.Common.{◌-◌, length, rules}
-use Rattle.unicode_io.specs.Rows.Laws.{Running, running_begins, running_turn, running_stops, running_ends}
+use Rattle.unicode_io.specs.Rows.Laws.{running_begins, running_turn, running_stops, running_ends}
 use Rattle.unicode_io.proofs.rows.run_end.Goals as goal
 
 pub loop-i-init : goal.loop-i-init

@@ -1,5 +1,5 @@
-use Rattle.std.proofs.Common.{◌-◌, length, rules}
-use Rattle.unicode_io.specs.Rows.Laws.{Running, running_begins, running_turn, running_stops, running_ends}
+use Rattle.std.proofs.Common.{◌-◌, length}
+use Rattle.unicode_io.specs.Rows.Laws.{Running}
 use Rattle.unicode_io.proofs.rows.run_end.Given as goal
 
 abbrev pub invariant-loop-i : goal.invariant-loop-i
