@@ -53,7 +53,8 @@ module _ (t : List ℕ) (at i : ℕ) (z : PrintableLoop t at i) where
     unfolding printable_size
     size_next l =
         let m : drop (i + 1) t ≡ get_or t (i + 1) 0 ∷ drop (suc (i + 1)) t = drop-cons t (i + 1) 0 h in
-        rw (two_bytes_law t i h, m, z.one, ← e, lt-ltb b 0x80 l) refl
+        let k : get_or t (i + 1) 0 < 0x80 = rw e at l in
+        rw (two_bytes_law t i h, m, z.one, lt-ltb (get_or t (i + 1) 0) 0x80 k) refl
 
     module _ (x : Bool) (f : x ≡ printable b) where
       pub printable_more : x ≡ true → PrintableLoop t at (i + 1)

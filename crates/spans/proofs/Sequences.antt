@@ -11,7 +11,7 @@ use lib.Seq.{drop-cons, take_all, slice, drop-nil, take-nil, get_or-drop}
 use lib.Dec.{eqb, leb}
 use Rattle.text.specs.Tests.{cases}
 use Rattle.spans.specs.Sgr.{parameters, orders}
-use Rattle.spans.specs.Sequence.{Sequence, ignored, Found, found, missing, leading, past, if_known, erase, final, charset, csi, uri_byte, closed, osc, parse}
+use Rattle.spans.specs.Sequence.{ignored, Found, found, missing, leading, past, if_known, erase, final, charset, csi, uri_byte, closed, osc, parse}
 use Rattle.spans.specs.Sgr.Contracts.{Scanned, orders_of, orders_at, parameters_at, NextOrderAt}
 use Rattle.spans.specs.Sequence.Contracts.{uri_byte_but, sequence_of, Skipped, uri_at}
 use Rattle.spans.specs.declared.sequence.Sequence as code

@@ -12,7 +12,7 @@ use Rattle.text.specs.Tests.{cases}
 use Rattle.text.specs.Utf8.{Scalar, decode, run_of}
 use Rattle.text.specs.Utf8.Laws.{bytes_nil}
 use Rattle.text.specs.Class.{Profile}
-use Rattle.text.specs.Cluster.{clusters, join_all}
+use Rattle.text.specs.Cluster.{join_all}
 use Rattle.text.specs.Cluster.Laws.{join_length, join_nil}
 use Rattle.text.specs.Cluster.Walk.{size_is, first_size_law, cluster_some}
 use Rattle.text.specs.Class.Code.{profile_of}

@@ -1,5 +1,6 @@
 // Layer 2, spans: the sequences at ESC, reading, and reading with matches.
 #![tactic(auto)]
+
 ghost use Rattle.std.specs.Prelude.{◌≡◌, ◌++◌, ◌≤◌, ◌-◌, cond, length, take, replicate};
 ghost use Rattle.text.specs.Width.{profile01};
 ghost use Rattle.spans.specs.Calls.{no_record, read_call};
