@@ -1,5 +1,6 @@
 // Layer 3, rows: words and wrapping; the calls `rows`, `height` and `narrowest`.
 #![tactic(auto)]
+
 ghost use Rattle.std.specs.Prelude.{◌≡◌, [], length};
 ghost use Rattle.text.specs.Width.{profile01};
 ghost use Rattle.spans.specs.Calls.{no_record};
