@@ -1,7 +1,6 @@
 pub mod Parameters
 pub mod Bodies
 pub mod Printing
-pub mod FewSpans
 pub mod LineRows
 pub mod Refusals
 pub mod SpanText

@@ -1,5 +1,5 @@
 -- What is printed for a few cells.
-use Rattle.std.specs.Prelude.{ℕ, ◌+◌, ◌≡◌, refl, List, [], ◌∷◌, ◌++◌, replicate}
+use Rattle.std.specs.Prelude.{ℕ, ◌≡◌, refl, List, [], ◌∷◌, ◌++◌, replicate}
 use Rattle.screen.specs.Row.{Cell, cell, plain, row_bytes}
 use Rattle.show_io.specs.Ansi.{cells, style_order, row_text}
 
