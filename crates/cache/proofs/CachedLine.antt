@@ -5,13 +5,11 @@ use mathlib.Core.List.{List, []}
 use lib.ListN.{length}
 use Rattle.text.specs.Width.{profile01}
 use Rattle.text.specs.declared.Answer.{Answer}
-use Rattle.spans.specs.Spans.{spans, Record}
-use Rattle.rows.specs.Rows.{rows}
+use Rattle.spans.specs.Spans.{Record}
 use Rattle.rows.specs.Calls.{Wrapped}
 use Rattle.rows.specs.Calls.Contracts.{wrapped_as, answered}
 use Rattle.rows.specs.declared.Request.{Request}
 use Rattle.cache.specs.Wraps.{key}
-use Rattle.cache.specs.Wraps.Contracts.{listed}
 use Rattle.cache.specs.Calls.{cached_rows_call, cached_height_call}
 use Rattle.cache.specs.Calls.Contracts.{rows_request, height_request, cached_rows_as, cached_height_as, RememberReady, Remembered, CachedLineReady, CachedLine}
 use Rattle.cache.proofs.CachedRows.{rows_cached, rows_ready}

@@ -1,5 +1,6 @@
 // Kept wraps: the calls `cached_rows` and `cached_height` (document 02, U6).
 #![tactic(auto)]
+
 ghost use Rattle.std.specs.Prelude.{◌≡◌, length, replicate};
 ghost use Rattle.text.specs.Width.{profile01};
 ghost use Rattle.cache.specs.Calls.{cached_rows_call, cached_height_call};

@@ -1,0 +1,8 @@
+use Rattle.cache.proofs.Heads.{kept_all, kept_nothing}
+use Rattle.cache.proofs.wraps.heads_kept.Goals as goal
+
+pub returns-then-well_kept : goal.returns-then-well_kept
+returns-then-well_kept c = search kept_all
+
+pub returns : goal.returns
+returns c = search kept_nothing
