@@ -3,7 +3,7 @@ use Rattle.text.proofs.PackedScalars.{first_packed, four_none, four_packed, seco
 use Rattle.text.proofs.scalar.scalar_at.Goals as goal
 
 pub overflow_cast-a : goal.overflow_cast-a
-overflow_cast-a c = omega (arith, c.shared_slice_known-2-1.given c.before.before.args.at)
+overflow_cast-a c = omega (arith, c.type_inv.s c.args.at)
 
 pub returns-then-a-le127 : goal.returns-then-a-le127
 returns-then-a-le127 c = search first_packed

@@ -5,7 +5,7 @@ use Rattle.text.proofs.ForwardWalk.{not_one_byte}
 use Rattle.text.proofs.segmentation.is_one_byte_cluster.Goals as goal
 
 pub overflow_cast-a : goal.overflow_cast-a
-overflow_cast-a c = omega (arith, c.shared_slice_known-2-1.given c.before.before.args.at)
+overflow_cast-a c = omega (arith, c.type_inv.s c.args.at)
 
 pub returns-then-a-ge128 : goal.returns-then-a-ge128
 returns-then-a-ge128 c = not_one_byte c.before.before.before.args.s.now c.before.before.before.args.at c.if-a-ge128.true

@@ -3,7 +3,7 @@ use Rattle.text.proofs.LeadBytes.{four_at, no_second, no_third, three_at, two_at
 use Rattle.text.proofs.utf8.decode_long.Goals as goal
 
 pub overflow_cast-a : goal.overflow_cast-a
-overflow_cast-a c = omega (arith, c.shared_slice_known-2-1.given c.before.before.args.at)
+overflow_cast-a c = omega (arith, c.type_inv.s c.args.at)
 
 pub returns-then-a-le223 : goal.returns-then-a-le223
 returns-then-a-le223 c = search two_at
