@@ -9,7 +9,6 @@ use Rattle.spans.specs.Spans.{Content, text, control, invalid, unprintable, esca
 use Rattle.rows.specs.Rows.{Row, grapheme_boundary, eight, rows, EndToEnd}
 use Rattle.columns.specs.Columns.Wrapping.{total, widths}
 pub mod Greedy
-pub mod Proof
 pub mod Examples
 
 -- an Unprintable span counts `count`

@@ -7,7 +7,6 @@ use Rattle.rows.specs.Rows.{Mode, grapheme_boundary, word_boundary, eight, rows}
 use Rattle.rows.specs.Calls.{mode_of}
 use Rattle.rows.specs.Narrowest.{tried_of, narrowest, narrowest_call}
 use Rattle.columns.specs.Columns.{last_column}
-pub mod Proof
 pub mod Examples
 
 -- every width from 1 up to w takes more rows than wanted

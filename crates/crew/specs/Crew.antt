@@ -10,8 +10,6 @@ use Rattle.crew.specs.Crew.Hyperlinks.{Linked}
 pub mod Hyperlinks
 pub mod SameSpans
 pub mod ReadForm
-pub mod Proof
-pub mod Document01
 pub mod Views
 pub mod Examples
 

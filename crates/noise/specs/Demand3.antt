@@ -11,9 +11,6 @@ use Rattle.spans.specs.Spans.{Record, a_record}
 use Rattle.spans.specs.Calls.{no_record}
 use Rattle.drawing.specs.Draw.Noise.{TwinChange, MarkByte}
 use Rattle.noise.specs.Calls.{Call, read, Outcome, answer, without_matches, conv_of, places_of, changes_of}
-pub mod SeparationProof
-pub mod ExchangeProof
-pub mod Document01
 pub mod Examples
 
 -- ---- separation: two parts, each of any bytes or none, with one or more noise bytes between them

@@ -35,10 +35,7 @@ pub mod WordClusters
 pub mod RowBoundaries
 pub mod Readers
 pub mod RowDrawing
-pub mod AnyProfile
-pub mod Lines
 pub mod Calls
-pub mod Document01
 pub mod Examples
 
 -- ---- what changes show

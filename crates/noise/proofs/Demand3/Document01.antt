@@ -12,8 +12,8 @@ use Rattle.drawing.specs.Marks.{hex_digit}
 use Rattle.drawing.specs.Marks.Scalars.{digit_code}
 use Rattle.drawing.specs.Draw.Noise.{PlainDigits}
 use Rattle.noise.specs.Demand3.{Separation, Exchange}
-use Rattle.noise.specs.Demand3.SeparationProof.{separation_of}
-use Rattle.noise.specs.Demand3.ExchangeProof.{exchange_of}
+use Rattle.noise.proofs.Demand3.SeparationProof.{separation_of}
+use Rattle.noise.proofs.Demand3.ExchangeProof.{exchange_of}
 
 digit_printable : (d : ℕ) → d < 16 → printable (hex_digit d).code ≡ true
 unfolding every

@@ -26,7 +26,7 @@ use Rattle.spans.specs.Calls.{read_call}
 use Rattle.drawing.specs.Marks.LineDrawn.{replacement_symbol, replaced_printable}
 use Rattle.picture.specs.Conditions.{Plain, composed, PlainComposed, WordBreakClasses, Unshared, UnsharedPiece}
 use Rattle.picture.specs.Picture.{OfLines, RowsShow, RowsShowTheLine, PagingShows, PagingShowsTheLine}
-use Rattle.picture.specs.Picture.Lines.{rows_show_lines, paging_shows_lines}
+use Rattle.picture.proofs.Picture.Lines.{rows_show_lines, paging_shows_lines}
 
 -- ---- what drawing composes
 

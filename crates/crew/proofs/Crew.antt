@@ -23,6 +23,7 @@ use Rattle.crew.specs.Crew.{AnotherUri, SameDrawn, SameView, Unseen}
 use Rattle.crew.specs.Crew.Hyperlinks.{Linked, Form}
 use Rattle.crew.specs.Crew.SameSpans.{same_spans}
 use Rattle.crew.specs.Crew.ReadForm.{linked_form}
+pub mod Document01
 
 -- ---- lines with the same spans
 

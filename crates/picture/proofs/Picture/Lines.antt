@@ -30,7 +30,7 @@ use Rattle.columns.specs.Columns.{span_columns, last_column_from}
 use Rattle.columns.specs.Heights.Proof.{rows_of_bytes}
 use Rattle.picture.specs.Conditions.{Unshared, UnsharedPiece, UnsharedLine, Drawable}
 use Rattle.picture.specs.Picture.{RowsShowLines, PagingShowsLines}
-use Rattle.picture.specs.Picture.AnyProfile.{row_picture}
+use Rattle.picture.proofs.Picture.AnyProfile.{row_picture}
 use Rattle.picture.specs.Picture.Calls.{paging}
 
 -- ---- clusters

@@ -1,0 +1,2 @@
+pub mod Narrowest
+pub mod Fewest

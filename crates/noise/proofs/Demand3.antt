@@ -1,0 +1,3 @@
+pub mod SeparationProof
+pub mod ExchangeProof
+pub mod Document01

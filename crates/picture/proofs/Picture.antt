@@ -1,0 +1,3 @@
+pub mod AnyProfile
+pub mod Lines
+pub mod Document01
