@@ -1,9 +1,9 @@
 // Marks by themselves, whole and clipped at each column.
+use super::STDOUT_FILENO;
 use super::composed::{push_byte_mark, push_clipped, push_scalar_mark};
 use check::same;
 use drawing::mark::push_mark;
 use drawing::write::Window;
-use libc::STDOUT_FILENO;
 use text::Column;
 use text::class::Profile;
 

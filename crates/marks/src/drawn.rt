@@ -2,11 +2,11 @@
 ghost use Rattle.std.specs.Prelude.{◌≡◌, ◌≤◌, length};
 ghost use Rattle.marks.specs.Composed.{continuation_of};
 
+use super::STDOUT_FILENO;
 use super::composed::{push_byte_mark, push_drawing, push_scalar_mark};
 use buffer::byte_at;
 use check::same;
 use drawing::numbers::draw_window_numbers;
-use libc::STDOUT_FILENO;
 use std::num::wrapping_add_u32;
 
 fn print_line(line: &[u8]) {

@@ -1,11 +1,13 @@
 // Marks before and after: composed in memory and clipped there, and written straight into a change list. What differs is printed, and how
 // many were compared.
 #![tactic(auto)]
+
 mod alone;
 mod composed;
 mod drawn;
 
-use libc::STDOUT_FILENO;
+// The descriptor of standard output.
+const STDOUT_FILENO: i32 = 1;
 
 fn print_count(n: u32, what: &[u8]) {
     io::print_decimal(STDOUT_FILENO, n as u64);
