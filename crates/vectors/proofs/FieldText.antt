@@ -6,16 +6,15 @@ use native.Mathlib.Omega.{arith}
 use mathlib.Core.Bool.{true, cond, ◌&&◌}
 use mathlib.Core.List.{List, [], ◌∷◌}
 use lib.ListN.{length, take, drop, get_or, length-drop, drop_of_length-le}
-use lib.Seq.{drop-cons, take-length, length-take-le}
+use lib.Seq.{drop-cons, length-take-le}
 use lib.Dec.{eqb, leb}
 use borrow.Author.Tests.{eq-eqb, ne_eqb, le-leb, lt-leb, lt-ltb, le-ltb}
 use Rattle.io.specs.Counts.{IsPrefixLen}
-use Rattle.bytes.specs.Bytes.{index_of, slice}
 use Rattle.text.specs.Tests.{cases, in_range_law}
 use Rattle.buffer.specs.Sink.{Sink, sink, put, emit}
 use Rattle.buffer.specs.Numbers.{smaller_of}
 use Rattle.buffer.specs.Numbers.Laws.{smaller_first, smaller_second, smaller_right}
-use Rattle.vectors.specs.Fields.{start_of, field_of, digit_of, with_digit, decimal, listed_from, listed, hex_byte, hex_bytes, clipped, Filled}
+use Rattle.vectors.specs.Fields.{start_of, index_of, field_of, digit_of, with_digit, decimal, listed_from, listed, hex_byte, hex_bytes, clipped, Filled}
 use Rattle.vectors.specs.Recorded.{Lent}
 
 at_byte : (s : List ℕ) (i : ℕ) → i < length s → drop i s ≡ get_or s i 0 ∷ drop (i + 1) s
@@ -36,21 +35,15 @@ start_none : (n : ℕ) → start_of [] n ≡ 0
 unfolding start_of
 start_none n = refl
 
-pub start_low : (s : List ℕ) (n : ℕ) → start_of s n ≤ length s
+start_low : (s : List ℕ) (n : ℕ) → start_of s n ≤ length s
 unfolding start_of
 start_low [] n = omega arith
 start_low (b ∷ s) n = cases (eqb n 0) (λ p. rw p (omega arith)) (λ p. rw p (omega (arith, start_low s (cond (eqb b 0x20) (n - 1) n))))
-
-pub start_inside : (s : List ℕ) (n at : ℕ) → at ≡ start_of s n → at ≤ length s
-start_inside s n at e = omega (arith, start_low s n)
 
 -- i bytes are passed, and so many fields are left to pass
 pub record Passing (s : List ℕ) (n i left : ℕ) : Type 0 where
   pub work : i + start_of (drop i s) left ≡ start_of s n
   pub low : i ≤ length s
-
-pub passing_begins : (s : List ℕ) (n : ℕ) → Passing s n 0 n
-passing_begins s n = record { work = omega arith; low = omega arith }
 
 module _ (s : List ℕ) (n i left : ℕ) (z : Passing s n i left) where
   passing_turn : (next : ℕ) → i < length s → (left ≡ 0 → ⊥) → cond (eqb (get_or s i 0) 0x20) (left - 1) left ≡ next → Passing s n (i + 1) next
@@ -71,12 +64,50 @@ module _ (s : List ℕ) (n i left : ℕ) (z : Passing s n i left) where
   pub passing_past : length s ≤ i → i ≡ start_of s n
   passing_past h = omega (arith, z.work, ap (λ (l : List ℕ). start_of l left) (drop_of_length-le s h) ∙ start_none left)
 
-pub field_is : (s : List ℕ) (n at end : ℕ) → at ≡ start_of s n → end ≡ at + index_of 0x20 (slice at (length s) s) → take (end - at) (drop at s) ≡ field_of s n
-unfolding slice field_of
-field_is s n at end p q =
-    let k : end ≡ at + index_of 0x20 (drop at s) = q ∙ ap (λ (l : List ℕ). at + index_of 0x20 (drop at l)) (take-length s) in
-    let m : end - at ≡ index_of 0x20 (drop at s) = omega arith in
-    ap (λ (j : ℕ). take j (drop at s)) m ∙ ap (λ (a : ℕ). take (index_of 0x20 (drop a s)) (drop a s)) p
+index_more : (b x : ℕ) (s : List ℕ) → (x ≡ b → ⊥) → index_of b (x ∷ s) ≡ suc (index_of b s)
+unfolding index_of
+index_more b x s h = rw (ne_eqb x b h)
+
+index_here : (b x : ℕ) (s : List ℕ) → x ≡ b → index_of b (x ∷ s) ≡ 0
+unfolding index_of
+index_here b x s h = rw (eq-eqb x b h)
+
+index_none : (b : ℕ) → index_of b [] ≡ 0
+unfolding index_of
+index_none b = refl
+
+index_low : (b : ℕ) (s : List ℕ) → index_of b s ≤ length s
+unfolding index_of
+index_low b [] = omega arith
+index_low b (x ∷ s) = cases (eqb x b) (λ p. rw p (omega arith)) (λ p. rw p (omega (arith, index_low b s)))
+
+-- a search that has come to i
+module _ (s : List ℕ) (b i : ℕ) {e : ℕ} (p : i + index_of b (drop i s) ≡ e) where
+  pub find_turn : i < length s → (get_or s i 0 ≡ b → ⊥) → i + 1 + index_of b (drop (i + 1) s) ≡ e
+  find_turn h k =
+      let a : index_of b (drop i s) ≡ suc (index_of b (drop (i + 1) s)) = ap (index_of b) (at_byte s i h) ∙ index_more b (get_or s i 0) (drop (i + 1) s) k in
+      omega (arith, a, p)
+
+  pub find_here : i < length s → get_or s i 0 ≡ b → i ≡ e
+  find_here h k =
+      let a : index_of b (drop i s) ≡ 0 = ap (index_of b) (at_byte s i h) ∙ index_here b (get_or s i 0) (drop (i + 1) s) k in
+      omega (arith, a, p)
+
+  pub find_past : length s ≤ i → i ≡ e
+  find_past h =
+      let a : index_of b (drop i s) ≡ 0 = ap (index_of b) (drop_of_length-le s h) ∙ index_none b in
+      omega (arith, a, p)
+
+-- a field lies in the text
+module _ (s : List ℕ) (n at end : ℕ) (p : at ≡ start_of s n) (q : end ≡ at + index_of 0x20 (drop at s)) where
+  pub field_inside : end ≤ length s
+  field_inside = omega (arith, start_low s n, index_low 0x20 (drop at s), length-drop at s)
+
+  pub field_is : take (end - at) (drop at s) ≡ field_of s n
+  unfolding field_of
+  field_is =
+      let m : end - at ≡ index_of 0x20 (drop at s) = omega arith in
+      ap (λ (j : ℕ). take j (drop at s)) m ∙ ap (λ (a : ℕ). take (index_of 0x20 (drop a s)) (drop a s)) p
 
 -- ---- numbers
 

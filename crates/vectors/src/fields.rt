@@ -1,7 +1,7 @@
 // The fields of a case, parted by single spaces: words, decimal numbers, lists of them parted by commas, and hexadecimal bytes. `-` is
 // an empty list, no bytes, or the largest number.
-ghost use Rattle.std.specs.Prelude.{◌≡◌};
-ghost use Rattle.vectors.specs.Fields.{start_of, field_of, digit_of, with_digit, decimal, listed, hex_byte, hex_bytes, Filled};
+ghost use Rattle.std.specs.Prelude.{◌≡◌, ◌+◌, drop};
+ghost use Rattle.vectors.specs.Fields.{start_of, field_of, digit_of, index_of, with_digit, decimal, listed, hex_byte, hex_bytes, Filled};
 
 use buffer::{byte_at, push_byte, push_number, smaller};
 
@@ -23,12 +23,26 @@ fn field_start(s: &[u8], n: usize) -> usize
     i
 }
 
+// The first place from `at` on with this byte, or the end where there is none.
+fn find(s: &[u8], at: usize, byte: u8) -> usize
+    ensures { result ≡ at + index_of byte (drop at s.now) }
+{
+    let mut i = at;
+    while i < s.len() {
+        if s[i] == byte {
+            return i;
+        }
+        i += 1;
+    }
+    i
+}
+
 // The n-th field, counted from 0.
 pub(crate) fn field<'a>(s: &'a [u8], n: usize) -> &'a [u8]
     ensures { result.now ≡ field_of s.now n }
 {
     let at = field_start(s, n);
-    let end = bytes::scan::find(s, at, s.len(), b' ');
+    let end = find(s, at, b' ');
     &s[at..end]
 }
 

@@ -2,6 +2,7 @@
 // is printed is compared with the recorded answers of the Rust source and of the models of calls that it has not, published vectors and the rows
 // program's stated answers.
 #![tactic(auto)]
+
 mod cached;
 mod fields;
 mod models;
@@ -14,7 +15,11 @@ ghost use Rattle.io.specs.Counts.{IsPrefixLen};
 
 use check::same;
 use fields::field;
-use libc::{STDIN_FILENO, STDOUT_FILENO};
+
+// The descriptors of standard input and output.
+const STDIN_FILENO: i32 = 0;
+
+const STDOUT_FILENO: i32 = 1;
 
 // A line's length, and whether the input ended before its newline.
 #[derive(Clone, Copy)]

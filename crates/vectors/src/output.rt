@@ -1,8 +1,8 @@
 // The parts of an answer as text.
 ghost use Rattle.std.specs.Prelude.{◌≡◌, get_or};
 
+use super::STDOUT_FILENO;
 use buffer::byte_at;
-use libc::STDOUT_FILENO;
 use text::Answer;
 
 pub(crate) fn print(text: &[u8]) {

@@ -1,0 +1,7 @@
+use Rattle.vectors.proofs.output.print_hex.Goals as goal
+
+pub loop-i-init : goal.loop-i-init
+loop-i-init c = tt
+
+pub loop-i-preserved : goal.loop-i-preserved
+loop-i-preserved c = tt
