@@ -14,3 +14,5 @@ pub mod Storing
 pub mod Answers
 pub mod RowCall
 pub mod StoreCalls
+pub mod Cursor
+pub mod CallLaws

@@ -20,7 +20,6 @@ pub mod Clip
 pub mod Attributes
 pub mod Spans
 pub mod WellFormed
-pub mod Cursor
 pub mod Columns
 pub mod Readers
 

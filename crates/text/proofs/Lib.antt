@@ -16,3 +16,5 @@ pub mod Converting
 pub mod ConvertCall
 pub mod CellLoops
 pub mod WriteCellsCall
+pub mod NoiseBytes
+pub mod NoiseConversion

@@ -6,7 +6,6 @@ use Rattle.text.specs.Utf8.{Scalar, decode, Piece, run, damaged, runs, bytes_of,
 use Rattle.text.specs.Class.{Profile, is_control}
 use Rattle.text.specs.Cluster.{joins, clusters}
 pub mod Laws
-pub mod Noise
 pub mod Length
 pub mod Code
 pub mod Bytes

@@ -4,7 +4,7 @@ use Rattle.std.proofs.Common.{arith}
 use Rattle.text.specs.Class.{Profile}
 use Rattle.spans.specs.Spans.{Span}
 use Rattle.rows.specs.Rows.{Row, Mode, rows, EndToEnd, last, next}
-use Rattle.rows.specs.Rows.InOrder.{rows_end_to_end}
+use Rattle.rows.proofs.RowsInOrder.{rows_end_to_end}
 use Rattle.drawing.specs.Draw.{end_of, start_of, wrap_bounds}
 
 end_above : {a z : ℕ} {rs : List Row} → EndToEnd a z rs → (e j : ℕ) → a ≤ end_of e j rs

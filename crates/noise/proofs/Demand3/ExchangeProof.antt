@@ -9,10 +9,11 @@ use Rattle.std.proofs.Math.Dec.{eqb_refl, eqb-suc-zero}
 use Rattle.text.specs.Tests.{cases, is_true, true_T}
 use Rattle.text.specs.Each.{Each, nil, cons, each_length, each_map}
 use Rattle.text.specs.Utf8.{noise, noises_of}
-use Rattle.text.specs.Utf8.Noise.{Byte, Twin, noises_append, noises_zeros}
+use Rattle.text.specs.Utf8.Noise.{Byte, Twin}
+use Rattle.text.proofs.NoiseBytes.{noises_append, noises_zeros}
 use Rattle.text.specs.Class.{Profile}
 use Rattle.text.specs.Overstrike.{convert}
-use Rattle.text.specs.Overstrike.Noise.{convert_noises, convert_twin}
+use Rattle.text.proofs.NoiseConversion.{convert_noises, convert_twin}
 use Rattle.text.specs.Calls.{Question, ask, decide, lent, counted, question1, question2, convert_call}
 use Rattle.text.specs.Calls.Laws.{lent_each}
 use Rattle.spans.specs.Spans.{Span, spans, records}

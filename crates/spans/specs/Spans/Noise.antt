@@ -13,9 +13,10 @@ use Rattle.text.specs.Utf8.{decode, Piece, run, damaged, runs, bytes_of, noise, 
 use Rattle.text.specs.Class.{Profile}
 use Rattle.text.specs.Cluster.{clusters}
 use Rattle.text.specs.Utf8.Laws.{piece_bytes, pieces_damaged, pieces_run, piece_bytes_runs, decoded_bytes_decode}
-use Rattle.text.specs.Utf8.Noise.{noise_cons, Byte, Twin, TwinPiece, runs_noise, runs_twin}
+use Rattle.text.specs.Utf8.Noise.{Byte, Twin, TwinPiece}
+use Rattle.text.proofs.NoiseBytes.{noise_cons, runs_noise, runs_twin}
 use Rattle.text.specs.Overstrike.{convert}
-use Rattle.text.specs.Overstrike.Noise.{convert_front, convert_noise}
+use Rattle.text.proofs.NoiseConversion.{convert_front, convert_noise}
 use Rattle.spans.specs.Spans.{invalid, Span, span, read_from, read_pieces, spans_at, spans, Record, a_record, record_of, records, kind_of, match_of}
 use Rattle.spans.specs.Spans.Laws.{shift, spans_at_shift, read_pieces_append}
 

@@ -9,7 +9,8 @@ use Rattle.text.specs.Utf8.{decode, Piece, run, damaged, runs, bytes_of, noise, 
 use Rattle.text.specs.Utf8.Laws.{decoded_bytes_decode, piece_bytes, piece_bytes_runs}
 use Rattle.text.specs.Utf8.Valid.{ValidPiece, runs_valid}
 use Rattle.text.specs.Utf8.Runs.{runs_nil}
-use Rattle.text.specs.Utf8.Noise.{NoNoise, text_none, low_none, noises_append, noises_none, noise_cons, same, exchanged, Twin, TwinPiece, runs_noise, runs_twin}
+use Rattle.text.specs.Utf8.Noise.{NoNoise, same, exchanged, Twin, TwinPiece}
+use Rattle.text.proofs.NoiseBytes.{text_none, low_none, noises_append, noises_none, noise_cons, runs_noise, runs_twin}
 use Rattle.text.specs.Class.{Profile}
 use Rattle.text.specs.Overstrike.{convert_run, convert_pieces, convert}
 use Rattle.text.specs.Overstrike.Laws.{convert_pieces_law, convert_pieces_append}

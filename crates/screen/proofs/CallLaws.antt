@@ -37,7 +37,7 @@ use Rattle.text.specs.Class.Symbols.{symbol_classes}
 use Rattle.screen.specs.Drawn.{ProfileLaws, Line, columns, row_columns}
 use Rattle.screen.specs.Drawn.Spans.{read_fit}
 use Rattle.screen.specs.Drawn.WellFormed.{DrawnList, list_records, never_malformed}
-use Rattle.screen.specs.Drawn.Cursor.{list_passed}
+use Rattle.screen.proofs.Cursor.{list_passed}
 use Rattle.screen.specs.Drawn.Columns.{window_list, rows_list}
 use Rattle.screen.specs.Drawn.Readers.{seen_list, seen_columns}
 
