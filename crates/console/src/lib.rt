@@ -1,5 +1,6 @@
 // The static library: the calls under C names, declared in include/console_lines.h.
 #![tactic(auto)]
+
 ghost use Rattle.std.specs.Prelude.{◌≡◌, length};
 ghost use Rattle.text.specs.Width.{profile01};
 ghost use Rattle.text.specs.Calls.{convert_call, write_cells_call};

@@ -1,6 +1,7 @@
 // The rows program of document 01: width, space, mode and newline on standard input, then the line; each row's index, start and end on
 // standard output, or `refused` and the number of the question that refuses.
 #![tactic(auto)]
+
 mod input;
 
 use libc::STDOUT_FILENO;

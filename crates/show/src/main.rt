@@ -4,6 +4,7 @@
 // its rows in turn; in MODE 0 the window of WIDTH columns from START (0 to 65,535); in MODE 5 its spans. A refused line prints its file,
 // number and refusal in its place.
 #![tactic(auto)]
+
 mod arguments;
 mod file;
 
