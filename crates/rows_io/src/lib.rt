@@ -4,3 +4,4 @@
 pub mod first_line;
 pub mod input;
 pub mod output;
+pub mod report;
