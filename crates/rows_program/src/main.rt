@@ -4,15 +4,15 @@
 
 mod input;
 
-use libc::STDOUT_FILENO;
 use rows_io::output::print;
+use rows_io::report::fail;
 
-fn main() {
+fn main(rt: HostRuntime) {
     let mut line = [0u8; 4097];
     let mut out = [0u8; 258048];
-    let state = input::all(&mut line);
+    let state = input::all(&mut rt.stdin(), &mut line);
     let n = print(&mut out, &line, state);
-    if !io::write_all(STDOUT_FILENO, &out[..n]) {
-        os::fail(b"standard output");
+    if let Err(error) = rt.write_all(&out[..n]) {
+        fail(&rt, b"standard output", error);
     }
 }
