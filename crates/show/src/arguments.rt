@@ -4,6 +4,8 @@ ghost use Rattle.show.specs.Arguments.{in_range, ArgumentRead, ArgumentsRead};
 
 use rows_io::first_line::{FirstLine, in_form, nothing, read_part};
 use show_io::lines::View;
+use std::env::FillError;
+use std::rt::Env;
 
 #[derive(Clone, Copy)]
 pub(crate) struct Arguments {
@@ -13,11 +15,11 @@ pub(crate) struct Arguments {
 }
 
 // A number's argument, and what ends it, read behind what was read before.
-fn with_argument(first: FirstLine, i: usize, end: &[u8]) -> FirstLine
+fn with_argument(rt: &impl Env, first: FirstLine, i: usize, end: &[u8]) -> FirstLine
     ensures { ArgumentRead first end.now result }
 {
     let mut text = [0u8; 32];
-    let n = os::arg(i, &mut text);
+    let n = rt.arg(i, &mut text).unwrap_or(0);
     let a = read_part(first, &text[..n]);
     let b = read_part(a.first, end);
     b.first
@@ -29,12 +31,22 @@ fn in_range(v: View) -> bool
     (1 <= v.width) & ((v.width <= 4096) & ((v.mode <= 5) & (v.start <= 65535)))
 }
 
-pub(crate) fn read() -> Arguments
+// How many arguments the program was started with, its own name among them.
+fn count(rt: &impl Env) -> usize {
+    for i in 0..usize::MAX {
+        if let Err(FillError::NotPresent) = rt.arg(i, &mut [0u8; 1]) {
+            return i;
+        }
+    }
+    usize::MAX
+}
+
+pub(crate) fn read(rt: &impl Env) -> Arguments
     ensures { ArgumentsRead result }
 {
-    let a = with_argument(nothing(), 1, b" ");
-    let b = with_argument(a, 2, b"\n");
-    let c = with_argument(nothing(), 3, b" 0\n");
+    let a = with_argument(rt, nothing(), 1, b" ");
+    let b = with_argument(rt, a, 2, b"\n");
+    let c = with_argument(rt, nothing(), 3, b" 0\n");
     let view = View {
         mode: b.mode,
         start: c.width,
@@ -43,6 +55,6 @@ pub(crate) fn read() -> Arguments
     Arguments {
         ok: in_form(b) & (in_form(c) & in_range(view)),
         view: view,
-        count: os::arg_count(),
+        count: count(rt),
     }
 }

@@ -2,9 +2,10 @@
 ghost use Rattle.std.specs.Prelude.{◌≡◌, take};
 ghost use Rattle.show.specs.Parts.Contracts.{Taken, Written, InTurns, PartShown, MoreShown, AllShown};
 
-use libc::STDOUT_FILENO;
+use rows_io::report::fail;
 use show_io::input::{Reading, with_last, with_part};
 use show_io::lines::View;
+use std::io::Read;
 
 // What was read, and whether to go on: the input has not ended, and what is printed can be written.
 #[derive(Clone, Copy)]
@@ -24,18 +25,20 @@ fn printed(out: &[u8], at: usize) -> &[u8]
 }
 
 // Writes what was printed, and says so where the system does not take it.
-fn flush(out: &[u8], at: usize) -> bool
+fn flush(rt: &HostRuntime, out: &[u8], at: usize) -> bool
     ensures { Taken result }
 {
-    let taken = io::write_all(STDOUT_FILENO, printed(out, at));
-    if !taken {
-        os::fail(b"standard output");
+    match rt.write_all(printed(out, at)) {
+        Ok(()) => true,
+        Err(error) => {
+            fail(rt, b"standard output", error);
+            false
+        }
     }
-    taken
 }
 
 // What was printed is written.
-fn written(reading: Reading, out: &[u8]) -> Reach
+fn written(rt: &HostRuntime, reading: Reading, out: &[u8]) -> Reach
     ensures { Written reading result }
 {
     Reach {
@@ -44,12 +47,13 @@ fn written(reading: Reading, out: &[u8]) -> Reach
             kept: reading.kept,
             at: 0,
         },
-        on: flush(out, reading.at),
+        on: flush(rt, out, reading.at),
     }
 }
 
 // A part, written as often as enough is printed. Each turn reads one piece of a line or more, so there are no more turns than bytes.
 fn in_turns(
+    rt: &HostRuntime,
     name: &[u8],
     view: View,
     before: Reading,
@@ -68,7 +72,7 @@ fn in_turns(
     while 0 < turns {
         if state.on & (p < part.len()) {
             let r = with_part(name, view, state.reading, part, p, line, out);
-            state = written(r.reading, out);
+            state = written(rt, r.reading, out);
             p = r.place;
             turns -= 1;
         } else {
@@ -79,7 +83,9 @@ fn in_turns(
 }
 
 // A part that the system handed over; the input has ended where it is empty.
+#[tactic(auto, using(crate::proofs::Parts::part_none, crate::proofs::Parts::part_some))]
 fn show_part(
+    rt: &HostRuntime,
     name: &[u8],
     view: View,
     before: Reading,
@@ -95,24 +101,41 @@ fn show_part(
             on: false,
         };
     }
-    in_turns(name, view, before, part, line, out)
+    in_turns(rt, name, view, before, part, line, out)
 }
 
 // One part more.
-fn more(fd: i32, name: &[u8], view: View, before: Reading, line: &mut [u8], out: &mut [u8]) -> Reach
+fn more<R: Read>(
+    rt: &HostRuntime,
+    from: &mut R,
+    name: &[u8],
+    view: View,
+    before: Reading,
+    line: &mut [u8],
+    out: &mut [u8],
+) -> Reach
     ensures { MoreShown name.now view line.old out.old line.new out.new before result }
 {
-    let mut buf = io::large_buffer();
-    let got = libc::read(fd, &mut buf);
-    if got < 0 {
-        os::fail(name);
-    }
-    let n = io::count(got, &buf);
-    show_part(name, view, before, &buf[..n], line, out)
+    let mut buf = [0u8; 65536];
+    let n = match from.read(&mut buf) {
+        Ok(n) => n,
+        Err(error) => {
+            fail(rt, name, error);
+            0
+        }
+    };
+    show_part(rt, name, view, before, &buf[..n], line, out)
 }
 
 // All of the file. A proved loop has to end, so it counts its turns down, from a number that no run uses up.
-fn show_all(fd: i32, name: &[u8], view: View, line: &mut [u8], out: &mut [u8]) -> Reading
+fn show_all<R: Read>(
+    rt: &HostRuntime,
+    from: &mut R,
+    name: &[u8],
+    view: View,
+    line: &mut [u8],
+    out: &mut [u8],
+) -> Reading
     ensures { AllShown name.now view line.old out.old line.new out.new result }
 {
     let mut state = Reach {
@@ -126,7 +149,7 @@ fn show_all(fd: i32, name: &[u8], view: View, line: &mut [u8], out: &mut [u8]) -
     let mut turns: usize = usize::MAX;
     while 0 < turns {
         if state.on {
-            state = more(fd, name, view, state.reading, line, out);
+            state = more(rt, from, name, view, state.reading, line, out);
             turns -= 1;
         } else {
             return state.reading;
@@ -137,10 +160,10 @@ fn show_all(fd: i32, name: &[u8], view: View, line: &mut [u8], out: &mut [u8]) -
 }
 
 // A file that is open, under its name.
-pub(crate) fn show(fd: i32, name: &[u8], view: View) {
+pub(crate) fn show<R: Read>(rt: &HostRuntime, from: &mut R, name: &[u8], view: View) {
     let mut line = [0u8; 4097];
     let mut out = [0u8; 589824];
-    let state = show_all(fd, name, view, &mut line, &mut out);
+    let state = show_all(rt, from, name, view, &mut line, &mut out);
     let n = with_last(name, view, state, &line, &mut out);
-    flush(&out, n);
+    flush(rt, &out, n);
 }

@@ -8,46 +8,53 @@
 mod arguments;
 mod file;
 
-use libc::{STDERR_FILENO, STDIN_FILENO};
+use rows_io::report::{fail, say};
 use show_io::lines::View;
+use std::env::FillError;
+use std::fs::File;
+use std::rt::Env;
 
-// The file that an argument names.
-fn show_argument(i: usize, view: View) {
-    let mut path = io::buffer();
-    let n = os::arg(i, &mut path);
-    if os::errno() != 0 {
-        os::fail(b"show");
+// The file that a name names.
+fn show_file(rt: &HostRuntime, name: &[u8], view: View) {
+    let Ok(path) = str::from_utf8(name) else {
+        say(rt, name, "the name is not UTF-8");
         return;
+    };
+    match File::open(rt, path) {
+        Ok(mut from) => file::show(rt, &mut from, name, view),
+        Err(error) => fail(rt, name, error),
     }
-    let fd = os::open_read(&path[..n]);
-    if fd < 0 {
-        os::fail(&path[..n]);
-        return;
-    }
-    file::show(fd, &path[..n], view);
-    libc::close(fd);
 }
 
-fn show_arguments(count: usize, view: View) {
+// The file that an argument names.
+fn show_argument(rt: &HostRuntime, i: usize, view: View) {
+    let mut path = [0u8; 4096];
+    match rt.arg(i, &mut path) {
+        Ok(n) => show_file(rt, &path[..n], view),
+        Err(FillError::TooLong) => say(rt, b"show", "File name too long"),
+        Err(FillError::NotPresent) => say(rt, b"show", "Invalid argument"),
+    }
+}
+
+fn show_arguments(rt: &HostRuntime, count: usize, view: View) {
     let mut i: usize = 4;
     while i < count {
-        show_argument(i, view);
+        show_argument(rt, i, view);
         i += 1;
     }
 }
 
-fn main() {
-    let given = arguments::read();
+fn main(rt: HostRuntime) {
+    let given = arguments::read(&rt);
     if given.ok {
         if given.count <= 4 {
-            file::show(STDIN_FILENO, b"-", given.view);
+            file::show(&rt, &mut rt.stdin(), b"-", given.view);
             return;
         }
-        show_arguments(given.count, given.view);
+        show_arguments(&rt, given.count, given.view);
         return;
     }
-    io::write_all(
-        STDERR_FILENO,
-        b"usage: show WIDTH MODE START [FILE ..]\nWIDTH 1 to 4096 columns, MODE 0 window from column START (0 to 65535), 1 or 3 by cluster, 2 or 4 by word, 5 spans\n",
+    let _ = rt.eprint(
+        "usage: show WIDTH MODE START [FILE ..]\nWIDTH 1 to 4096 columns, MODE 0 window from column START (0 to 65535), 1 or 3 by cluster, 2 or 4 by word, 5 spans\n",
     );
 }

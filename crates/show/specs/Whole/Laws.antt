@@ -10,7 +10,7 @@ use Rattle.std.proofs.lemmas.Bool.{lt-leb}
 use Rattle.text.specs.Tests.{cases}
 use Rattle.buffer.specs.Sink.{Sink, sink, emit}
 use Rattle.show_io.specs.Lines.{line_text}
-use Rattle.show_io.specs.Input.{join_first, pieces, is_end, State, state, Read, next_number, count_of, fitted_of, with_line, begun, with_piece, with_pieces}
+use Rattle.show_io.specs.Input.{join_first, pieces, is_end, State, Read, next_number, count_of, fitted_of, with_line, begun, with_piece, with_pieces}
 use Rattle.show_io.specs.Input.Parts.{each, each_none, each_more, in_parts, end_joined, begun_twice}
 use Rattle.show.specs.Whole.{text_of, list_of, line_shown, lines_shown, file_shown}
 use Rattle.show.specs.Whole.Buffers.{ShortName, fitted_text}
