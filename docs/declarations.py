@@ -14,6 +14,7 @@ def tokens(text):
     """the names in a declaration, without comments, fields and labels"""
     text = re.sub(r'--.*', '', text)
     text = re.sub(r'(?<=[\s)])\.[\w-]+', ' ', text)
+    text = re.sub(r"(?<=[)'])\.[\w-]+", ' ', text)
     text = re.sub(r'(record \{|;)\s*[\w-]+ =', r'\1', text)
     text = re.sub(r'^ +pub [\w-]+ :', '', text, flags=re.M)
     return re.findall(r'[^\s(){};,λ⌜⌝]+', text)
@@ -67,7 +68,7 @@ def uses_of(text):
 
 def file_of(module):
     """the file of a module, or none where it is the toolchain's or declared by the code"""
-    got = re.match(r'Rattle·(\w+)(?:·specs)?\.specs\.(.*)', module)
+    got = re.match(r'Rattle\.(\w+)\.specs\.(.*)', module)
     if not got or got.group(2).startswith('declared.'):
         return None
     path = CRATES / got.group(1) / 'specs' / (got.group(2).replace('.', '/') + '.antt')
