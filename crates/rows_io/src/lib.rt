@@ -4,4 +4,3 @@
 pub mod first_line;
 pub mod input;
 pub mod output;
-pub mod report;

@@ -5,7 +5,7 @@
 mod input;
 
 use rows_io::output::print;
-use rows_io::report::fail;
+use system::fail;
 
 fn main(rt: HostRuntime) {
     let mut line = [0u8; 4097];

@@ -4,8 +4,8 @@ ghost use Rattle.show.specs.Arguments.{in_range, ArgumentRead, ArgumentsRead};
 
 use rows_io::first_line::{FirstLine, in_form, nothing, read_part};
 use show_io::lines::View;
-use std::env::FillError;
 use std::rt::Env;
+use system::argument_count;
 
 #[derive(Clone, Copy)]
 pub(crate) struct Arguments {
@@ -31,16 +31,6 @@ fn in_range(v: View) -> bool
     (1 <= v.width) & ((v.width <= 4096) & ((v.mode <= 5) & (v.start <= 65535)))
 }
 
-// How many arguments the program was started with, its own name among them.
-fn count(rt: &impl Env) -> usize {
-    for i in 0..usize::MAX {
-        if let Err(FillError::NotPresent) = rt.arg(i, &mut [0u8; 1]) {
-            return i;
-        }
-    }
-    usize::MAX
-}
-
 pub(crate) fn read(rt: &impl Env) -> Arguments
     ensures { ArgumentsRead result }
 {
@@ -55,6 +45,6 @@ pub(crate) fn read(rt: &impl Env) -> Arguments
     Arguments {
         ok: in_form(b) & (in_form(c) & in_range(view)),
         view: view,
-        count: count(rt),
+        count: argument_count(rt),
     }
 }

@@ -2,10 +2,10 @@
 ghost use Rattle.std.specs.Prelude.{◌≡◌, take};
 ghost use Rattle.show.specs.Parts.Contracts.{Taken, Written, InTurns, PartShown, MoreShown, AllShown};
 
-use rows_io::report::fail;
 use show_io::input::{Reading, with_last, with_part};
 use show_io::lines::View;
 use std::io::Read;
+use system::fail;
 
 // What was read, and whether to go on: the input has not ended, and what is printed can be written.
 #[derive(Clone, Copy)]

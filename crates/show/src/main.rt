@@ -8,31 +8,14 @@
 mod arguments;
 mod file;
 
-use rows_io::report::{fail, say};
 use show_io::lines::View;
-use std::env::FillError;
-use std::fs::File;
-use std::rt::Env;
-
-// The file that a name names.
-fn show_file(rt: &HostRuntime, name: &[u8], view: View) {
-    let Ok(path) = str::from_utf8(name) else {
-        say(rt, name, "the name is not UTF-8");
-        return;
-    };
-    match File::open(rt, path) {
-        Ok(mut from) => file::show(rt, &mut from, name, view),
-        Err(error) => fail(rt, name, error),
-    }
-}
+use system::open_argument;
 
 // The file that an argument names.
 fn show_argument(rt: &HostRuntime, i: usize, view: View) {
     let mut path = [0u8; 4096];
-    match rt.arg(i, &mut path) {
-        Ok(n) => show_file(rt, &path[..n], view),
-        Err(FillError::TooLong) => say(rt, b"show", "File name too long"),
-        Err(FillError::NotPresent) => say(rt, b"show", "Invalid argument"),
+    if let Some((mut from, name)) = open_argument(rt, b"show", i, &mut path) {
+        file::show(rt, &mut from, name, view);
     }
 }
 

@@ -3,8 +3,8 @@ ghost use Rattle.std.specs.Prelude.{◌<◌, ◌≤◌, length};
 ghost use Rattle.unicode_table.specs.Files.{PartRead, PartsRead, FileRead, AllRead};
 
 use std::fs::File;
-use std::io;
 use std::io::Read;
+use system::{fail, open_argument};
 use unicode_io::reading::{Reading, begin, end_file, read_part};
 
 // What was read, whether the file has more, and whether the system failed.
@@ -15,13 +15,6 @@ pub(crate) struct Reach {
     pub(crate) failed: bool,
 }
 
-// Says on standard error what failed, and why.
-fn fail(rt: &HostRuntime, path: &str, error: &io::Error) {
-    if eprintln!(rt; "{path}: {error}").is_err() {
-        return;
-    }
-}
-
 // How many bytes the system handed over, and whether it failed.
 #[derive(Clone, Copy)]
 struct Taken {
@@ -29,7 +22,7 @@ struct Taken {
     failed: bool,
 }
 
-fn take_part(rt: &HostRuntime, file: &mut File, path: &str, buf: &mut [u8]) -> Taken
+fn take_part(rt: &HostRuntime, file: &mut File, path: &[u8], buf: &mut [u8]) -> Taken
     ensures { result.count ≤ length buf.new }
 {
     match file.read(buf) {
@@ -38,7 +31,7 @@ fn take_part(rt: &HostRuntime, file: &mut File, path: &str, buf: &mut [u8]) -> T
             failed: false,
         },
         Err(error) => {
-            fail(rt, path, &error);
+            fail(rt, path, error);
             Taken {
                 count: 0,
                 failed: true,
@@ -52,7 +45,7 @@ fn more(
     rt: &HostRuntime,
     cells: &mut [u32],
     opened: &mut File,
-    path: &str,
+    path: &[u8],
     file: usize,
     before: Reading,
 ) -> Reach
@@ -74,7 +67,7 @@ fn read_open(
     rt: &HostRuntime,
     cells: &mut [u32],
     opened: &mut File,
-    path: &str,
+    path: &[u8],
     file: usize,
     before: Reading,
 ) -> Reach
@@ -97,15 +90,15 @@ fn read_open(
     state
 }
 
-// The file at a path, the one of that number.
-fn read_file(rt: &HostRuntime, cells: &mut [u32], path: &str, file: usize, before: Reading) -> Reach
+// The file that argument `file + 1` names.
+fn read_file(rt: &HostRuntime, cells: &mut [u32], file: usize, before: Reading) -> Reach
     requires { file < 4 }
     ensures { FileRead file before cells.old cells.new result }
 {
-    match File::open(rt, path) {
-        Ok(opened) => {
-            let mut opened = opened;
-            let r = read_open(rt, cells, &mut opened, path, file, before);
+    let mut path = [0u8; 4096];
+    match open_argument(rt, b"unicode_table", file + 1, &mut path) {
+        Some((mut opened, name)) => {
+            let r = read_open(rt, cells, &mut opened, name, file, before);
             let reading = end_file(cells, file, r.reading);
             Reach {
                 reading: reading,
@@ -113,21 +106,18 @@ fn read_file(rt: &HostRuntime, cells: &mut [u32], path: &str, file: usize, befor
                 failed: r.failed,
             }
         }
-        Err(error) => {
-            fail(rt, path, &error);
-            Reach {
-                reading: before,
-                on: false,
-                failed: true,
-            }
-        }
+        None => Reach {
+            reading: before,
+            on: false,
+            failed: true,
+        },
     }
 }
 
-// All files, in the order of their paths.
-pub(crate) fn read_all(rt: &HostRuntime, cells: &mut [u32], paths: &[String]) -> Reach
-    requires { length paths.now ≤ 4 }
-    ensures { AllRead (length paths.now) cells.old cells.new result }
+// All files, as many as there are arguments after the program's name.
+pub(crate) fn read_all(rt: &HostRuntime, cells: &mut [u32], count: usize) -> Reach
+    requires { count ≤ 4 }
+    ensures { AllRead count cells.old cells.new result }
 {
     let mut state = Reach {
         reading: begin(),
@@ -135,11 +125,11 @@ pub(crate) fn read_all(rt: &HostRuntime, cells: &mut [u32], paths: &[String]) ->
         failed: false,
     };
     let mut file: usize = 0;
-    while file < paths.len() {
+    while file < count {
         if state.failed {
             return state;
         }
-        state = read_file(rt, cells, paths[file].as_str(), file, state.reading);
+        state = read_file(rt, cells, file, state.reading);
         file += 1;
     }
     state

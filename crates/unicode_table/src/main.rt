@@ -7,17 +7,16 @@
 mod files;
 mod table;
 
-ghost use Rattle.std.specs.Prelude.{length};
 ghost use Rattle.unicode_table.specs.Printed.{Begun, Made};
 
-use std::{env, io};
+use system::argument_count;
 use unicode_io::cells::classify;
 use unicode_io::reading::refusal_of;
 
-fn usage(rt: &HostRuntime) -> io::Result<()> {
-    eprintln!(rt;
-        "usage: unicode_table GraphemeBreakProperty EastAsianWidth emoji-data [DerivedCoreProperties]"
-    )
+fn usage(rt: &HostRuntime) {
+    let _ = rt.eprint(
+        "usage: unicode_table GraphemeBreakProperty EastAsianWidth emoji-data [DerivedCoreProperties]\n",
+    );
 }
 
 // Whether the files could be read, and whether the system took all that was printed.
@@ -27,12 +26,12 @@ struct Outcome {
     taken: bool,
 }
 
-// The table that the files make, or a refusal.
-fn make(rt: &HostRuntime, cells: &mut [u32], paths: &[String]) -> Outcome
-    requires { Begun cells.old (length paths.now) }
-    ensures { Made (length paths.now) result }
+// The table that so many files make, or a refusal.
+fn make(rt: &HostRuntime, cells: &mut [u32], count: usize) -> Outcome
+    requires { Begun cells.old count }
+    ensures { Made count result }
 {
-    let r = files::read_all(rt, cells, paths);
+    let r = files::read_all(rt, cells, count);
     if r.failed {
         return Outcome {
             read: false,
@@ -53,15 +52,16 @@ fn make(rt: &HostRuntime, cells: &mut [u32], paths: &[String]) -> Outcome
     }
 }
 
-fn main(rt: HostRuntime) -> io::Result<()> {
-    let mut paths = Vec::new(rt.alloc());
-    for argument in env::args(&rt)?.skip(1) {
-        paths.push(argument)?;
+fn main(rt: HostRuntime) {
+    let count = argument_count(&rt);
+    if count < 4 {
+        usage(&rt);
+        return;
     }
-    if paths.len() < 3 || 4 < paths.len() {
-        return usage(&rt);
+    if 5 < count {
+        usage(&rt);
+        return;
     }
     let mut cells = [0u32; 1114112];
-    make(&rt, &mut cells, &paths);
-    Ok(())
+    make(&rt, &mut cells, count - 1);
 }

@@ -4,8 +4,7 @@ ghost use Rattle.unicode_io.specs.Rows.{rows_from};
 ghost use Rattle.unicode_io.specs.Output.{table_text, refusal};
 ghost use Rattle.unicode_table.specs.Printed.{Handed, RowHanded};
 
-use std::io;
-use std::io::Write;
+use system::fail;
 use unicode_io::output::{push_refusal, push_row};
 use unicode_io::rows::{count_rows, next_row};
 
@@ -16,28 +15,16 @@ struct Turn {
     taken: bool,
 }
 
-// Whether the system took the bytes; where it did not, that is said on standard error.
-fn given(rt: &HostRuntime, out: &[u8]) -> bool {
-    match io::writer(rt).write_all(out) {
-        Ok(()) => true,
-        Err(error) => {
-            if eprintln!(rt; "standard output: {error}").is_err() {
-                return false;
-            }
-            false
-        }
-    }
-}
-
 // The first n bytes, handed to the system; where it does not take them, that is said.
 fn written(rt: &HostRuntime, out: &[u8], n: usize) -> bool
     ensures { Handed (take n out.now) result }
 {
     if n <= out.len() {
-        if given(rt, &out[..n]) {
-            return true;
+        if let Err(error) = rt.write_all(&out[..n]) {
+            fail(rt, b"standard output", error);
+            return false;
         }
-        return false;
+        return true;
     }
     false
 }
