@@ -18,8 +18,8 @@ fn main() {
     println!("cargo:rustc-link-lib=static={name}");
 }
 
-/// The archive that `CONSOLE_LINES_LIBRARY` names, else the one that `rt staticlib console`
-/// writes in the repository, else the installed one that pkg-config knows.
+/// The archive that `CONSOLE_LINES_LIBRARY` names, else the one that `examples/library`
+/// builds in the repository, else the installed one that pkg-config knows.
 fn archive() -> PathBuf {
     println!("cargo:rerun-if-env-changed=CONSOLE_LINES_LIBRARY");
     println!("cargo:rerun-if-env-changed=PKG_CONFIG_PATH");
