@@ -44,7 +44,7 @@ use Rattle.lending.specs.Signatures.{Kind, number, shared, lent, last, signed, e
 use Rattle.lending.specs.Statements.{gives}
 use Rattle.lending.specs.Functions.{args, bound, promise, Owned, Lasting, Ensures, W, C, Λ, env, Fitting, asks, asks_whole, answers_whole, walks_whole}
 use Rattle.lending.specs.LentPlaces as Places
-use Rattle.lending.specs.LentPlaces.{shared_from, lends, gets_back, shares, shared_back, room_less}
+use Rattle.lending.specs.LentPlaces.{shared_from, lends, gets_back_last, shares, shared_back, room_less}
 use Rattle.lending.specs.LocalArrays.{arr, slice_at, others, opens, shuts}
 use Rattle.lending.specs.ReplacedParameter.{lft_with, share_with, share_at, lft_with_law, asides, param_at, param_is, replaced, last_at, lasts_with, other_tokens, other_lasts, token_replaced, token_taken, token_in, part_replaced, last_out, last_in}
 
@@ -252,7 +252,7 @@ module _ {M : Type 1} {𝓤 : Ura M} (𝓛 : Logic 𝓤) (𝓜 : Model 𝓤 𝓛
                     use1 (W 𝓛 𝓜 𝓡 γ) (‵ (last (lft_at n j ok ιs) R y (zs κs a (ν ∷ []) y ws)) ⊛ ‵ (other_lasts n j ok (ν ∷ []) κs nums elems post y pre a ws)) (last_out n j ok (ν ∷ []) κs nums elems post y 𝓛 apart' pre apart a ws) $ split t $
                     rewrite t 0 (λ (ι : Lft). ‵ (last ι R y (zs κs a (ν ∷ []) y ws))) (lft_with_law n j ok (ν ∷ []) κs) refl $
                     -- [what is left in the places; the other last values; the token; the other tokens; the locals; what is said; the answer; the lender's part; …]
-                    move t (2 ∷ 0 ∷ 7 ∷ []) $ gets_back t R tt ys l 0 (zs κs a (ν ∷ []) y ws) (λ same. move t (3 ∷ []) $ f r ws (answered r ws told typ len in_E same)));
+                    move t (2 ∷ 0 ∷ 7 ∷ []) $ gets_back_last t R tt ys l 0 (zs κs a (ν ∷ []) y ws) (λ same. move t (3 ∷ []) $ f r ws (answered r ws told typ len in_E same)));
               }
 
             pub record ArrayMade : Type 2 where

@@ -1,17 +1,17 @@
 -- Places in memory that are lent as a slice for a lifetime of a call, and come back.
---     lends, gets_back         as a `&mut` slice; they come back with what the call left there
+--     lends, gets_back         as a `&mut` slice; they come back with what the call left there.        gets_back_last    the same, with the borrow that a call leaves beside it
 --     shares, shared_back      as a `&` slice; they come back as they were.        shares_with     the same where what is in the places holds `&mut`s: with tokens of their lifetimes, which come back
 --     lent, lent_shared        what the holder keeps meanwhile
 --     slice_from, shared_from  the places as a slice.        room_less     fewer places have room
--- A `&` is made by the type's law (`Denote/Shares.antt`).        copied_shared    the law of a struct that is Copy
+-- A `&` is made by the type's law (`Denote/Shares.antt`).        copied_shared, struct_shared    the law of a struct that is Copy, and of one that holds no `&mut`
 -- Assumes `Logic`.
 use Rattle.std.specs.Prelude.{◌≡◌, refl, ℕ, ◌≤◌, List, [], ◌∷◌, length}
-use Rattle.std.proofs.Common.{lt_of_le_of_lt, mul-le-mul_right}
+use Rattle.std.proofs.Common.{subst, lt_of_le_of_lt, mul-le-mul_right}
 use seplogic.Ra.Ura.{Ura}
 use base.Fraction.{full_share}
 use mir.Syntax.{Lifetime}
 use base.Logic.{ent, sep, id⊢, emp, fst∗}
-use base.Fml.{Lft, GName, Share, Fml, Incl, Incl-refl, Incl-trans, flft, flent}
+use base.Fml.{Lft, GName, Share, Fml, Incl, Incl-refl, Incl-trans, fsep, feq, flft, flent}
 use contract.BorrowLft.{meet_⊑_left, meet_⊑_right, ⊑_static}
 use ghost.Rules.{Toks, span}
 use types.Logic.{Logic, sem, lfts}
@@ -24,10 +24,11 @@ use denote.Memory.{mem, shares as part_of}
 use denote.Shares.{Shares}
 use denote.Lend.{Held, lends_slice, slice_back, lends_shr_slice}
 use denote.Index.{row, whole_in, whole_out}
-use denote.Slice.{slice_val, MutSlice, ShrSlice, Room}
+use denote.Slice.{finally, slice_val, MutSlice, ShrSlice, Room}
 use denote.Struct.Declared.{Declared, row as row_of}
 use denote.Struct.Laws as LL
 use Rattle.lending.specs.Signatures.{last}
+use denote.Param.Shared.{Sharables, struct_shares}
 
 module _ (R : RattleType) where
   abbrev pub slice_from : ℕ → ℕ → GName → List R.Denot → MutBor (List R.Denot)
@@ -67,9 +68,13 @@ module _ {M : Type 1} {𝓤 : Ura M} {𝓛 : Logic 𝓤} {K : Type 0} (t : K) (R
       use1 𝓛 (later (some (λ (δ : GName). ‵ ((MutSlice ℓ (ν ∷ []) R).own_val (slice_from R l o δ ys) (slice_val (l, o) (length ys) ∷ [])) ⊛ ‵ (lent R ys l o (ν ∷ []) δ)))) (lends_slice 𝓛 R ℓ (ν ∷ []) ys l o fit) $ await t a $
       pick t (λ δ. split t $ move t (2 ∷ []) $ f ν δ))
 
-  pub gets_back : {ν : ℕ} {δ : GName} (zs : List R.Denot) → (length zs ≡ length ys → Seq K 𝓛 (‵ (cells (mem R) zs l o) ∷ Γ) G) → Seq K 𝓛 (‵ (flft (ν ∷ []) full_share) ∷ ‵ (last (ν ∷ []) R (slice_from R l o δ ys) zs) ∷ ‵ (lent R ys l o (ν ∷ []) δ) ∷ Γ) G
-  gets_back {ν} {δ} zs f = lft_end t a $ move t (1 ∷ []) $ fsplit t $ move t (1 ∷ []) $ drop t $ fsplit t $ move t (2 ∷ 3 ∷ 0 ∷ []) $
+  pub gets_back : {ν : ℕ} {δ : GName} (zs : List R.Denot) → (length zs ≡ length ys → Seq K 𝓛 (‵ (cells (mem R) zs l o) ∷ Γ) G) → Seq K 𝓛 (‵ (flft (ν ∷ []) full_share) ∷ ‵ (fsep (finally R δ zs) (feq ℕ (length zs) (length ys))) ∷ ‵ (lent R ys l o (ν ∷ []) δ) ∷ Γ) G
+  gets_back {ν} {δ} zs f = lft_end t a $ move t (1 ∷ []) $ fsplit t $ move t (2 ∷ 3 ∷ 0 ∷ []) $
       use3 𝓛 (later (‵ ((Arr (mem R) (length ys)).own_at zs l o))) (slice_back 𝓛 R (ν ∷ []) δ zs (length ys) l o) $ await t a $ fsplit t $ feq_l t (λ e. move t (1 ∷ []) $ drop t $ f e)
+
+  -- with the borrow that a call leaves beside the last value
+  pub gets_back_last : {ν : ℕ} {δ : GName} (zs : List R.Denot) → (length zs ≡ length ys → Seq K 𝓛 (‵ (cells (mem R) zs l o) ∷ Γ) G) → Seq K 𝓛 (‵ (flft (ν ∷ []) full_share) ∷ ‵ (last (ν ∷ []) R (slice_from R l o δ ys) zs) ∷ ‵ (lent R ys l o (ν ∷ []) δ) ∷ Γ) G
+  gets_back_last zs f = move t (1 ∷ []) $ fsplit t $ move t (1 ∷ []) $ drop t $ move t (1 ∷ []) $ gets_back zs f
 
   pub shares_with : (κ : Lft) → Shares 𝓛 R κ → (ts : Toks) → Incl (span ts) κ → (ℓ : Lifetime) → Room R (length ys) → ((ν : ℕ) → Seq K 𝓛 (‵ (flft (ν ∷ []) full_share) ∷ ‵ ((ShrSlice ℓ (ν ∷ []) R).own_val (shared_from R l o ys) (slice_val (l, o) (length ys) ∷ [])) ∷ ‵ (lent_shared R ys l o (ν ∷ [])) ∷ raw (lfts 𝓛 ts) ∷ Γ) G)
       → Seq K 𝓛 (‵ (cells (mem R) ys l o) ∷ raw (lfts 𝓛 ts) ∷ Γ) G
@@ -91,3 +96,7 @@ room_less R r h = (lt_of_le_of_lt h r.0, lt_of_le_of_lt (mul-le-mul_right (mem R
 
 pub copied_shared : {M : Type 1} {𝓤 : Ura M} (𝓛 : Logic 𝓤) (D : Declared) → LL.Copyables D.parts → Shares 𝓛 (row_of D) []
 copied_shared 𝓛 D cs = (LL.copied D cs 𝓛).shares full_share []
+
+-- and of any struct that holds no `&mut`, from its fields' laws
+pub struct_shared : {M : Type 1} {𝓤 : Ura M} (𝓛 : Logic 𝓤) (D : Declared) → Sharables D.parts → (row_of D).lives ≡ [] → Shares 𝓛 (row_of D) []
+struct_shared 𝓛 D ss e = subst (λ (l : Lft). Shares 𝓛 (row_of D) l) e (struct_shares 𝓛 D ss)
