@@ -46,7 +46,7 @@ use Rattle.lending.specs.Functions.{args, bound, promise, Owned, Lasting, Ensure
 use Rattle.lending.specs.LentPlaces as Places
 use Rattle.lending.specs.LentPlaces.{shared_from, lends, gets_back_last, shares, shared_back, room_less}
 use Rattle.lending.specs.LocalArrays.{arr, slice_at, others, opens, shuts}
-use Rattle.lending.specs.ReplacedParameter.{lft_with, share_with, share_at, lft_with_law, asides, param_at, param_is, replaced, last_at, lasts_with, other_tokens, other_lasts, token_replaced, token_taken, token_in, part_replaced, last_out, last_in}
+use Rattle.lending.specs.ReplacedParameter.{lft_with, share_with, share_at, lft_with_law, asides, param_at, param_is, replaced, last_at, lasts_with, other_tokens, other_lasts, token_replaced, token_taken, token_in, part_replaced, last_out_apart, last_in}
 
 module _ {M : Type 1} {𝓤 : Ura M} (𝓛 : Logic 𝓤) (𝓜 : Model 𝓤 𝓛.H) (𝓡 : Running 𝓤 𝓛.H 𝓜) (γ : Routines) where
   open 𝓛 use {H}
@@ -249,7 +249,7 @@ module _ {M : Type 1} {𝓤 : Ura M} (𝓛 : Logic 𝓤) (𝓜 : Model 𝓤 𝓛
               places_lent told typ len in_E = record {
                 ask = λ t os fits f. move t (1 ∷ 2 ∷ []) $ asks_whole 𝓛 𝓜 𝓡 γ n its answer c' fc rc is_c met_c ιs qs' b t (asked ιs b).0 (asked ιs b).1 os spelt fits (λ r is ws.
                     use1 (W 𝓛 𝓜 𝓡 γ) (‵ (flft (ν ∷ []) full_share) ⊛ raw (other_tokens 𝓤 𝓛 n j ok κs qs)) (token_taken 𝓤 𝓛 (ν ∷ []) full_share n j ok κs qs) $ split t $ move t (2 ∷ []) $
-                    use1 (W 𝓛 𝓜 𝓡 γ) (‵ (last (lft_at n j ok ιs) R y (zs κs a (ν ∷ []) y ws)) ⊛ ‵ (other_lasts n j ok (ν ∷ []) κs nums elems post y pre a ws)) (last_out n j ok (ν ∷ []) κs nums elems post y 𝓛 apart' pre apart a ws) $ split t $
+                    use1 (W 𝓛 𝓜 𝓡 γ) (‵ (last (lft_at n j ok ιs) R y (zs κs a (ν ∷ []) y ws)) ⊛ ‵ (other_lasts n j ok (ν ∷ []) κs nums elems post y pre a ws)) (last_out_apart n j ok (ν ∷ []) κs nums elems post y 𝓛 apart' pre apart a ws) $ split t $
                     rewrite t 0 (λ (ι : Lft). ‵ (last ι R y (zs κs a (ν ∷ []) y ws))) (lft_with_law n j ok (ν ∷ []) κs) refl $
                     -- [what is left in the places; the other last values; the token; the other tokens; the locals; what is said; the answer; the lender's part; …]
                     move t (2 ∷ 0 ∷ 7 ∷ []) $ gets_back_last t R tt ys l 0 (zs κs a (ν ∷ []) y ws) (λ same. move t (3 ∷ []) $ f r ws (answered r ws told typ len in_E same)));

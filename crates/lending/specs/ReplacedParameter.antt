@@ -215,6 +215,11 @@ module _ (n j : ℕ) where
         other_lasts [] a ws = Lefts κs post a.1 (lefts_back post a.1 ws.1)
         other_lasts (p ∷ pre) a ws = fsep (Left κs p a.0 (left_back p a.0 ws.0)) (other_lasts pre a.1 ws.1)
 
+        -- the same as the call leaves them, where 'j is another
+        abbrev pub others_after : (pre : List (Kind n)) (a : Params pre) → After pre a → Fml
+        others_after [] a ws = Lefts κs' post (agains post a.1) ws.1
+        others_after (p ∷ pre) a ws = fsep (Left κs' p (again p a.0) ws.0) (others_after pre a.1 ws.1)
+
         module _ {M : Type 1} {𝓤 : Ura M} (𝓛 : Logic 𝓤) where
           abbrev ⟦◌⟧ : Fml → SProp 𝓤
           ⟦ F ⟧ = sem 𝓛 F
@@ -226,9 +231,17 @@ module _ (n j : ℕ) where
           part_replaced z [] d a = out_of 𝓤 ⟦ Own κs k a.0 ⟧ ⟦ Owns κs' post (agains post a.1) ⟧ (id⊢ 𝓤 ⟦ Own κs' k' x ⟧) (mono_r 𝓤 ⟦ Own κs k a.0 ⟧ (is (owns_same post z a.1)))
           part_replaced z (p ∷ pre) d a = past 𝓤 ⟦ Own κs' k' x ⟧ ⟦ Own κs k (param_at κs k post pre a.1) ⟧ ⟦ Owns κs (pre ++ k ∷ post) a.1 ⟧ ⟦ Owns κs' (pre ++ k' ∷ post) (replaced pre a.1) ⟧ (is (own_same p (both (aside p) (asides pre) d).0 a.0)) (part_replaced z pre (both (aside p) (asides pre) d).1 a.1)
 
-          pub last_out : T (asides post) → (pre : List (Kind n)) → T (asides pre) → (a : Params pre) (ws : After pre a) → ent 𝓤 ⟦ Lefts κs' (pre ++ k' ∷ post) (replaced pre a) ws ⟧ (sep 𝓤 ⟦ Left κs' k' x (last_at pre a ws) ⟧ ⟦ other_lasts pre a ws ⟧)
-          last_out z [] d a ws = mono_r 𝓤 ⟦ Left κs' k' x ws.0 ⟧ (is (lefts_same post z a.1 ws.1))
-          last_out z (p ∷ pre) d a ws = out_of 𝓤 ⟦ Left κs' k' x (last_at pre a.1 ws.1) ⟧ ⟦ other_lasts pre a.1 ws.1 ⟧ (is (left_same p (both (aside p) (asides pre) d).0 a.0 ws.0)) (last_out z pre (both (aside p) (asides pre) d).1 a.1 ws.1)
+          pub last_out : (pre : List (Kind n)) (a : Params pre) (ws : After pre a) → ent 𝓤 ⟦ Lefts κs' (pre ++ k' ∷ post) (replaced pre a) ws ⟧ (sep 𝓤 ⟦ Left κs' k' x (last_at pre a ws) ⟧ ⟦ others_after pre a ws ⟧)
+          last_out [] a ws = id⊢ 𝓤 (sep 𝓤 ⟦ Left κs' k' x ws.0 ⟧ ⟦ others_after [] a ws ⟧)
+          last_out (p ∷ pre) a ws = out_of 𝓤 ⟦ Left κs' k' x (last_at pre a.1 ws.1) ⟧ ⟦ others_after pre a.1 ws.1 ⟧ (id⊢ 𝓤 ⟦ Left κs' p (again p a.0) ws.0 ⟧) (last_out pre a.1 ws.1)
+
+          -- none of them is at 'j: as they are left where 'j is as it was
+          others_same : T (asides post) → (pre : List (Kind n)) → T (asides pre) → (a : Params pre) (ws : After pre a) → others_after pre a ws ≡ other_lasts pre a ws
+          others_same z [] d a ws = lefts_same post z a.1 ws.1
+          others_same z (p ∷ pre) d a ws = ap₂ fsep (left_same p (both (aside p) (asides pre) d).0 a.0 ws.0) (others_same z pre (both (aside p) (asides pre) d).1 a.1 ws.1)
+
+          pub last_out_apart : T (asides post) → (pre : List (Kind n)) → T (asides pre) → (a : Params pre) (ws : After pre a) → ent 𝓤 ⟦ Lefts κs' (pre ++ k' ∷ post) (replaced pre a) ws ⟧ (sep 𝓤 ⟦ Left κs' k' x (last_at pre a ws) ⟧ ⟦ other_lasts pre a ws ⟧)
+          last_out_apart z pre d a ws = subst (λ (F : Fml). ent 𝓤 ⟦ Lefts κs' (pre ++ k' ∷ post) (replaced pre a) ws ⟧ (sep 𝓤 ⟦ Left κs' k' x (last_at pre a ws) ⟧ ⟦ F ⟧)) (others_same z pre d a ws) (last_out pre a ws)
 
           pub last_in : (pre : List (Kind n)) (a : Params pre) (ws : After pre a) (w : LeftIn κs k (param_at κs k post pre a)) → ent 𝓤 (sep 𝓤 ⟦ Left κs k (param_at κs k post pre a) w ⟧ ⟦ other_lasts pre a ws ⟧) ⟦ Lefts κs (pre ++ k ∷ post) a (lasts_with pre a ws w) ⟧
           last_in [] a ws w = id⊢ 𝓤 (sep 𝓤 ⟦ Left κs k a.0 w ⟧ ⟦ other_lasts [] a ws ⟧)
