@@ -5,7 +5,7 @@ ghost use Rattle.show.specs.Parts.Contracts.{Taken, Written, InTurns, PartShown,
 use show_io::input::{Reading, with_last, with_part};
 use show_io::lines::View;
 use std::io::Read;
-use system::fail;
+use system::{PART_SIZE, fail};
 
 // What was read, and whether to go on: the input has not ended, and what is printed can be written.
 #[derive(Clone, Copy)]
@@ -116,7 +116,7 @@ fn more<R: Read>(
 ) -> Reach
     ensures { MoreShown name.now view line.old out.old line.new out.new before result }
 {
-    let mut buf = [0u8; 65536];
+    let mut buf = [0u8; PART_SIZE];
     let n = match from.read(&mut buf) {
         Ok(n) => n,
         Err(error) => {

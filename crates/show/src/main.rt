@@ -9,11 +9,11 @@ mod arguments;
 mod file;
 
 use show_io::lines::View;
-use system::open_argument;
+use system::{PATH_MAX, open_argument};
 
 // The file that an argument names.
 fn show_argument(rt: &HostRuntime, i: usize, view: View) {
-    let mut path = [0u8; 4096];
+    let mut path = [0u8; PATH_MAX];
     if let Some((mut from, name)) = open_argument(rt, b"show", i, &mut path) {
         file::show(rt, &mut from, name, view);
     }

@@ -8,8 +8,17 @@ use std::fs::File;
 use std::io::{Error, Write as _};
 use std::rt::Env;
 
-// A line: what failed, and why.
-pub fn say(rt: &HostRuntime, what: &[u8], why: &str) {
+// The longest name of a file, as Linux has it.
+pub const PATH_MAX: usize = 4096;
+
+// How many bytes of a file are asked for at a time.
+pub const PART_SIZE: usize = 65536;
+
+// Room for the system's words for an error.
+const WORDS_MAX: usize = 128;
+
+// A line on standard error: what failed, and why.
+fn say(rt: &HostRuntime, what: &[u8], why: &str) {
     let mut to = rt.stderr();
     let _ = to.write_all(what);
     let _ = to.write_all(b": ");
@@ -17,9 +26,9 @@ pub fn say(rt: &HostRuntime, what: &[u8], why: &str) {
     let _ = to.write_all(b"\n");
 }
 
-// The same in the system's words for an error, without the number that std puts behind them.
+// Says that something failed in the system's words for the error, without the number that std puts after them.
 pub fn fail(rt: &HostRuntime, what: &[u8], error: Error) {
-    let mut text = ArrayString::<128>::new();
+    let mut text = ArrayString::<WORDS_MAX>::new();
     let _ = write!(text, "{error}");
     let words = text.as_str();
     match words.split_once(" (os error ") {
@@ -39,7 +48,7 @@ pub fn argument_count(rt: &impl Env) -> usize {
 }
 
 // The file that a name names; where it cannot be opened that is said.
-pub fn open(rt: &HostRuntime, name: &[u8]) -> Option<File> {
+fn open(rt: &HostRuntime, name: &[u8]) -> Option<File> {
     let Ok(path) = str::from_utf8(name) else {
         say(rt, name, "the name is not UTF-8");
         return None;
@@ -59,7 +68,7 @@ pub fn open_argument<'a>(
     rt: &HostRuntime,
     program: &[u8],
     i: usize,
-    path: &'a mut [u8; 4096],
+    path: &'a mut [u8; PATH_MAX],
 ) -> Option<(File, &'a [u8])> {
     match rt.arg(i, path) {
         Ok(n) => {

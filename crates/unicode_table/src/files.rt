@@ -4,7 +4,7 @@ ghost use Rattle.unicode_table.specs.Files.{PartRead, PartsRead, FileRead, AllRe
 
 use std::fs::File;
 use std::io::Read;
-use system::{fail, open_argument};
+use system::{PART_SIZE, PATH_MAX, fail, open_argument};
 use unicode_io::reading::{Reading, begin, end_file, read_part};
 
 // What was read, whether the file has more, and whether the system failed.
@@ -51,7 +51,7 @@ fn more(
 ) -> Reach
     ensures { PartRead file before cells.old cells.new result }
 {
-    let mut buf = [0u8; 65536];
+    let mut buf = [0u8; PART_SIZE];
     let part = take_part(rt, opened, path, &mut buf);
     let n = part.count;
     let reading = read_part(cells, file, before, &buf[..n]);
@@ -95,7 +95,7 @@ fn read_file(rt: &HostRuntime, cells: &mut [u32], file: usize, before: Reading) 
     requires { file < 4 }
     ensures { FileRead file before cells.old cells.new result }
 {
-    let mut path = [0u8; 4096];
+    let mut path = [0u8; PATH_MAX];
     match open_argument(rt, b"unicode_table", file + 1, &mut path) {
         Some((mut opened, name)) => {
             let r = read_open(rt, cells, &mut opened, name, file, before);
