@@ -65,19 +65,15 @@ module _ (s : List ℕ) (n i left : ℕ) (z : Passing s n i left) where
   passing_past h = omega (arith, z.work, ap (λ (l : List ℕ). start_of l left) (drop_of_length-le s h) ∙ start_none left)
 
 index_more : (b x : ℕ) (s : List ℕ) → (x ≡ b → ⊥) → index_of b (x ∷ s) ≡ suc (index_of b s)
-unfolding index_of
-index_more b x s h = rw (ne_eqb x b h)
+index_more b x s h = rw (ne_eqb x b h) (omega arith)
 
 index_here : (b x : ℕ) (s : List ℕ) → x ≡ b → index_of b (x ∷ s) ≡ 0
-unfolding index_of
 index_here b x s h = rw (eq-eqb x b h)
 
 index_none : (b : ℕ) → index_of b [] ≡ 0
-unfolding index_of
 index_none b = refl
 
 index_low : (b : ℕ) (s : List ℕ) → index_of b s ≤ length s
-unfolding index_of
 index_low b [] = omega arith
 index_low b (x ∷ s) = cases (eqb x b) (λ p. rw p (omega arith)) (λ p. rw p (omega (arith, index_low b s)))
 

@@ -1,5 +1,6 @@
 -- The fields of a case, parted by single spaces, and what stands in them.
 use Rattle.std.specs.Prelude.{ℕ, suc, ◌+◌, ◌-◌, ◌*◌, ◌/◌, ◌%◌, ◌≡◌, cond, ◌&&◌, List, [], ◌∷◌, length, take, drop, get_or, eqb, leb, ltb}
+use Rattle.std.specs.List.{position_or_len}
 use Rattle.io.specs.Counts.{IsPrefixLen}
 use Rattle.buffer.specs.Sink.{Sink, sink, emit}
 use Rattle.buffer.specs.Numbers.{smaller_of}
@@ -10,13 +11,12 @@ start_of [] n = 0
 start_of (b ∷ s) n = let further : ℕ = suc (start_of s (cond (eqb b 0x20) (n - 1) n)) in cond (eqb n 0) 0 further
 
 -- the first place of a byte, or the length where there is none
-unfoldable pub index_of : ℕ → List ℕ → ℕ
-index_of b [] = 0
-index_of b (x ∷ s) = let further : ℕ = suc (index_of b s) in cond (eqb x b) 0 further
+abbrev pub index_of : ℕ → List ℕ → ℕ
+index_of b s = position_or_len (λ x. eqb x b) s
 
 -- the n-th field, counted from 0
 unfoldable pub field_of : List ℕ → ℕ → List ℕ
-unfolding start_of index_of
+unfolding start_of
 field_of s n = take (index_of 0x20 (drop (start_of s n) s)) (drop (start_of s n) s)
 
 -- the value of a decimal or hexadecimal digit, 16 for any other byte
