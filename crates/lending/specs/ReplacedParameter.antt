@@ -215,7 +215,7 @@ module _ (n j : ℕ) where
         other_lasts [] a ws = Lefts κs post a.1 (lefts_back post a.1 ws.1)
         other_lasts (p ∷ pre) a ws = fsep (Left κs p a.0 (left_back p a.0 ws.0)) (other_lasts pre a.1 ws.1)
 
-        -- the same as the call leaves them, where 'j is another
+        -- what is left in the other parameters as the call leaves it, where 'j is another lifetime
         abbrev pub others_after : (pre : List (Kind n)) (a : Params pre) → After pre a → Fml
         others_after [] a ws = Lefts κs' post (agains post a.1) ws.1
         others_after (p ∷ pre) a ws = fsep (Left κs' p (again p a.0) ws.0) (others_after pre a.1 ws.1)
