@@ -1,10 +1,10 @@
 -- Numbers: the smaller of two, and numbers as bytes.
-use Rattle.std.specs.Prelude.{ℕ, ◌+◌, ◌/◌, ◌%◌, cond, List, [], ◌∷◌, leb, ltb}
+use Rattle.std.specs.Prelude.{ℕ, ◌+◌, ◌/◌, ◌%◌, cond, List, [], ◌∷◌, ltb, min}
 pub mod Laws
 pub mod Parts
 
 abbrev pub smaller_of : ℕ → ℕ → ℕ
-smaller_of a b = cond (leb a b) a b
+smaller_of a b = min a b
 
 -- little-endian
 unfoldable pub le2 : ℕ → List ℕ

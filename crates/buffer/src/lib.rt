@@ -1,47 +1,24 @@
 // Lent memory. A buffer is written from its front with a count that saturates one past the buffer's length.
 #![tactic(auto)]
 
-ghost use Rattle.std.specs.Prelude.{◌≡◌, ◌+◌, ◌-◌, ◌%◌, ◌≤◌, ◌++◌, length, take, drop, replicate, get_or};
-ghost use Rattle.buffer.specs.Sink.{sink, put, emit, Copied};
-ghost use Rattle.buffer.specs.Numbers.{smaller_of, le2, le4, hex_digit};
-
-pub fn smaller(a: usize, b: usize) -> usize
-    ensures { result ≡ smaller_of a b }
-{
-    if a <= b {
-        return a;
-    }
-    b
-}
+ghost use Rattle.std.specs.Prelude.{◌≡◌, ◌+◌, ◌%◌, ◌^◌, ◌<◌, ◌≤◌, length, take, drop, get_or};
+ghost use Rattle.buffer.specs.Sink.{sink, put, emit, Copied, cleared};
+ghost use Rattle.buffer.specs.Numbers.{le2, le4, hex_digit};
 
 // The byte at a place, or 0 past the end.
 pub fn byte_at(s: &[u8], at: usize) -> u8
     ensures { result ≡ get_or s.now at 0 }
 {
-    if at < s.len() {
-        return s[at];
-    }
-    0
+    s.get(at).copied().unwrap_or(0)
 }
 
-// Writes one byte at the count `at`, and returns the next count.
-pub fn push_byte(out: &mut [u8], at: usize, b: u8) -> usize
-    ensures { sink out.new result ≡ put (sink out.old at) b }
+// Writes one more element at the count `at`, and returns the next count.
+pub fn push<T: Copy>(out: &mut [T], at: usize, x: T) -> usize
+    requires { length out.old + 1 < 2 ^ 64 }
+    ensures { sink out.new result ≡ put (sink out.old at) x }
 {
     if at < out.len() {
-        out[at] = b;
-        at + 1
-    } else {
-        out.len() + 1
-    }
-}
-
-// As push_byte, for a number.
-pub fn push_number(out: &mut [usize], at: usize, n: usize) -> usize
-    ensures { sink out.new result ≡ put (sink out.old at) n }
-{
-    if at < out.len() {
-        out[at] = n;
+        out[at] = x;
         at + 1
     } else {
         out.len() + 1
@@ -49,51 +26,35 @@ pub fn push_number(out: &mut [usize], at: usize, n: usize) -> usize
 }
 
 // Copies src to the place `at`, where there is room for it.
-pub fn copy_bytes(out: &mut [u8], at: usize, src: &[u8]) -> usize
+pub fn copy<T: Copy>(out: &mut [T], at: usize, src: &[T]) -> usize
     requires { at + length src.now ≤ length out.old }
     ensures { Copied out.old out.new at src.now result }
 {
-    let mut j = 0;
-    while j < src.len() {
-        out[at + j] = src[j];
-        j += 1;
-    }
-    at + j
+    let end = at + src.len();
+    out[at..end].copy_from_slice(src);
+    end
 }
 
-// The same of numbers.
-pub fn copy_numbers(out: &mut [usize], at: usize, src: &[usize]) -> usize
-    requires { at + length src.now ≤ length out.old }
-    ensures { Copied out.old out.new at src.now result }
-{
-    let mut j = 0;
-    while j < src.len() {
-        out[at + j] = src[j];
-        j += 1;
-    }
-    at + j
-}
-
-// The bytes one by one, where they may not fit.
-fn push_each(out: &mut [u8], at: usize, src: &[u8]) -> usize
+// The elements one by one, where they may not fit.
+fn push_each<T: Copy>(out: &mut [T], at: usize, src: &[T]) -> usize
+    requires { length out.old + 1 < 2 ^ 64 }
     ensures { sink out.new result ≡ emit (sink out.old at) src.now }
 {
-    let mut a = at;
-    let mut j = 0;
-    while j < src.len() {
-        a = push_byte(out, a, src[j]);
-        j += 1;
+    let mut end = at;
+    for x in src {
+        end = push(out, end, *x);
     }
-    a
+    end
 }
 
-// Writes the bytes of src in order.
-pub fn push_bytes(out: &mut [u8], at: usize, src: &[u8]) -> usize
+// Writes the elements of src in order.
+pub fn push_all<T: Copy>(out: &mut [T], at: usize, src: &[T]) -> usize
+    requires { length out.old + 1 < 2 ^ 64 }
     ensures { sink out.new result ≡ emit (sink out.old at) src.now }
 {
     if at <= out.len() {
         if src.len() <= out.len() - at {
-            return copy_bytes(out, at, src);
+            return copy(out, at, src);
         }
     }
     push_each(out, at, src)
@@ -103,17 +64,16 @@ pub fn push_bytes(out: &mut [u8], at: usize, src: &[u8]) -> usize
 pub fn push_part(out: &mut [u8], at: usize, src: &[u8], place: usize, len: usize) -> usize
     ensures { sink out.new result ≡ emit (sink out.old at) (take len (drop place src.now)) }
 {
-    let from = smaller(place, src.len());
-    let n = smaller(len, src.len() - from);
-    push_bytes(out, at, &src[from..from + n])
+    let from = place.min(src.len());
+    let n = len.min(src.len() - from);
+    push_all(out, at, &src[from..from + n])
 }
 
 // A number in two bytes, little-endian.
 pub fn push_le2(out: &mut [u8], at: usize, n: usize) -> usize
     ensures { sink out.new result ≡ emit (sink out.old at) (le2 n) }
 {
-    let a = push_byte(out, at, (n % 256) as u8);
-    push_byte(out, a, (n / 256 % 256) as u8)
+    push_all(out, at, &[(n % 256) as u8, (n / 256 % 256) as u8])
 }
 
 // A number in four bytes, little-endian.
@@ -126,7 +86,7 @@ pub fn push_le4(out: &mut [u8], at: usize, n: usize) -> usize
         (n / 65536 % 256) as u8,
         (n / 16777216 % 256) as u8,
     ];
-    push_bytes(out, at, &bytes)
+    push_all(out, at, &bytes)
 }
 
 // The lowest hexadecimal digit of n, in capitals.
@@ -135,30 +95,19 @@ pub fn hex_digit(n: u8) -> u8
 {
     let digit = n % 16;
     if digit < 10 {
-        0x30 + digit
+        b'0' + digit
     } else {
-        0x37 + digit
+        b'A' + (digit - 10)
     }
 }
 
-// Zeros from the place `from` on.
-pub fn clear_bytes(out: &mut [u8], from: usize)
-    ensures { out.new ≡ take from out.old ++ replicate (length out.old - from) 0 }
+// Blanks from the place `from` on; nothing where that lies past the end.
+pub fn clear<T: Copy>(out: &mut [T], from: usize, blank: T)
+    ensures { out.new ≡ cleared blank from out.old }
 {
-    let mut i = from;
-    while i < out.len() {
-        out[i] = 0;
-        i += 1;
-    }
-}
-
-// As clear_bytes, for numbers.
-pub fn clear_numbers(out: &mut [usize], from: usize)
-    ensures { out.new ≡ take from out.old ++ replicate (length out.old - from) 0 }
-{
-    let mut i = from;
-    while i < out.len() {
-        out[i] = 0;
-        i += 1;
+    if from < out.len() {
+        for place in &mut out[from..] {
+            *place = blank;
+        }
     }
 }

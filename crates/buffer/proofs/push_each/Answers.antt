@@ -1,9 +1,9 @@
 use Rattle.std.proofs.Common.{rules}
-use Rattle.buffer.specs.Sink.Laws.{emit_turn, emit_end}
+use Rattle.buffer.specs.Sink.Laws.{emit_item, emit_end}
 use Rattle.buffer.proofs.push_each.Goals as goal
 
-pub loop-j-preserved : goal.loop-j-preserved
-loop-j-preserved c = (search emit_turn, search rules, search rules)
+pub loop-x-preserved : goal.loop-x-preserved
+loop-x-preserved g c = (search emit_item, search rules)
 
 pub returns : goal.returns
-returns c = search emit_end
+returns g c = search emit_end

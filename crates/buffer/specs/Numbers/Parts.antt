@@ -5,13 +5,13 @@ use Rattle.std.proofs.Math.Seq.{take-nil}
 use Rattle.buffer.specs.Numbers.{smaller_of}
 use Rattle.buffer.specs.Numbers.Laws.{smaller_is, smaller_left, smaller_right}
 
-pub take_smaller : (s : List ℕ) (n k : ℕ) → k ≡ smaller_of n (length s) → take k s ≡ take n s
+pub take_smaller : {A : Type 0} (s : List A) (n k : ℕ) → k ≡ smaller_of n (length s) → take k s ≡ take n s
 take_smaller s n k is = ⊎_elim
     (λ (p : (n ≤ length s) × (k ≡ n)). ap (λ (m : ℕ). take m s) p.1)
     (λ (p : (length s < n) × (k ≡ length s)). take_all k s (omega arith) ∙ sym (take_all n s (omega arith)))
     (smaller_is n (length s) k is)
 
-module _ (s : List ℕ) (at from : ℕ) (is : from ≡ smaller_of at (length s)) where
+module _ {A : Type 0} (s : List A) (at from : ℕ) (is : from ≡ smaller_of at (length s)) where
   -- as many, or in both all that is left
   same_part : (k n : ℕ) → (k ≡ n) ⊎ ((length s ≤ from + k) × (length s ≤ at + n)) → take k (drop from s) ≡ take n (drop at s)
   same_part k n h = ⊎_elim
@@ -23,7 +23,7 @@ module _ (s : List ℕ) (at from : ℕ) (is : from ≡ smaller_of at (length s))
       all m g = take_all m (drop at s) (rw length-drop (omega arith))
 
       past : (m p : ℕ) → length s ≤ p → take m (drop p s) ≡ []
-      past m p g = rw (drop_of_length-le s g) (take-nil {A = ℕ} m)
+      past m p g = rw (drop_of_length-le s g) (take-nil {A = A} m)
 
   -- by its end
   pub part_cut : (n to : ℕ) → to ≡ smaller_of (at + n) (length s) → take (to - from) (drop from s) ≡ take n (drop at s)

@@ -1,82 +1,82 @@
 -- Writers one after the other, loops that write, and what a run of writes came to by its count.
-use Rattle.std.specs.Prelude.{◌≡◌, refl, List, [], ◌∷◌, ◌++◌, ◌⊎◌, ℕ, zero, suc, ◌+◌, ◌-◌, ◌≤◌, ◌<◌, length, set, take, drop, get_or, replicate}
-use Rattle.std.proofs.Common.{sym, ap, ap₂, ◌∙◌, append-nil, append_assoc, inl, inr, ⊎_elim, add-zero, add-one, arith, drop_of_length-le, length-set, length-drop, take-append-drop, take_at, drop-cons, take_all, length-take-le, drop_at, drop-drop, lt-ltb, le-ltb}
+use Rattle.std.specs.Prelude.{◌≡◌, refl, List, [], ◌∷◌, ◌++◌, ℕ, zero, suc, ◌+◌, ◌-◌, ◌≤◌, ◌<◌, length, set, take, drop, get_or, replicate}
+use Rattle.std.proofs.Common.{sym, ap, ap₂, ◌∙◌, append-nil, append_assoc, ⊎_elim, add-zero, add-one, arith, drop_of_length-le, length-set, length-drop, take-append-drop, take_at, drop-cons, take_all, length-take-le, drop_at, drop-drop, lt-ltb, le-ltb}
 use Rattle.std.proofs.lemmas.List.{length-replicate, get_or-replicate, take-append-le, drop-append-le}
 use Rattle.std.proofs.Math.Seq.{set_out, paste, paste-zero, paste-suc, take-length, take-append_seam}
 use Rattle.std.proofs.lemmas.List.Edits.{sets, sets-eq, length-paste, drop-paste}
 use Rattle.buffer.specs.Numbers.{smaller_of}
+use Rattle.buffer.specs.Numbers.Laws.{le_or_lt}
 use Rattle.buffer.specs.Numbers.Parts.{part_is}
 use Rattle.buffer.specs.Sink.{Sink, sink, saturated, put, emit, written, cleared, Copied}
 
-abbrev count_of : Sink → ℕ
+abbrev count_of : {A : Type 0} → Sink A → ℕ
 count_of (sink l r) = r
 
-abbrev list_of : Sink → List ℕ
+abbrev list_of : {A : Type 0} → Sink A → List A
 list_of (sink l r) = l
-
-le_or_lt : (a b : ℕ) → (a ≤ b) ⊎ (b < a)
-le_or_lt zero b = inl (omega arith)
-le_or_lt (suc a) zero = inr (omega arith)
-le_or_lt (suc a) (suc b) = ⊎_elim (λ (p : a ≤ b). inl (omega arith)) (λ (q : b < a). inr (omega arith)) (le_or_lt a b)
 
 -- ---- one more
 
-pub put_in : (l : List ℕ) (at b : ℕ) → at < length l → sink (set l at b) (at + 1) ≡ put (sink l at) b
+pub put_in : {A : Type 0} (l : List A) (at : ℕ) (b : A) → at < length l → sink (set l at b) (at + 1) ≡ put (sink l at) b
 unfolding put saturated
 put_in l at b h = rw (lt-ltb at (length l) h)
 
-pub put_past : (l : List ℕ) (at b : ℕ) → length l ≤ at → sink l (length l + 1) ≡ put (sink l at) b
+pub put_past : {A : Type 0} (l : List A) (at : ℕ) (b : A) → length l ≤ at → sink l (length l + 1) ≡ put (sink l at) b
 unfolding put saturated
 put_past l at b h = rw (le-ltb at (length l) h, set_out l at b h)
 
 -- ---- writers one after the other
 
-pub emit_none : (s : Sink) → emit s [] ≡ s
+pub emit_none : {A : Type 0} (s : Sink A) → emit s [] ≡ s
 unfolding emit
 emit_none s = refl
 
-pub emit_append : (s : Sink) (xs ys : List ℕ) → emit s (xs ++ ys) ≡ emit (emit s xs) ys
+pub emit_append : {A : Type 0} (s : Sink A) (xs ys : List A) → emit s (xs ++ ys) ≡ emit (emit s xs) ys
 unfolding emit
 emit_append s [] ys = refl
 emit_append s (x ∷ xs) ys = emit_append (put s x) xs ys
 
-pub then_emit : (s s' s'' : Sink) (xs ys : List ℕ) → s' ≡ emit s xs → s'' ≡ emit s' ys → s'' ≡ emit s (xs ++ ys)
+pub then_emit : {A : Type 0} (s s' s'' : Sink A) (xs ys : List A) → s' ≡ emit s xs → s'' ≡ emit s' ys → s'' ≡ emit s (xs ++ ys)
 then_emit s s' s'' xs ys p q = q ∙ (rw (p, ← emit_append s xs ys))
 
-pub emit_put : (s s' : Sink) (b : ℕ) → s' ≡ put s b → s' ≡ emit s (b ∷ [])
+pub emit_put : {A : Type 0} (s s' : Sink A) (b : A) → s' ≡ put s b → s' ≡ emit s (b ∷ [])
 unfolding emit
 emit_put s s' b p = p
 
-pub then_put : (s s' s'' : Sink) (xs : List ℕ) (b : ℕ) → s' ≡ emit s xs → s'' ≡ put s' b → s'' ≡ emit s (xs ++ b ∷ [])
+pub then_put : {A : Type 0} (s s' s'' : Sink A) (xs : List A) (b : A) → s' ≡ emit s xs → s'' ≡ put s' b → s'' ≡ emit s (xs ++ b ∷ [])
 then_put s s' s'' xs b p q = then_emit s s' s'' xs (b ∷ []) p (emit_put s' s'' b q)
 
-pub emit_part : (xs : List ℕ) (at n from len : ℕ) (s s' : Sink) → from ≡ smaller_of at (length xs) → len ≡ smaller_of n (length xs - from) → s' ≡ emit s (take (from + len - from) (drop from xs)) → s' ≡ emit s (take n (drop at xs))
+pub emit_part : {A : Type 0} (xs : List A) (at n from len : ℕ) (s s' : Sink A) → from ≡ smaller_of at (length xs) → len ≡ smaller_of n (length xs - from) → s' ≡ emit s (take (from + len - from) (drop from xs)) → s' ≡ emit s (take n (drop at xs))
 emit_part xs at n from len s s' is cut e = e ∙ ap (emit s) (part_is xs at from is n len cut)
 
 -- ---- a loop that writes one byte n times: a turn, and the end
 
-pub repeat_turn : (s s' : Sink) (n b : ℕ) {e : Sink} → 0 < n → emit s (replicate n b) ≡ e → s' ≡ put s b → emit s' (replicate (n - 1) b) ≡ e
+pub repeat_turn : {A : Type 0} (s s' : Sink A) (n : ℕ) (b : A) {e : Sink A} → 0 < n → emit s (replicate n b) ≡ e → s' ≡ put s b → emit s' (replicate (n - 1) b) ≡ e
 unfolding emit
 repeat_turn s s' zero b h p q = absurd (omega arith)
 repeat_turn s s' (suc n) b h p q = let m : suc n - 1 ≡ n = omega arith in rw (m, q) p
 
-pub repeat_end : (s : Sink) (n b : ℕ) {e : Sink} → n ≤ 0 → emit s (replicate n b) ≡ e → s ≡ e
+pub repeat_end : {A : Type 0} (s : Sink A) (n : ℕ) (b : A) {e : Sink A} → n ≤ 0 → emit s (replicate n b) ≡ e → s ≡ e
 unfolding emit
 repeat_end s n b h p = let z : n ≡ 0 = omega arith in rw z at p
 
 -- ---- a loop that writes what is left of xs, one by one: a turn, and the end
 
-pub emit_turn : (s s' : Sink) (xs : List ℕ) (j : ℕ) {e : Sink} → j < length xs → emit s (drop j xs) ≡ e → s' ≡ put s (get_or xs j 0) → emit s' (drop (j + 1) xs) ≡ e
+pub emit_item : {A : Type 0} (s s' : Sink A) (xs : List A) (j : ℕ) (x : A) {e : Sink A} → j < length xs → x ≡ get_or xs j x → emit s (drop j xs) ≡ e → s' ≡ put s x → emit s' (drop (j + 1) xs) ≡ e
+unfolding emit
+emit_item s s' xs j x h i p q = rw (q, add-one) (rw (drop-cons xs j x h, ← i) at p)
+
+pub emit_turn : (s s' : Sink ℕ) (xs : List ℕ) (j : ℕ) {e : Sink ℕ} → j < length xs → emit s (drop j xs) ≡ e → s' ≡ put s (get_or xs j 0) → emit s' (drop (j + 1) xs) ≡ e
 unfolding emit
 emit_turn s s' xs j h p q = rw (q, add-one) (rw (drop-cons xs j 0 h) at p)
 
-pub emit_end : (s : Sink) (xs : List ℕ) (j : ℕ) {e : Sink} → length xs ≤ j → emit s (drop j xs) ≡ e → s ≡ e
+pub emit_end : {A : Type 0} (s : Sink A) (xs : List A) (j : ℕ) {e : Sink A} → length xs ≤ j → emit s (drop j xs) ≡ e → s ≡ e
 unfolding emit
 emit_end s xs j h p = rw (drop_of_length-le xs h) at p
 
 -- ---- writes that fit
 
-emit_sets : (xs l : List ℕ) (at : ℕ) → at + length xs ≤ length l → emit (sink l at) xs ≡ sink (sets l at xs) (at + length xs)
+emit_sets : {A : Type 0} (xs l : List A) (at : ℕ) → at + length xs ≤ length l → emit (sink l at) xs ≡ sink (sets l at xs) (at + length xs)
 unfolding emit
 emit_sets [] l at h = ap (sink l) (sym (add-zero at))
 emit_sets (x ∷ xs) l at h =
@@ -84,21 +84,21 @@ emit_sets (x ∷ xs) l at h =
     let n : suc at + length xs ≡ at + suc (length xs) = omega arith in
     rw (← put_in l at x (omega arith), add-one) (emit_sets xs (set l at x) (suc at) g ∙ ap (sink (sets (set l at x) (suc at) xs)) n)
 
-pub emit_room : (l xs : List ℕ) (at : ℕ) → at + length xs ≤ length l → emit (sink l at) xs ≡ sink (written l at xs) (at + length xs)
-emit_room l xs at h = emit_sets xs l at h ∙ ap (λ (m : List ℕ). sink m (at + length xs)) (sets-eq xs l at h)
+pub emit_room : {A : Type 0} (l xs : List A) (at : ℕ) → at + length xs ≤ length l → emit (sink l at) xs ≡ sink (written l at xs) (at + length xs)
+emit_room {A = A} l xs at h = emit_sets xs l at h ∙ ap (λ (m : List A). sink m (at + length xs)) (sets-eq xs l at h)
 
-pub emit_copied : (l l' xs : List ℕ) (at r : ℕ) → at ≤ length l → length xs ≤ length l - at → Copied l l' at xs r → sink l' r ≡ emit (sink l at) xs
+pub emit_copied : {A : Type 0} (l l' xs : List A) (at r : ℕ) → at ≤ length l → length xs ≤ length l - at → Copied l l' at xs r → sink l' r ≡ emit (sink l at) xs
 emit_copied l l' xs at r h k c = rw (c.bytes, c.end) (sym (emit_room l xs at (omega arith)))
 
 -- ---- what a run of writes from the front of a list came to
 
 -- a full buffer takes nothing more
-stuck : (l xs : List ℕ) → emit (sink l (length l + 1)) xs ≡ sink l (length l + 1)
+stuck : {A : Type 0} (l xs : List A) → emit (sink l (length l + 1)) xs ≡ sink l (length l + 1)
 unfolding emit
 stuck l [] = refl
 stuck l (x ∷ xs) = rw (← put_past l (length l + 1) x (omega arith)) (stuck l xs)
 
-emit_past : (xs l : List ℕ) (at : ℕ) → at ≤ length l → length l < at + length xs → count_of (emit (sink l at) xs) ≡ length l + 1
+emit_past : {A : Type 0} (xs l : List A) (at : ℕ) → at ≤ length l → length l < at + length xs → count_of (emit (sink l at) xs) ≡ length l + 1
 unfolding emit
 emit_past [] l at h k = absurd (omega arith)
 emit_past (x ∷ xs) l at h k = ⊎_elim
@@ -161,6 +161,16 @@ clear_end l l' from i h k n e =
     let past : length l ≤ from + (i - from) = omega arith in
     let b : drop (from + (i - from)) l ≡ [] = drop_of_length-le l past in
     e ∙ rw (a, b, append-nil)
+
+-- ---- a loop that fills a list with blanks: a turn
+
+filled : {A : Type 0} (b : A) (l : List A) (i : ℕ) → i < length l → set (replicate i b ++ drop i l) i b ≡ replicate (suc i) b ++ drop (suc i) l
+filled b [] i h = absurd (omega arith)
+filled b (x ∷ l) zero h = refl
+filled {A = A} b (x ∷ l) (suc i) h = ap (λ (m : List A). b ∷ m) (filled b l i (omega arith))
+
+pub fill_turn : {A : Type 0} (b : A) (l xs : List A) (i : ℕ) → i < length xs → length xs ≡ length l → xs ≡ replicate i b ++ drop i l → set xs i b ≡ replicate (i + 1) b ++ drop (i + 1) l
+fill_turn b l xs i h n e = rw (e, add-one) (filled b l i (omega arith))
 
 -- ---- what is kept of a buffer
 
