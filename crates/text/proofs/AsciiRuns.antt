@@ -12,7 +12,9 @@ use borrow.Author.Tests.{lt-leb, le-leb, ltb-true, ltb-false, lt-ltb, le-ltb}
 use Rattle.text.specs.Tests.{cases, and_T, is_true, true_T}
 use Rattle.text.specs.Utf8.{decode}
 use Rattle.text.specs.Utf8.Ascii.{low_sequence}
-use Rattle.text.specs.Utf8.Code.{ascii_length, ascii_four, first_sequence, run_of, size}
+use Rattle.std.specs.Prelude.{Option, None, Some}
+use Rattle.text.specs.Utf8.Code.{ascii_length, ascii_four, first_sequence, sequence_or_zero, run_of, size}
+use Rattle.text.specs.Utf8.Code.Laws.{given_none, given_some}
 use Rattle.text.specs.declared.utf8.Sequence.{Sequence}
 use Rattle.text.proofs.SequenceBytes.{run_more, run_room, size_end, size_on, size_stop}
 
@@ -121,22 +123,27 @@ module _ (s : List ℕ) (at p : ℕ) (w : RunLoop s at p) where
   pub run_ends : length s ≤ p → p ≡ at + size (run_of (decode (drop at s)))
   run_ends h = size_end s p (at + size (run_of (decode (drop at s)))) h w.same
 
-  module _ (u : Sequence) (h : p < length s) (f : u ≡ first_sequence (decode (drop p s))) where
-    pub run_stops : u.len ≡ 0 → p ≡ at + size (run_of (decode (drop at s)))
-    run_stops z = size_stop s p u h f (at + size (run_of (decode (drop at s)))) w.same z
+  module _ (h : p < length s) (r : Option Sequence) (f : r ≡ first_sequence (decode (drop p s))) where
+    pub run_stops : r ≡ None → p ≡ at + size (run_of (decode (drop at s)))
+    unfolding first_sequence
+    run_stops e = size_stop s p (sequence_or_zero (decode (drop p s))) h refl (at + size (run_of (decode (drop at s)))) w.same (given_none (sequence_or_zero (decode (drop p s))) r f e)
 
-    module _ (z : u.len ≢ 0) where
+    module _ (u : Sequence) (e : r ≡ Some u) where
+      read : (u ≡ sequence_or_zero (decode (drop p s))) × (u.len ≢ 0)
+      unfolding first_sequence
+      read = given_some (sequence_or_zero (decode (drop p s))) u r f e
+
       pub run_place : p + u.len ≤ length s
-      run_place = run_room s p u h f z
+      run_place = run_room s p u h read.0 read.1
 
-      module _ (q : ℕ) (e : q ≡ p + u.len + ascii_length (drop (p + u.len) s)) where
+      module _ (q : ℕ) (i : q ≡ p + u.len + ascii_length (drop (p + u.len) s)) where
         pub run_again : RunLoop s at q
         run_again =
             record {
-              same = size_on s p u h f (at + size (run_of (decode (drop at s)))) w.same z ∙ run_ascii s (p + u.len) q run_place e;
-              low = ascii_inside s (p + u.len) q run_place e;
-              high = ascii_high s (p + u.len) q run_place e;
+              same = size_on s p u h read.0 (at + size (run_of (decode (drop at s)))) w.same read.1 ∙ run_ascii s (p + u.len) q run_place i;
+              low = ascii_inside s (p + u.len) q run_place i;
+              high = ascii_high s (p + u.len) q run_place i;
             }
 
         pub run_falls : length s - q < length s - p
-        run_falls = omega (arith, z)
+        run_falls = omega (arith, read.1)

@@ -12,7 +12,7 @@ use Rattle.text.specs.Backward.{KnownPlace, ScalarStart, back, backward, joins_a
 use Rattle.text.specs.Class.{Profile, among, number}
 use Rattle.text.specs.Cluster.{Context, after, context, joined, joins, joins_next, start}
 use Rattle.text.specs.Cluster.Walk.{size_is}
-use Rattle.text.specs.Utf8.Code.{first_sequence, is_tail, sequence_of, size, whole}
+use Rattle.text.specs.Utf8.Code.{sequence_or_zero, is_tail, sequence_of, size, whole}
 use Rattle.text.specs.Class.Code.{profile_of}
 use Rattle.text.specs.Rules.{state_context}
 use Rattle.text.specs.Scalar.{packed_at}
@@ -127,8 +127,8 @@ module _ (P : Profile) where
   state_bound t j k e = omega (arith, class_bound t j k e)
 
   -- the code there
-  pub code_of : (t : List ℕ) (j : ℕ) (d : Scalar) (rest es : List Scalar) → run_of (decode t) ≡ reverse_aux rest (d ∷ es) → j ≡ size rest → (first_sequence (decode (drop j t))).code ≡ d.code
-  code_of t j d rest es e p = ap (λ (i : ℕ). (first_sequence (decode (drop i t))).code) p ∙ (run_head (drop (size rest) t) d es (run_drop rest (d ∷ es) t e)).coded
+  pub code_of : (t : List ℕ) (j : ℕ) (d : Scalar) (rest es : List Scalar) → run_of (decode t) ≡ reverse_aux rest (d ∷ es) → j ≡ size rest → (sequence_or_zero (decode (drop j t))).code ≡ d.code
+  code_of t j d rest es e p = ap (λ (i : ℕ). (sequence_or_zero (decode (drop i t))).code) p ∙ (run_head (drop (size rest) t) d es (run_drop rest (d ∷ es) t e)).coded
 
   pub odd_begin : (t : List ℕ) (q : ℕ) → ScalarStart t q → OddLoop P t q false (odd_to P t q)
   unfolding flip
@@ -222,7 +222,7 @@ module _ (P : Profile) where
         go c (d ∷ rest) es p e = let h = size_pos d rest (c ∷ es) t p in absurd (omega arith)
 
     -- a class that joins nothing before it
-    joins_alone : alone (number (P.class (first_sequence (decode (drop q t))).code)) ≡ true → false ≡ joins_at P t q
+    joins_alone : alone (number (P.class (sequence_or_zero (decode (drop q t))).code)) ≡ true → false ≡ joins_at P t q
     unfolding joins
     joins_alone f = go a.c a.rest a.es a.parts a.place ∙ sym joins_is
       where
@@ -330,7 +330,7 @@ last_lone v t b r w h e f z =
     let P : Profile = profile_of v in
     let l : never_joins_before b ≡ true = sym f ∙ z in
     let low : is_tail b ≡ false = low_tail b (lone_low b l) in
-    let one : sequence_of b 1 ≡ first_sequence (decode (drop (length t - 1) t)) = ascii_sequence t (length t - 1) b (omega arith) e (lone_low b l) in
+    let one : sequence_of b 1 ≡ sequence_or_zero (decode (drop (length t - 1) t)) = ascii_sequence t (length t - 1) b (omega arith) e (lone_low b l) in
     let a = last_begin P t (length t - 1) w h (back_here t (length t) (length t - 1) b (omega arith) refl e low) in
     let j : false ≡ joins_at P t (length t - 1) = joins_alone P t (length t - 1) a.start (ap (λ (u : Sequence). alone (number (P.class u.code))) (sym one) ∙ lone P (ascii_classes v) b l) in
     last_stop P t (length t - 1) _ false j refl a

@@ -4,9 +4,10 @@ use native.Mathlib.Omega.{arith}
 use mathlib.Core.Bool.{Bool, ◌&&◌, false, true}
 use mathlib.Core.List.{List, [], ◌++◌, ◌∷◌}
 use mathlib.Core.Path.{◌∙◌, ◌≡◌, ap, refl, sym}
-use lib.Dec.{eqb, leb, leb→le, ltb, ltb→lt}
-use lib.ListN.{drop, drop_of_length-le, get_or, length, length-append, length-drop}
-use borrow.Author.Tests.{eqb-false, leb-false, leb-true, ltb-false, ne_eqb}
+use lib.Dec.{eqb}
+use lib.ListN.{drop, get_or, length, length-append, length-drop, take}
+use lib.Seq.{take_all}
+use borrow.Author.Tests.{ne_eqb}
 use Rattle.buffer.specs.Numbers.{smaller_of}
 use Rattle.buffer.specs.Sink.{Sink, emit, put}
 use Rattle.buffer.specs.Sink.Laws.{emit_append, emit_none, emit_put, then_put}
@@ -14,60 +15,54 @@ use Rattle.text.specs.Cells.Code.{overstruck_length}
 use Rattle.text.specs.Cells.Laws.{overstruck_length_law}
 use Rattle.text.specs.Cells.{are_cells, cell_style, is_cell, overstruck, overstruck_cells}
 use Rattle.text.specs.Overstrike.{Style}
-use Rattle.text.specs.Places.{last_at_law, two_at}
-use Rattle.text.specs.Tests.{and_T, cases, true_T}
 
 -- ---- are_cells
 
-module _ (cells : List ℕ) (i : ℕ) (e : are_cells (drop i cells) ≡ are_cells cells) (h : i < length cells) where
-  pub cells_half : length cells - i ≡ 1 → false ≡ are_cells cells
-  unfolding are_cells
-  cells_half k = rw (last_at_law cells i h k) at e
+-- what is left after two bytes
+pub left_rest : (s : List ℕ) → take (length s - 2) (drop 2 s) ≡ drop 2 s
+left_rest s = take_all (length s - 2) (drop 2 s) (rw length-drop (omega arith))
 
-  module _ (k : length cells - i ≡ 1 → ⊥) (r : Bool) (p : r ≡ is_cell (get_or cells i 0) (get_or cells (i + 1) 0)) where
-    first_cell : are_cells (drop i cells) ≡ r && are_cells (drop (i + 2) cells)
-    unfolding are_cells
-    first_cell = rw (two_at cells i (omega arith), p)
+pair_first : (s : List ℕ) → 2 ≤ length s → are_cells s ≡ (is_cell (get_or s 0 0) (get_or s 1 0) && are_cells (drop 2 s))
+unfolding are_cells
+pair_first [] h = absurd (omega arith)
+pair_first (b ∷ []) h = absurd (omega arith)
+pair_first (b ∷ y ∷ s) h = refl
 
-    pub cells_turn : r ≡ true → are_cells (drop (i + 2) cells) ≡ are_cells cells
-    cells_turn q = sym (rw q at first_cell) ∙ e
+module _ (cells s : List ℕ) (e : are_cells s ≡ are_cells cells) where
+  module _ (h : 2 ≤ length s) (r : Bool) (p : r ≡ is_cell (get_or s 0 0) (get_or s 1 0)) where
+    pub cells_turn : r ≡ true → are_cells (take (length s - 2) (drop 2 s)) ≡ are_cells cells
+    cells_turn q = ap are_cells (left_rest s) ∙ sym (rw (sym p ∙ q) at (pair_first s h)) ∙ e
 
     pub cells_fail : r ≡ false → false ≡ are_cells cells
-    cells_fail q = sym (rw q at first_cell) ∙ e
+    cells_fail q = sym (rw (sym p ∙ q) at (pair_first s h)) ∙ e
 
-pub cells_end : (cells : List ℕ) (i : ℕ) → are_cells (drop i cells) ≡ are_cells cells → length cells ≤ i → true ≡ are_cells cells
-unfolding are_cells
-cells_end cells i e h = rw (drop_of_length-le cells h) at e
+  pub cells_end : length s < 2 → (r : Bool) → r ≡ eqb (length s) 0 → r ≡ are_cells cells
+  unfolding are_cells
+  cells_end h r p = p ∙ short_end s h ∙ e
+    where
+      short_end : (s : List ℕ) → length s < 2 → eqb (length s) 0 ≡ are_cells s
+      short_end [] h = refl
+      short_end (b ∷ []) h = refl
+      short_end (b ∷ y ∷ s) h = absurd (omega arith)
 
--- ---- what is written for the cells from a place on
+-- ---- what is written for the cells that are left
 
-short : (cells : List ℕ) → length cells ≤ 1 → overstruck_cells cells ≡ []
+none_written : (s : List ℕ) → length s < 2 → overstruck_cells s ≡ []
 unfolding overstruck_cells
-short [] h = refl
-short (b ∷ []) h = refl
-short (b ∷ s ∷ cells) h = absurd (omega arith)
+none_written [] h = refl
+none_written (b ∷ []) h = refl
+none_written (b ∷ y ∷ s) h = absurd (omega arith)
 
-module _ (cells : List ℕ) (i : ℕ) where
-  none_from : length cells ≤ i + 1 → overstruck_cells (drop i cells) ≡ []
-  none_from h = short (drop i cells) (rw length-drop (omega arith))
+one_written : (s : List ℕ) → 2 ≤ length s → overstruck_cells s ≡ overstruck (cell_style (get_or s 1 0)) (get_or s 0 0) ++ overstruck_cells (drop 2 s)
+unfolding overstruck_cells
+one_written [] h = absurd (omega arith)
+one_written (b ∷ []) h = absurd (omega arith)
+one_written (b ∷ y ∷ s) h = refl
 
-  one_from : i + 1 < length cells → overstruck_cells (drop i cells) ≡ overstruck (cell_style (get_or cells (i + 1) 0)) (get_or cells i 0) ++ overstruck_cells (drop (i + 2) cells)
-  unfolding overstruck_cells
-  one_from h = rw (two_at cells i h)
-
--- ---- overstruck_len and push_overstruck
+-- ---- push_overstruck
 
 module _ (s : ℕ) where
-  pub len_one : s ≡ 0 → 1 ≡ overstruck_length (cell_style s)
-  len_one e = rw e refl
-
-  pub len_three : (s ≡ 0 → ⊥) → s ≤ 2 → 3 ≡ overstruck_length (cell_style s)
-  len_three h k = rw (ne_eqb s 0 h) (cases (eqb s 1) (λ e. rw e) (λ e. let d = eqb-false s 1 e in let f : s ≡ 2 = omega arith in rw f refl))
-
-  pub len_five : 2 < s → 5 ≡ overstruck_length (cell_style s)
-  len_five k = rw (ne_eqb s 0 (λ e. omega arith), ne_eqb s 1 (λ e. omega arith), ne_eqb s 2 (λ e. omega arith))
-
-  module _ (b : ℕ) (x y : Sink) where
+  module _ (b : ℕ) (x y : Sink ℕ) where
     pub push_normal : s ≡ 0 → y ≡ put x b → y ≡ emit x (overstruck (cell_style s) b)
     unfolding overstruck
     push_normal e p = rw e (emit_put x y b p)
@@ -81,19 +76,15 @@ module _ (s : ℕ) where
       unfolding overstruck
       push_underline e = rw e p
 
-      pub push_both : (z w : Sink) → (s ≡ 0 → ⊥) → (s ≡ 1 → ⊥) → (s ≡ 2 → ⊥) → z ≡ put y 0x08 → w ≡ put z b → w ≡ emit x (overstruck (cell_style s) b)
+      pub push_both : (z w : Sink ℕ) → (s ≡ 0 → ⊥) → (s ≡ 1 → ⊥) → (s ≡ 2 → ⊥) → z ≡ put y 0x08 → w ≡ put z b → w ≡ emit x (overstruck (cell_style s) b)
       unfolding overstruck
       push_both z w h k l q r = rw (ne_eqb s 0 h, ne_eqb s 1 k, ne_eqb s 2 l) (then_put x z w (0x5F ∷ 0x08 ∷ b ∷ 0x08 ∷ []) b (then_put x y z (0x5F ∷ 0x08 ∷ b ∷ []) 0x08 p q) r)
 
 -- ---- written_len
 
-pub record Counted (cells : List ℕ) (n i : ℕ) : Type 0 where
-  pub same : n + length (overstruck_cells (drop i cells)) ≡ length (overstruck_cells cells)
-  pub inside : i ≤ length cells
-  pub small : n ≤ 4101
-
-pub counted_begin : (cells : List ℕ) → Counted cells 0 0
-counted_begin cells = record { same = omega arith; inside = omega arith; small = omega arith }
+pub record Counted (cells s : List ℕ) (n : ℕ) : Type 0 where
+  pub same : n + length (overstruck_cells s) ≡ length (overstruck_cells cells)
+  pub small : n ≤ 4096
 
 few : (t : Style) → overstruck_length t ≤ 5
 few Style.normal = omega arith
@@ -101,45 +92,34 @@ few Style.bold = omega arith
 few Style.underline = omega arith
 few Style.bold_underline = omega arith
 
-module _ (cells : List ℕ) (n i : ℕ) (z : Counted cells n i) where
-  counted_test : (leb n 4096 && ltb (i + 1) (length cells)) ≡ true → (n ≤ 4096) × (i + 1 < length cells)
-  counted_test t = let q = and_T (leb n 4096) (ltb (i + 1) (length cells)) (true_T t) in (leb→le _ _ q.0, ltb→lt _ _ q.1)
+pub counted_begin : (cells : List ℕ) → Counted cells cells 0
+counted_begin cells = record { same = omega arith; small = omega arith }
 
-  module _ (t : (leb n 4096 && ltb (i + 1) (length cells)) ≡ true) where
-    pub counted_inside : i + 1 < length cells
-    counted_inside = (counted_test t).1
+module _ (cells s : List ℕ) (n : ℕ) (z : Counted cells s n) where
+  module _ (h : 2 ≤ length s) (r : ℕ) (e : r ≡ overstruck_length (cell_style (get_or s 1 0))) where
+    pub counted_most : n + r ≤ 4101
+    counted_most = rw e (omega (arith, few (cell_style (get_or s 1 0)), z.small))
 
-    module _ (r : ℕ) (e : r ≡ overstruck_length (cell_style (get_or cells (i + 1) 0))) where
-      pub counted_most : n + r ≤ 4101
-      counted_most = let k = (counted_test t).0 in rw e (omega (arith, few (cell_style (get_or cells (i + 1) 0))))
+    counted_on : n + r + length (overstruck_cells (drop 2 s)) ≡ length (overstruck_cells cells)
+    counted_on =
+        let t : Style = cell_style (get_or s 1 0) in
+        let f : length (overstruck_cells s) ≡ r + length (overstruck_cells (drop 2 s)) = ap length (one_written s h) ∙ rw (length-append, overstruck_length_law t (get_or s 0 0), e) in
+        omega (arith, z.same)
 
-      pub counted_turn : Counted cells (n + r) (i + 2)
-      counted_turn =
-          let k = (counted_test t).1 in
-          let s : Style = cell_style (get_or cells (i + 1) 0) in
-          let f : length (overstruck_cells (drop i cells)) ≡ r + length (overstruck_cells (drop (i + 2) cells)) = ap length (one_from cells i k) ∙ rw (length-append, overstruck_length_law s (get_or cells i 0), e) in
-          record { same = omega (arith, z.same); inside = omega arith; small = counted_most }
+    pub counted_turn : n + r ≤ 4096 → Counted cells (take (length s - 2) (drop 2 s)) (n + r)
+    counted_turn k = rw (left_rest s) (record { same = counted_on; small = k })
 
-  pub counted_end : (r : ℕ) → (leb n 4096 && ltb (i + 1) (length cells)) ≡ false → r ≡ smaller_of n 4097 → r ≡ smaller_of (length (overstruck_cells cells)) 4097
-  counted_end r t e =
-      cases (leb n 4096)
-      (λ f.
-      let k : ltb (i + 1) (length cells) ≡ false = rw f at t in
-      let q : length (overstruck_cells (drop i cells)) ≡ 0 = ap length (none_from cells i (ltb-false _ _ k)) in
-      let m : n ≡ length (overstruck_cells cells) = omega (arith, z.same) in
-      rw (← m) e)
-      (λ f.
-      let k = leb-false n 4096 f in
-      e ∙ past n k ∙ sym (past (length (overstruck_cells cells)) (omega (arith, z.same))))
-    where
-      past : (m : ℕ) → 4096 < m → smaller_of m 4097 ≡ 4097
-      past m h = cases (leb m 4097) (λ f. let k = leb-true m 4097 f in rw f (omega arith)) (λ f. rw f)
+    pub counted_past : 4096 < n + r → 4097 ≡ smaller_of (length (overstruck_cells cells)) 4097
+    counted_past k = omega (arith, counted_on)
+
+  pub counted_end : length s < 2 → n ≡ smaller_of (length (overstruck_cells cells)) 4097
+  counted_end h = let q : length (overstruck_cells s) ≡ 0 = ap length (none_written s h) in omega (arith, z.same, z.small)
 
 -- ---- push_cells
 
-module _ (cells : List ℕ) (i : ℕ) (s s' : Sink) {e : Sink} (w : emit s (overstruck_cells (drop i cells)) ≡ e) where
-  pub pushed_turn : i + 1 < length cells → s' ≡ emit s (overstruck (cell_style (get_or cells (i + 1) 0)) (get_or cells i 0)) → emit s' (overstruck_cells (drop (i + 2) cells)) ≡ e
-  pushed_turn h q = rw q (sym (emit_append s (overstruck (cell_style (get_or cells (i + 1) 0)) (get_or cells i 0)) (overstruck_cells (drop (i + 2) cells))) ∙ rw (← one_from cells i h) w)
+module _ (t : List ℕ) (s : Sink ℕ) {e : Sink ℕ} (w : emit s (overstruck_cells t) ≡ e) where
+  pub pushed_turn : (s' : Sink ℕ) → 2 ≤ length t → s' ≡ emit s (overstruck (cell_style (get_or t 1 0)) (get_or t 0 0)) → emit s' (overstruck_cells (take (length t - 2) (drop 2 t))) ≡ e
+  pushed_turn s' h q = rw (left_rest t, q) (sym (emit_append s (overstruck (cell_style (get_or t 1 0)) (get_or t 0 0)) (overstruck_cells (drop 2 t))) ∙ rw (← one_written t h) w)
 
-pub pushed_end : (cells : List ℕ) (i : ℕ) (s : Sink) {e : Sink} → emit s (overstruck_cells (drop i cells)) ≡ e → length cells ≤ i + 1 → s ≡ e
-pushed_end cells i s w h = sym (emit_none s) ∙ rw (none_from cells i h) at w
+  pub pushed_end : length t < 2 → s ≡ e
+  pushed_end h = sym (emit_none s) ∙ (rw (none_written t h) at w)

@@ -1,6 +1,5 @@
 -- The call `convert`: the short cut without 08, refusals, and what an accepted call leaves.
 use Prim.Native.Nat.{◌*◌, ◌+◌, ◌-◌, ◌<◌, ◌≤◌, ℕ}
-use native.Mathlib.Nat.{sub-zero}
 use native.Mathlib.Numerals.{add-one}
 use native.Mathlib.Omega.{arith}
 use mathlib.Core.Bool.{Bool, ◌||◌, false, true}
@@ -10,9 +9,9 @@ use lib.Dec.{eqb}
 use lib.ListN.{drop, drop_of_length-le, get_or, length, replicate, set, take}
 use lib.Seq.{drop-cons, length-take-le, take_all, take-suc, take-suc-set}
 use borrow.Author.Tests.{le-leb, lt-leb}
-use Rattle.text.specs.Calls.{Converted, convert_call, counted, decide, lent}
+use Rattle.text.specs.Calls.{convert_call, counted, decide, lent}
 use Rattle.text.specs.Class.{Profile}
-use Rattle.text.specs.Calls.Code.{converted, refusal}
+use Rattle.text.specs.Calls.Code.{converted}
 use Rattle.text.specs.Overstrike.Code.{LineCopied, Wrote}
 use Rattle.text.specs.Overstrike.{convert, convert_pieces, has_backspace}
 use Rattle.text.specs.Utf8.{decode, runs}
@@ -51,17 +50,14 @@ plain_line P line l b c t = rw (sym c.found ∙ t) c.wrote
 
 -- ---- the answers
 
-pub refused : (l l' : List ℕ) (r : ℕ) → l' ≡ take 0 l ++ replicate (length l - 0) 0 → converted (record { number = r; count = 0 }) l' ≡ refusal r (length l)
-refused l l' r e = rw (e, sub-zero) refl
-
 module _ (P : Profile) (line l : List ℕ) where
-  pub refused_long : (c : Converted) → 4096 < length line → c ≡ refusal 1 (length l) → c ≡ convert_call P (length l) line
+  pub refused_long : 4096 < length line → converted (record { number = 1; count = 0 }) (replicate (length l) 0) ≡ convert_call P (length l) line
   unfolding convert_call decide lent counted
-  refused_long c h e = e ∙ sym (rw (lt-leb (length line) 4096 h) refl)
+  refused_long h = rw (lt-leb (length line) 4096 h)
 
-  pub refused_small : (c : Converted) → length line ≤ 4096 → length l < 8 * length line → c ≡ refusal 2 (length l) → c ≡ convert_call P (length l) line
+  pub refused_small : length line ≤ 4096 → length l < 8 * length line → converted (record { number = 2; count = 0 }) (replicate (length l) 0) ≡ convert_call P (length l) line
   unfolding convert_call decide lent counted
-  refused_small c h k e = e ∙ sym (rw (le-leb (length line) 4096 h, lt-leb (8 * length line) (length l) k) refl)
+  refused_small k h = rw (le-leb (length line) 4096 k, lt-leb (8 * length line) (length l) h)
 
   pub accepted : (l₁ l₂ : List ℕ) (n : ℕ) → length line ≤ 4096 → 8 * length line ≤ length l → length l₁ ≡ length l → Wrote l₁ n (convert P line) → l₂ ≡ take n l₁ ++ replicate (length l₁ - n) 0
       → converted (record { number = 0; count = n }) l₂ ≡ convert_call P (length l) line

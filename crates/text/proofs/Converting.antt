@@ -14,9 +14,11 @@ use Rattle.text.specs.Cluster.Laws.{clusters_first, further}
 use Rattle.text.specs.Cluster.Walk.{size_is}
 use Rattle.text.specs.Backward.{backward}
 use Rattle.text.specs.Segmentation.{first_of, first_size}
-use Rattle.text.specs.Utf8.Code.{first_sequence, size, whole}
+use Rattle.std.specs.Prelude.{Option, Bool, true, false, not}
+use Rattle.std.specs.Option.{is_some}
+use Rattle.text.specs.Utf8.Code.{first_sequence, sequence_or_zero, size, whole}
 use Rattle.text.specs.Class.Code.{profile_of}
-use Rattle.text.specs.Overstrike.Code.{FinishReady, Finished, Part, PieceDone, PieceReady, Sound, SpanDone, StepReady, Stepped, Wrote, conversion, finish_on, part_of, pending_of, plain, state_of, style_of}
+use Rattle.text.specs.Overstrike.Code.{FinishReady, Finished, Part, PieceDone, PieceReady, Sound, SpanDone, StepReady, Stepped, Wrote, conversion, finish_on, part_of, pending_of, plain, span_of, state_of, style_of}
 use Rattle.text.specs.Utf8.Code.Laws as laws
 use Rattle.text.specs.TextParts.Laws.{first_none}
 use Rattle.text.specs.Overstrike.{State, convert_pieces, convert_run, none, normal, state, step, steps}
@@ -25,6 +27,7 @@ use Rattle.text.specs.Utf8.{Decoded, Piece, Scalar, add_to_run, bytes_of, decode
 use Rattle.text.specs.Utf8.Laws.{bytes_of_append, decode_bad, decode_good, sequence_le}
 use Rattle.text.specs.declared.utf8.Sequence.{Sequence}
 use Rattle.text.specs.declared.overstrike.Conversion.{Conversion}
+use Rattle.text.specs.declared.overstrike.Pending.TheVariants.{Nothing}
 use Rattle.text.specs.declared.overstrike.Progress.{Progress}
 use Rattle.text.specs.declared.class.Profile as code
 use Rattle.text.proofs.RegionalIndicators.{known_zero}
@@ -32,7 +35,7 @@ use Rattle.text.proofs.Runs.{Head, no_head, part_slice, run_drop, run_head, size
 use Rattle.text.proofs.OverstrikeSteps.{front_size, front_text, part_none}
 use Rattle.text.proofs.Texts.{run_prefix}
 use Rattle.text.proofs.SequenceBytes.{run_good, run_more, run_size, scalar_at}
-use Rattle.text.specs.Utf8.Code.Laws.{none_at, none_past, size_cons, size_nil}
+use Rattle.text.specs.Utf8.Code.Laws.{given_len, none_of, none_past, nothing_at, size_cons, size_nil}
 
 -- ---- the run of a text and what stands behind it
 
@@ -110,12 +113,12 @@ pub record Running (P : Profile) (line l : List ℕ) (p : ℕ) (st : Conversion)
   pub small : weight (state_of line l st) ≤ 8 * p
   pub room : 8 * length line ≤ length l
 
-start_state : (line l : List ℕ) → state_of line l (conversion 0 0 0 0 plain plain 0) ≡ state [] none normal normal
+start_state : (line l : List ℕ) → state_of line l (conversion 0 Nothing plain plain 0) ≡ state [] none normal normal
 unfolding state_of pending_of style_of backward run_of decode decode_from
 start_state line l = refl
 
-pub running_begin : (P : Profile) (line l : List ℕ) → 8 * length line ≤ length l → Running P line l 0 (conversion 0 0 0 0 plain plain 0)
-unfolding run_of decode decode_from bytes_of
+pub running_begin : (P : Profile) (line l : List ℕ) → 8 * length line ≤ length l → Running P line l 0 (conversion 0 Nothing plain plain 0)
+unfolding run_of decode decode_from bytes_of span_of
 running_begin P line l h = record {
   sound = record { inside = omega arith; valid = refl; part = part_none line; known = known_zero P [] };
   here = omega arith;
@@ -129,7 +132,7 @@ module _ (P : Profile) (line l : List ℕ) (p e : ℕ) (st : Conversion) (w : Ru
   cluster : ClusterAt P line p e
   cluster = cluster_at P line p e h i n
 
-  pub running_ready : StepReady P line l st p e
+  pub running_ready : StepReady P line l st (record { at = p; end = e })
   running_ready = record { sound = w.sound; upper = cluster.part; room = omega (arith, w.small, w.room) }
 
   pub running_less : length line - e < length line - p
@@ -258,12 +261,12 @@ rest_all t p = take_all (length t - p) (drop p t) (rw (length-drop p t) (omega a
 
 module _ (line l : List ℕ) (d : Progress) (w : PieceReady line l d) where
   -- no run there: a damaged byte copied
-  pub piece_damaged : (v : code.Profile) (u : Sequence) → u ≡ first_sequence (decode (drop d.read line)) → u.len ≡ 0 → PieceDone (profile_of v) line l (set l d.written (get_or line d.read 0)) d (record { read = d.read + 1; written = d.written + 1 })
+  pub piece_damaged : (v : code.Profile) (o : Option Sequence) → o ≡ first_sequence (decode (drop d.read line)) → (n : Bool) → is_some o ≡ not n → n ≡ true → PieceDone (profile_of v) line l (set l d.written (get_or line d.read 0)) d (record { read = d.read + 1; written = d.written + 1 })
   unfolding convert_pieces runs
-  piece_damaged v u read z =
+  piece_damaged v o read n some t =
       let b : ℕ = get_or line d.read 0 in
       let q : drop d.read line ≡ b ∷ drop (suc d.read) line = drop-cons line d.read 0 w.here in
-      let s : size (run_of (decode (drop d.read line))) ≡ 0 = ap size (none_at line d.read u w.here read z) ∙ size_nil in
+      let s : size (run_of (decode (drop d.read line))) ≡ 0 = ap size (nothing_at line d.read w.here o read (none_of o n some t)) ∙ size_nil in
       let c : decode (drop d.read line) ≡ ill_formed b ∷ decode (drop (suc d.read) line) = ap decode q ∙ damaged_decode b (drop (suc d.read) line) (rw q at s) in
       let t : take (suc d.written) (set l d.written b) ≡ take d.written l ++ (b ∷ []) = take-suc-set l d.written b (omega (arith, w.room, w.here)) in
       record {
@@ -287,14 +290,20 @@ module _ (line l : List ℕ) (d : Progress) (w : PieceReady line l d) where
     pub piece_end : d.read + r.read ≤ length line
     piece_end = omega (arith, w.here, span.run, rw (length-drop d.read line) at (run_le (drop d.read line)))
 
-    pub piece_run : (u : Sequence) → u ≡ first_sequence (decode (drop d.read line)) → (u.len ≢ 0) → PieceDone P line l (take d.written l ++ (m ++ z)) d (record { read = d.read + r.read; written = d.written + r.written })
-    unfolding convert_pieces
-    piece_run u read ne = go (run_of (decode (drop d.read line))) refl
+    pub piece_run : (o : Option Sequence) → o ≡ first_sequence (decode (drop d.read line)) → (n : Bool) → is_some o ≡ not n → n ≡ false → PieceDone P line l (take d.written l ++ (m ++ z)) d (record { read = d.read + r.read; written = d.written + r.written })
+    unfolding convert_pieces first_sequence
+    piece_run o given_o n given_n t = go (run_of (decode (drop d.read line))) refl
       where
+        u : Sequence
+        u = sequence_or_zero (decode (drop d.read line))
+
+        ne : u.len ≢ 0
+        ne = given_len u o n given_o given_n t
+
         go : (cs : List Scalar) → run_of (decode (drop d.read line)) ≡ cs → PieceDone P line l (take d.written l ++ (m ++ z)) d (record { read = d.read + r.read; written = d.written + r.written })
-        go [] q = absurd (no_head _ _ (sym q ∙ run_good line d.read u w.here read ne))
+        go [] q = absurd (no_head _ _ (sym q ∙ run_good line d.read u w.here refl ne))
         go (c ∷ cs) q =
-            let some : 1 ≤ r.read = omega (arith, span.run, ap size (run_good line d.read u w.here read ne), size_cons (scalar_at d.read u.code u.len line) (run_of (decode (drop (d.read + u.len) line))), run_size line d.read u w.here read ne, ne) in
+            let some : 1 ≤ r.read = omega (arith, span.run, ap size (run_good line d.read u w.here refl ne), size_cons (scalar_at d.read u.code u.len line) (run_of (decode (drop (d.read + u.len) line))), run_size line d.read u w.here refl ne, ne) in
             let x : take (d.written + r.written) (take d.written l ++ (m ++ z)) ≡ take d.written l ++ bytes_of (convert_run P (run_of (decode (drop d.read line)))) =
             ap (λ (j : ℕ). take (j + r.written) (take d.written l ++ (m ++ z))) (sym front)
             ∙ take-append-add (take d.written l) (m ++ z) r.written

@@ -13,7 +13,9 @@ use borrow.Author.Tests.{eq-eqb, eqb-false, eqb-true, le-ltb, lt-ltb, ltb-false,
 use Rattle.text.specs.Backward.{Erased, KnownPlace, ErasedTo, back, backward, after_zwj, between_indicators, ends_in_pair, known_before, indicator_at, needs_context, pair_before, without_last}
 use Rattle.text.specs.Class.{Profile, is_control, number}
 use Rattle.text.specs.Cluster.{Context, context, joins, start}
-use Rattle.text.specs.Utf8.Code.{first_sequence, sequence_of, size, whole}
+use Rattle.std.specs.Prelude.{Option, None, Some}
+use Rattle.text.specs.Utf8.Code.{first_sequence, sequence_or_zero, sequence_of, size, whole}
+use Rattle.text.specs.Utf8.Code.Laws.{given_none, given_some, no_code}
 use Rattle.text.specs.Class.Code.{profile_of}
 use Rattle.text.specs.Overstrike.{backspace, erase_from}
 use Rattle.text.specs.Overstrike.Code.{BackReady, Front, FrontKnown}
@@ -66,11 +68,11 @@ module _ (P : Profile) (t : List ℕ) (w : whole t) (some : length t ≢ 0) (q :
   pub kept_inside : q < length t
   kept_inside = rw eq (run_inside at.c (without_last P (reverse (run_of (decode t)))) at.es t at.parts)
 
-  module _ (k : ℕ) (read : k ≡ (first_sequence (decode (drop q t))).code) (r : Bool) (test : r ≡ is_control k) where
+  module _ (k : ℕ) (read : k ≡ (sequence_or_zero (decode (drop q t))).code) (r : Bool) (test : r ≡ is_control k) where
     coded : k ≡ at.c.code
     coded =
         let rest = without_last P (reverse (run_of (decode t))) in
-        read ∙ ap (λ (i : ℕ). (first_sequence (decode (drop i t))).code) eq
+        read ∙ ap (λ (i : ℕ). (sequence_or_zero (decode (drop i t))).code) eq
         ∙ (run_head (drop (size rest) t) at.c at.es (run_drop rest (at.c ∷ at.es) t at.parts)).coded
 
     says : r ≡ is_control at.c.code
@@ -169,7 +171,7 @@ module _ (v : code.Profile) (t : List ℕ) (w : whole t) (some : length t ≢ 0)
       (λ b. rw (rw (l, n, a, b) at ch) (known_needed b))
       (λ b. rw (rw (l, n, a, b) at ch) (known_front (profile_of v) t q i (ltb-false q i l) e)))))
 
-  module _ (i : ℕ) (u : Sequence) (b : Bool) (e : KnownPlace (profile_of v) t i) (read : u ≡ first_sequence (decode (drop q t))) (test : b ≡ is_control u.code) where
+  module _ (i : ℕ) (u : Sequence) (b : Bool) (e : KnownPlace (profile_of v) t i) (read : u ≡ sequence_or_zero (decode (drop q t))) (test : b ≡ is_control u.code) where
     short : eqb q (length t) ≡ false
     short = ne_eqb q (length t) (λ y. omega (arith, kept_inside (profile_of v) t w some q eq, y))
 
@@ -187,9 +189,19 @@ module _ (v : code.Profile) (t : List ℕ) (w : whole t) (some : length t ≢ 0)
       known = rw (take-length t) e;
     }
 
+-- `begins_with_control`
+module _ (t : List ℕ) (q : ℕ) (here : q < length t) (o : Option Sequence) (read : o ≡ first_sequence (decode (drop q t))) where
+  pub some_scalar : (u : Sequence) (b : Bool) → o ≡ Some u → b ≡ is_control u.code → b ≡ is_control (sequence_or_zero (decode (drop q t))).code
+  unfolding first_sequence
+  some_scalar u b e f = rw (← (given_some (sequence_or_zero (decode (drop q t))) u o read e).0) f
+
+  pub no_scalar : o ≡ None → true ≡ is_control (sequence_or_zero (decode (drop q t))).code
+  unfolding first_sequence is_control
+  no_scalar e = rw (no_code t q (sequence_or_zero (decode (drop q t))) here refl (given_none (sequence_or_zero (decode (drop q t))) o read e)) refl
+
 -- a byte below 80 at the end, LF apart
 module _ (v : code.Profile) (t : List ℕ) (b : ℕ) (w : whole t) (some : length t ≢ 0) (e : b ≡ get_or t (length t - 1) 0) (r : Bool) (f : r ≡ never_joins_before b) (z : r ≡ true) where
-  lone_code : sequence_of b 1 ≡ first_sequence (decode (drop (length t - 1) t))
+  lone_code : sequence_of b 1 ≡ sequence_or_zero (decode (drop (length t - 1) t))
   lone_code = ascii_sequence t (length t - 1) b (omega arith) e (lone_low b (sym f ∙ z))
 
   lone_place : length t - 1 ≡ size (without_last (profile_of v) (reverse (run_of (decode t))))
@@ -249,7 +261,7 @@ pair_erased v t i r j w some e f z ch =
     let k = pair_by v t n.rest rev n.place p.long p.last p.other (ap (λ (y : Context). y.odd) n.known) in
     let back_is : reverse (run_of (decode t)) ≡ n.rest = ap reverse rev ∙ reverse-reverse n.rest in
     let q : length t - 8 ≡ size (without_last (profile_of v) (reverse (run_of (decode t)))) = sym k.place ∙ ap size (sym k.without) ∙ ap (λ (x : List Scalar). size (without_last (profile_of v) x)) (sym back_is) in
-    last_erased v t w some (length t - 8) q i (first_sequence (decode (drop (length t - 8) t))) false e refl (indicator_control v t (length t - 8) p.other) j (pair_known (profile_of v) t i j p ch) refl
+    last_erased v t w some (length t - 8) q i (sequence_or_zero (decode (drop (length t - 8) t))) false e refl (indicator_control v t (length t - 8) p.other) j (pair_known (profile_of v) t i j p ch) refl
 
 pub kept_empty : (P : Profile) (t : List ℕ) → length t ≡ 0 → ErasedTo P t 0
 unfolding backward backspace erase_from run_of decode decode_from

@@ -8,12 +8,12 @@ use mathlib.Core.Logic.{◌≢◌, ⊎_elim}
 use mathlib.Core.Path.{◌∙◌, ◌≡◌, ap, refl, sym}
 use lib.Dec.{T, eqb, eqb→eq, ltb, ltb→lt}
 use lib.ListN.{get_or-eq_default, drop, get_or, length, length-drop, take}
-use borrow.Author.Tests.{eq-eqb, eqb-false, eqb-true, le-ltb, ltb-false, ltb-true, ne_eqb, not-true}
+use borrow.Author.Tests.{eqb-false, eqb-true, le-ltb, ltb-false, ltb-true, ne_eqb, not-true}
 use Rattle.text.specs.Class.{Profile, among, number}
 use Rattle.text.specs.Cluster.{Context, after, class_of, clusters, clusters_after, context, joined, joins, start}
 use Rattle.text.specs.Cluster.Laws.{clusters_first, further}
 use Rattle.text.specs.Segmentation.{first_of, first_size, NextCluster, NextClusterReady, more_of, never_joins_before, one_byte_cluster}
-use Rattle.text.specs.Utf8.Code.{first_sequence, size, sequence_of}
+use Rattle.text.specs.Utf8.Code.{sequence_or_zero, size, sequence_of}
 use Rattle.text.specs.Class.Code.{printable, profile_of}
 use Rattle.text.specs.Rules.{state_after, state_context}
 use Rattle.text.specs.Utf8.Code.Laws.{none_past, run_fits, run_valid}
@@ -22,8 +22,10 @@ use Rattle.text.specs.Class.Laws.{number_le}
 use Rattle.text.specs.Class.Profile01.{ascii_classes}
 use Rattle.text.specs.Width.Laws.{width_size, width_two}
 use Rattle.text.specs.Each.{All, all_split}
-use Rattle.text.specs.Scalar.{packed_at}
-use Rattle.text.specs.Scalar.Laws.{NoScalar, PackedScalar, packed_past, packed_view}
+use Rattle.std.specs.Prelude.{Option, None, Some}
+use Rattle.text.specs.Scalar.{as_scalar, packed_at, scalar_here}
+use Rattle.text.specs.Scalar.Laws.{NoScalar, PackedScalar, class_known, none_text, packed_here, packed_view, past_is, some_here}
+use Rattle.text.specs.declared.scalar.Scalar as packed
 use Rattle.text.specs.Tests.{and_T, cases, is_true, or_none, true_T, in_range_law, every, every_one}
 use Rattle.text.specs.TextParts.{Measured, column, place, text_at}
 use Rattle.text.specs.TextParts.Laws.{first_all}
@@ -31,7 +33,6 @@ use Rattle.text.specs.Utf8.{Scalar, ascii, decode}
 use Rattle.text.specs.Utf8.Valid.{Valid}
 use Rattle.text.specs.Width.{width_of}
 use Rattle.text.specs.Segmentation.Boundaries.{alone_numbers, apart, breaks, lone, lone_low, other_alone}
-use Rattle.buffer.specs.Conditions.{met, on_false, on_true}
 use Rattle.text.proofs.PackedScalars.{first_packed, printable_one}
 use Rattle.text.proofs.SequenceBytes.{run_good, run_size, scalar_at}
 use Rattle.text.specs.declared.segmentation.ClusterStep.{ClusterStep}
@@ -53,13 +54,13 @@ class_le P s p v here read = ⊎_elim
 
 unfoldable pub continues : ℕ → ℕ → Bool
 continues p c =
-    cond (eqb c 11) false
-    (cond (eqb c 3 || eqb c 4) (not (eqb p 2 || (eqb p 0 || eqb p 1)))
+    cond (eqb c 11 || (eqb c 0 || eqb c 2)) false
+    (cond (eqb c 3 || eqb c 4) (not ((eqb p 2 || eqb p 0) || eqb p 1))
     (cond (eqb c 5 || (eqb c 8 || eqb c 9)) (eqb p 5)
-    (cond (eqb c 6) (eqb p 5 || (eqb p 8 || eqb p 6))
-    (cond (eqb c 7) ((eqb p 8 || eqb p 6) || (eqb p 9 || eqb p 7))
+    (cond (eqb c 6) ((eqb p 5 || eqb p 8) || eqb p 6)
+    (cond (eqb c 7) (((eqb p 8 || eqb p 6) || eqb p 9) || eqb p 7)
     (cond (eqb c 10) (eqb p 10)
-    (cond (eqb c 12) (eqb p 15) (eqb c 1 && eqb p 0)))))))
+    (cond (eqb c 12) (eqb p 15) (eqb p 0)))))))
 
 same : Bool → Bool → Bool
 same a b = cond a b (not b)
@@ -195,14 +196,14 @@ module _ (f : code.Profile) where
       (λ (x : PackedScalar P s p v). (omega (arith, x.some, width_two f x.c.code (v / 128) (sym x.columns)), x.room))
       (packed_view P s p v here read)
 
-  pub walk_begin : (s : List ℕ) (at u : ℕ) → NextClusterReady P s at u → Walking P s at (at + u % 8) (u / 128) (u / 8 % 16)
+  walk_begin : (s : List ℕ) (at u : ℕ) → at < length s → u ≡ packed_at P s at → Walking P s at (at + u % 8) (u / 128) (u / 8 % 16)
   unfolding more_of size width_of
-  walk_begin s at u h =
-      let b = width_room s at u h.inside h.scalar in
+  walk_begin s at u here read =
+      let b = width_room s at u here read in
       ⊎_elim
       (λ (n : NoScalar s at u). record {
-        here = h.inside;
-        class = omega (arith, class_le P s at u h.inside h.scalar);
+        here = here;
+        class = omega (arith, class_le P s at u here read);
         inside = b.1;
         bound = omega (arith, b.0);
         ends = rw (n.zero, add-zero at, n.run, no_first P) refl;
@@ -210,77 +211,103 @@ module _ (f : code.Profile) where
       })
       (λ (x : PackedScalar P s at u).
       let rest : List Scalar = text_at s (at + u % 8) in
-      let e : first_at P s at ≡ x.c ∷ more_of P (u / 8 % 16) (state_context (u / 8 % 16)) rest = ap (λ (l : List Scalar). first_of (clusters P l)) x.run ∙ first_more P x.c rest ∙ rw (x.class, more_state P 0 (u / 8 % 16) rest (class_le P s at u h.inside h.scalar)) refl in
+      let e : first_at P s at ≡ x.c ∷ more_of P (u / 8 % 16) (state_context (u / 8 % 16)) rest = ap (λ (l : List Scalar). first_of (clusters P l)) x.run ∙ first_more P x.c rest ∙ rw (x.class, more_state P 0 (u / 8 % 16) rest (class_le P s at u here read)) refl in
       record {
-        here = h.inside;
-        class = omega (arith, class_le P s at u h.inside h.scalar);
+        here = here;
+        class = omega (arith, class_le P s at u here read);
         inside = b.1;
         bound = omega (arith, b.0);
         ends = rw (e, x.len) (sym (add_assoc at (u % 8) _));
         widths = rw (e, x.columns) refl;
       })
-      (packed_view P s at u h.inside h.scalar)
+      (packed_view P s at u here read)
+
+  -- the scalar that a walk begins with
+  module _ (s : List ℕ) (at : ℕ) (u : Option packed.Scalar) (ready : NextClusterReady P s at u) where
+    pub start_none : u ≡ None → NextCluster P s at (record { part = record { end = place at; width = column 0 }; next = None })
+    unfolding size width_of
+    start_none e =
+        let t : text_at s at ≡ [] = none_text P s at u ready.scalar e in
+        let n : first_at P s at ≡ [] = ap (λ (l : List Scalar). first_of (clusters P l)) t ∙ no_first P in
+        record { part = measured f s at at 0 ready.inside (rw (n, add-zero at) refl) (rw n refl); next = sym e ∙ ready.scalar }
+
+    module _ (v : packed.Scalar) (e : u ≡ Some v) where
+      pub start_class : v.0 / 8 % 16 ≤ 12
+      start_class = class_known P s at u ready.scalar v e
+
+      pub start_walk : (n w k : ℕ) → n ≡ v.0 % 8 → w ≡ v.0 / 128 → k ≡ v.0 / 8 % 16 → Walking P s at (at + n) w k
+      start_walk n w k en ew ek = rw (en, ew, ek) (walk_begin s at v.0 ready.inside (some_here P s at u ready.scalar v e).0)
 
   -- the end of what is left
-  walk_stop : (s : List ℕ) (at p w state v : ℕ) → Walking P s at p w state → more_of P state (state_context state) (text_at s p) ≡ [] → v ≡ packed_at P s p
-      → NextCluster P s at (record { part = record { end = place p; width = column w }; next = v })
+  walk_stop : (s : List ℕ) (at p w state : ℕ) (o : Option packed.Scalar) → Walking P s at p w state → more_of P state (state_context state) (text_at s p) ≡ [] → o ≡ scalar_here P s p
+      → NextCluster P s at (record { part = record { end = place p; width = column w }; next = o })
   unfolding size width_of
-  walk_stop s at p w state v h e read =
+  walk_stop s at p w state o h e read =
       record { part = measured f s at p w h.here (sym (rw (e, add-zero) at h.ends)) (sym (rw (e, add-zero) at h.widths)); next = read }
 
   pub walk_end : (s : List ℕ) (at p w state : ℕ) → length s ≤ p → Walking P s at p w state
-      → NextCluster P s at (record { part = record { end = place p; width = column w }; next = 0 })
+      → NextCluster P s at (record { part = record { end = place p; width = column w }; next = None })
   unfolding more_of
-  walk_end s at p w state l h = walk_stop s at p w state 0 h (rw (none_past s p l) refl) (sym (packed_past P s p l))
+  walk_end s at p w state l h = walk_stop s at p w state None h (rw (none_past s p l) refl) (past_is P s p l)
 
-  -- the scalar v stands at p
-  module _ (s : List ℕ) (at p w state v : ℕ) (here : p < length s) (read : v ≡ packed_at P s p) (h : Walking P s at p w state) (r : Bool)
-      (rr : r ≡ joined state (state_context state) (v / 8 % 16)) where
-    pub walk_boundary : r ≡ false → NextCluster P s at (record { part = record { end = place p; width = column w }; next = v })
+  -- what stands at p
+  module _ (s : List ℕ) (at p w state : ℕ) (here : p < length s) (h : Walking P s at p w state) (o : Option packed.Scalar) (read : o ≡ scalar_here P s p) where
+    pub walk_none : o ≡ None → NextCluster P s at (record { part = record { end = place p; width = column w }; next = o })
     unfolding more_of
-    walk_boundary t =
-        walk_stop s at p w state v h
-        (⊎_elim (λ (n : NoScalar s p v). rw n.run refl) (λ (x : PackedScalar P s p v). rw (x.run, x.class, sym rr ∙ t) refl) (packed_view P s p v here read))
-        read
+    walk_none e = walk_stop s at p w state o h (rw (none_text P s p o read e) refl) read
 
-    some_at : r ≡ true → PackedScalar P s p v
-    unfolding among number
-    some_at t = ⊎_elim
-        (λ (n : NoScalar s p v). absurd (no_both r t (rr ∙ rw n.zero (alone_numbers state (state_context state) 0 refl))))
-        (λ (x : PackedScalar P s p v). x)
-        (packed_view P s p v here read)
+    module _ (v : packed.Scalar) (is : o ≡ Some v) where
+      pub walk_class : v.0 / 8 % 16 ≤ 12
+      walk_class = class_known P s p o read v is
 
-    pub walk_room : r ≡ true → (p + v % 8 ≤ length s) × (1 ≤ v % 8)
-    walk_room t = let x = some_at t in (x.room, x.some)
+      x : PackedScalar P s p v.0
+      x = packed_here P s p o read v is
 
-    pub walk_turn : (b : ℕ) → r ≡ true → b ≡ state_after state (v / 8 % 16) → Walking P s at (p + v % 8) (w + v / 128) b
-    unfolding more_of size width_of
-    walk_turn b t e =
-        let x = some_at t in
-        let l = width_room s p v here read in
-        let rest : List Scalar = text_at s (p + v % 8) in
-        let m : more_of P state (state_context state) (text_at s p) ≡ x.c ∷ more_of P b (state_context b) rest = rw (x.run, x.class, sym rr ∙ t, e, more_state P state (v / 8 % 16) rest (class_le P s p v here read)) refl in
-        record {
-          here = h.here;
-          class = state_le state (v / 8 % 16) b (class_le P s p v here read) e;
-          inside = x.room;
-          bound = omega (arith, l.0, h.bound);
-          ends = rw (m, x.len, ← add_assoc) at h.ends;
-          widths = rw (m, x.columns, ← add_assoc) at h.widths;
-        }
+      read_number : v.0 ≡ packed_at P s p
+      read_number = (some_here P s p o read v is).0
+
+      pub walk_room : (n : ℕ) → n ≡ v.0 % 8 → (p + n ≤ length s) × (1 ≤ n)
+      walk_room n e = rw e (x.room, x.some)
+
+      pub walk_columns : (n : ℕ) → n ≡ v.0 / 128 → n ≤ 2
+      walk_columns n e = width_two f x.c.code n (e ∙ sym x.columns)
+
+      module _ (k : ℕ) (ek : k ≡ v.0 / 8 % 16) (r : Bool) (rr : r ≡ joined state (state_context state) k) where
+        pub walk_boundary : r ≡ false → NextCluster P s at (record { part = record { end = place p; width = column w }; next = Some v })
+        unfolding more_of
+        walk_boundary t = walk_stop s at p w state (Some v) h (rw (x.run, x.class, ← ek, sym rr ∙ t) refl) (sym is ∙ read)
+
+        pub walk_turn : (b n y : ℕ) → r ≡ true → b ≡ state_after state k → n ≡ v.0 % 8 → y ≡ v.0 / 128 → Walking P s at (p + n) (w + y) b
+        unfolding more_of size width_of
+        walk_turn b n y t e en ey =
+            let l = width_room s p v.0 here read_number in
+            let rest : List Scalar = text_at s (p + v.0 % 8) in
+            let small : k ≤ 12 = rw ek walk_class in
+            let m : more_of P state (state_context state) (text_at s p) ≡ x.c ∷ more_of P b (state_context b) rest = rw (x.run, x.class, ← ek, sym rr ∙ t, e, more_state P state k rest small) refl in
+            let g : Walking P s at (p + v.0 % 8) (w + v.0 / 128) b = record {
+              here = h.here;
+              class = state_le state k b small e;
+              inside = x.room;
+              bound = omega (arith, l.0, h.bound);
+              ends = rw (m, x.len, ← add_assoc) at h.ends;
+              widths = rw (m, x.columns, ← add_assoc) at h.widths;
+            } in
+            rw (en, ey) g
 
   -- a printable byte before another
-  pub plain_next : (s : List ℕ) (at u b : ℕ) (q : Bool) → NextClusterReady P s at u → b ≡ get_or s (at + 1) 0 → q ≡ printable b → (eqb u 217 && q) ≡ true
-      → NextCluster P s at (record { part = record { end = place (at + 1); width = column 1 }; next = u })
-  plain_next s at u b q h eb hq t =
-      let k = and_T (eqb u 217) q (true_T t) in
-      let e : u ≡ 217 = eqb→eq u 217 k.0 in
+  pub plain_next : (s : List ℕ) (at : ℕ) (u : Option packed.Scalar) (v : packed.Scalar) (b : ℕ) (a q : Bool) → NextClusterReady P s at u → u ≡ Some v → b ≡ get_or s (at + 1) 0 → a ≡ eqb v.0 217 → q ≡ printable b → (a && q) ≡ true
+      → NextCluster P s at (record { part = record { end = place (at + 1); width = column 1 }; next = Some v })
+  unfolding scalar_here
+  plain_next s at u v b a q ready is eb ea hq t =
+      let k = and_T a q (true_T t) in
+      let e : v.0 ≡ 217 = eqb→eq v.0 217 (rw ea at k.0) in
       let tb : printable b ≡ true = sym hq ∙ is_true q k.1 in
       let w = in_range_law 0x20 0x7E b tb in
       let l : at + 1 < length s = cases (ltb (at + 1) (length s)) (λ t. ltb-true (at + 1) (length s) t) (λ t. absurd (omega (arith, w.0, eb ∙ get_or-eq_default s 0 (ltb-false (at + 1) (length s) t)))) in
-      let v : 217 ≡ packed_at P s (at + 1) = first_packed P s (at + 1) b 217 l eb (omega (arith, w.1)) (printable_one f b tb) in
-      let g : Walking P s at (at + 1) 1 11 = rw e at (walk_begin s at u h) in
-      walk_boundary s at (at + 1) 1 11 u l (rw e v) g false (rw e (sym (alone_numbers 11 (state_context 11) 11 other_alone))) refl
+      let x : 217 ≡ packed_at P s (at + 1) = first_packed P s (at + 1) b 217 l eb (omega (arith, w.1)) (printable_one f b tb) in
+      let g : Walking P s at (at + 1) 1 11 = rw e at (walk_begin s at v.0 ready.inside (some_here P s at u ready.scalar v is).0) in
+      let same : u ≡ scalar_here P s (at + 1) = ready.scalar ∙ ap as_scalar (sym (some_here P s at u ready.scalar v is).0 ∙ e ∙ x) in
+      walk_boundary s at (at + 1) 1 11 l g u same v is 11 (rw e refl) false (rw (alone_numbers 11 (state_context 11) 11 other_alone)) refl
 
 -- ---- the end of a cluster
 
@@ -308,7 +335,7 @@ more_ascii P s p prev k g l =
 first_byte : (P : Profile) (s : List ℕ) (p a : ℕ) → p < length s → a ≡ get_or s p 0 → a < 128 → more_of P (number (P.class a)) (after start (number (P.class a))) (text_at s (p + 1)) ≡ [] → p + 1 ≡ p + first_size P (text_at s p)
 unfolding first_size size
 first_byte P s p a here e l m =
-    let one : sequence_of a 1 ≡ first_sequence (decode (drop p s)) = ascii_sequence s p a here e l in
+    let one : sequence_of a 1 ≡ sequence_or_zero (decode (drop p s)) = ascii_sequence s p a here e l in
     let r : text_at s p ≡ scalar_at p a 1 s ∷ text_at s (p + 1) = run_good s p (sequence_of a 1) here one (λ z. absurd (omega (arith, z))) in
     let n : length (take 1 (drop p s)) ≡ 1 = run_size s p (sequence_of a 1) here one (λ z. absurd (omega (arith, z))) in
     sym (rw (r, first_more P (scalar_at p a 1 s) (text_at s (p + 1)), m, n) refl)
@@ -332,14 +359,21 @@ module _ (v : code.Profile) (s : List ℕ) (p : ℕ) (here : p < length s) where
       let n : a ≢ 13 = λ x. absurd (omega (arith, x, h)) in
       first_byte P s p a here refl l (more_ascii P s (p + 1) c (after start c) (apart P (ascii_classes v) a (get_or s (p + 1) 0) (after start c) l m n) m))
 
-  -- a byte below 80, LF apart, behind the first scalar
-  pub one_scalar : (u b : ℕ) (r : Bool) → u ≡ packed_at (profile_of v) s p → b ≡ get_or s (p + u % 8) 0 → r ≡ never_joins_before b → r ≡ true → p + u % 8 ≡ p + first_size (profile_of v) (text_at s p)
+  -- a byte below 80, LF apart, after the first scalar
+  pub one_scalar : (o : Option packed.Scalar) (first : packed.Scalar) (n b : ℕ) (r : Bool) → o ≡ scalar_here (profile_of v) s p → o ≡ Some first → n ≡ first.0 % 8 → b ≡ get_or s (p + n) 0 → r ≡ never_joins_before b → r ≡ true → p + n ≡ p + first_size (profile_of v) (text_at s p)
   unfolding first_size size
-  one_scalar u b r read e f t =
-      let w = walk_begin v s p u (record { inside = here; scalar = read }) in
+  one_scalar o first n b r read is en e f t =
+      let u : ℕ = first.0 in
+      let g : b ≡ get_or s (p + u % 8) 0 = rw en at e in
+      let w = walk_begin v s p u here (some_here (profile_of v) s p o read first is).0 in
       let l : never_joins_before b ≡ true = sym f ∙ t in
-      let m : more_of (profile_of v) (u / 8 % 16) (state_context (u / 8 % 16)) (text_at s (p + u % 8)) ≡ [] = more_ascii (profile_of v) s (p + u % 8) (u / 8 % 16) (state_context (u / 8 % 16)) (alone_numbers (u / 8 % 16) (state_context (u / 8 % 16)) _ (rw e at (lone (profile_of v) (ascii_classes v) b l))) (rw e at (lone_low b l)) in
-      sym (rw (m, add-zero) at w.ends)
+      let m : more_of (profile_of v) (u / 8 % 16) (state_context (u / 8 % 16)) (text_at s (p + u % 8)) ≡ [] = more_ascii (profile_of v) s (p + u % 8) (u / 8 % 16) (state_context (u / 8 % 16)) (alone_numbers (u / 8 % 16) (state_context (u / 8 % 16)) _ (rw g at (lone (profile_of v) (ascii_classes v) b l))) (rw g at (lone_low b l)) in
+      rw en (sym (rw (m, add-zero) at w.ends))
+
+  -- none there
+  pub none_there : (o : Option packed.Scalar) → o ≡ scalar_here (profile_of v) s p → o ≡ None → p ≡ p + first_size (profile_of v) (text_at s p)
+  unfolding first_size size
+  none_there o read e = sym (rw (none_text (profile_of v) s p o read e, no_first (profile_of v)) (add-zero p))
 
   pub walked : (r : ClusterStep) → NextCluster (profile_of v) s p r → r.part.end.0 ≡ p + first_size (profile_of v) (text_at s p)
   unfolding first_size
@@ -349,5 +383,3 @@ module _ (v : code.Profile) (s : List ℕ) (p : ℕ) (here : p < length s) where
 pub no_cluster : (P : Profile) (s : List ℕ) (p : ℕ) → length s ≤ p → p ≡ p + first_size P (text_at s p)
 unfolding first_size size clusters clusters_after first_of
 no_cluster P s p h = sym (ap (λ (cs : List Scalar). p + size (first_of (clusters_after P [] cs))) (none_past s p h) ∙ add-zero p)
-
-pub ruleset rules = (rule_is, on_false, on_true, met, eq-eqb, ne_eqb)

@@ -8,9 +8,10 @@ use mathlib.Core.Path.{◌∙◌, ◌≡◌, ap, refl, sym}
 use lib.Dec.{T, leb, leb→le, ltb, ltb→lt}
 use lib.ListN.{drop, get_or, length, take}
 use borrow.Author.Tests.{le-leb, le-ltb, leb-false, leb-true, lt-leb, lt-ltb, ne_eqb}
-use Rattle.text.specs.Utf8.Code.{first_sequence, four_bytes, is_tail, sequence_for, sequence_of, three_bytes, two_bytes}
-use Rattle.text.specs.Tests.{and_T, cases, iff, is_true, or_T, true_T}
-use Rattle.text.specs.Utf8.{decode, more, to, value, within}
+use Rattle.std.specs.Prelude.{Option, None, Some}
+use Rattle.text.specs.Utf8.Code.{first_sequence, given, sequence_or_zero, four_bytes, is_tail, sequence_for, sequence_of, three_bytes, two_bytes}
+use Rattle.text.specs.Tests.{and_T, cases, iff, is_true, or_T}
+use Rattle.text.specs.Utf8.{Decoded, decode, more, to, value, within}
 use Rattle.text.specs.declared.utf8.Sequence.{Sequence}
 use Rattle.text.proofs.SequenceBytes.{by_chain, chain, decode_at}
 use Rattle.text.specs.Utf8.Code.FirstSequence.{ascii_first}
@@ -198,20 +199,20 @@ module _ (a b c d : ℕ) where
 -- ---- what is read at a place
 
 module _ (s : List ℕ) (p a b c : ℕ) (here : p < length s) (ea : a ≡ get_or s p 0) (eb : b ≡ get_or s (p + 1) 0) (ec : c ≡ get_or s (p + 2) 0) where
-  by_test : (d n x : ℕ) (t : Bool) → d ≡ get_or s (p + 3) 0 → chain a b c d ≡ cond t n 0 → x ≡ value (take n (a ∷ b ∷ c ∷ d ∷ [])) → cond t (sequence_of x n) (sequence_of 0 0) ≡ first_sequence (decode (drop p s))
+  by_test : (d n x : ℕ) (t : Bool) → d ≡ get_or s (p + 3) 0 → chain a b c d ≡ cond t n 0 → x ≡ value (take n (a ∷ b ∷ c ∷ d ∷ [])) → cond t (sequence_of x n) (sequence_of 0 0) ≡ sequence_or_zero (decode (drop p s))
   unfolding value
   by_test d n x true ed e f = decode_at s p a b c d n x here ea eb ec ed (by_chain a b c d n (sym e)) f
   by_test d n x false ed e f = decode_at s p a b c d 0 0 here ea eb ec ed (by_chain a b c d 0 (sym e)) refl
 
-  pub two_is : 0x7F < a → a ≤ 0xDF → cond (leb 0xC2 a && is_tail b) (sequence_of (a % 32 * 64 + b % 64) 2) (sequence_of 0 0) ≡ first_sequence (decode (drop p s))
+  pub two_is : 0x7F < a → a ≤ 0xDF → cond (leb 0xC2 a && is_tail b) (sequence_of (a % 32 * 64 + b % 64) 2) (sequence_of 0 0) ≡ sequence_or_zero (decode (drop p s))
   unfolding value more
   two_is lo hi = by_test (get_or s (p + 3) 0) 2 (a % 32 * 64 + b % 64) (leb 0xC2 a && is_tail b) refl (two_chain a b c (get_or s (p + 3) 0) lo hi) refl
 
-  pub three_is : 0xDF < a → a ≤ 0xEF → cond ((is_tail b && is_tail c) && is_three (x₃ a b c 0)) (sequence_of (x₃ a b c 0) 3) (sequence_of 0 0) ≡ first_sequence (decode (drop p s))
+  pub three_is : 0xDF < a → a ≤ 0xEF → cond ((is_tail b && is_tail c) && is_three (x₃ a b c 0)) (sequence_of (x₃ a b c 0) 3) (sequence_of 0 0) ≡ sequence_or_zero (decode (drop p s))
   unfolding value more
   three_is lo hi = by_test (get_or s (p + 3) 0) 3 (x₃ a b c 0) ((is_tail b && is_tail c) && is_three (x₃ a b c 0)) refl (three_chain a b c (get_or s (p + 3) 0) lo hi) refl
 
-  pub four_is : (d : ℕ) → d ≡ get_or s (p + 3) 0 → 0xEF < a → cond ((leb a 0xF4 && (is_tail b && (is_tail c && is_tail d))) && is_four (x₄ a b c d)) (sequence_of (x₄ a b c d) 4) (sequence_of 0 0) ≡ first_sequence (decode (drop p s))
+  pub four_is : (d : ℕ) → d ≡ get_or s (p + 3) 0 → 0xEF < a → cond ((leb a 0xF4 && (is_tail b && (is_tail c && is_tail d))) && is_four (x₄ a b c d)) (sequence_of (x₄ a b c d) 4) (sequence_of 0 0) ≡ sequence_or_zero (decode (drop p s))
   unfolding value more
   four_is d ed lo = by_test d 4 (x₄ a b c d) ((leb a 0xF4 && (is_tail b && (is_tail c && is_tail d))) && is_four (x₄ a b c d)) ed (four_chain a b c d lo) refl
 
@@ -225,9 +226,9 @@ len_of : (t : Bool) (y n : ℕ) (u : Sequence) → cond t (sequence_of y n) (seq
 len_of true y n u e z = rw (← e) refl
 len_of false y n u e z = absurd (z (rw (← e) refl))
 
-pub high_len : (s : List ℕ) (p : ℕ) → p < length s → 0x10000 ≤ (first_sequence (decode (drop p s))).code → (first_sequence (decode (drop p s))).len ≡ 4
+pub high_len : (s : List ℕ) (p : ℕ) → p < length s → 0x10000 ≤ (sequence_or_zero (decode (drop p s))).code → (sequence_or_zero (decode (drop p s))).len ≡ 4
 high_len s p h k =
-    let u : Sequence = first_sequence (decode (drop p s)) in
+    let u : Sequence = sequence_or_zero (decode (drop p s)) in
     let a : ℕ = get_or s p 0 in
     let b : ℕ = get_or s (p + 1) 0 in
     let c : ℕ = get_or s (p + 2) 0 in
@@ -244,41 +245,75 @@ high_len s p h k =
     let d : ℕ = get_or s (p + 3) 0 in
     len_of ((leb a 0xF4 && (is_tail b && (is_tail c && is_tail d))) && is_four (x₄ a b c d)) (x₄ a b c d) 4 u (four_is s p a b c h refl refl refl d refl (leb-false a 0xEF g)) (λ z. omega (arith, k, z)))))
 
--- ---- by the scalar, 0 where there is none
+-- ---- by the scalar, where there is one
 
-chosen : (t : Bool) (y x n : ℕ) (r : Sequence) → (t ≡ true → y ≢ 0) → x ≡ cond t y 0 → r ≡ sequence_for x n → r ≡ cond t (sequence_of y n) (sequence_of 0 0)
-chosen true y x n r z e f = f ∙ rw (e, ne_eqb y 0 (z refl)) refl
-chosen false y x n r z e f = f ∙ rw e refl
+-- none counts as no bytes
+unfoldable pub zero_for : Option ℕ → ℕ → Sequence
+zero_for None n = sequence_of 0 0
+zero_for (Some x) n = sequence_of x n
+
+chosen : (t : Bool) (y n : ℕ) (x : Option ℕ) → x ≡ cond t (Some y) None → zero_for x n ≡ cond t (sequence_of y n) (sequence_of 0 0)
+unfolding zero_for
+chosen true y n x e = rw e refl
+chosen false y n x e = rw e refl
+
+given_for : (x : Option ℕ) (n : ℕ) → (n ≢ 0) → sequence_for x n ≡ given (zero_for x n)
+unfolding zero_for sequence_for given
+given_for None n z = refl
+given_for (Some x) n z = rw (ne_eqb n 0 z) refl
+
+-- what is read, and is the first sequence
+read_is : (ds : List Decoded) (x : Option ℕ) (n : ℕ) (r : Option Sequence) → (n ≢ 0) → r ≡ sequence_for x n → zero_for x n ≡ sequence_or_zero ds → r ≡ first_sequence ds
+unfolding first_sequence
+read_is ds x n r z e f = e ∙ given_for x n z ∙ ap given f
+
+none_is : (ds : List Decoded) → sequence_of 0 0 ≡ sequence_or_zero ds → None ≡ first_sequence ds
+unfolding first_sequence given
+none_is ds e = rw (← e) refl
 
 module _ (s : List ℕ) (p a b : ℕ) (here : p < length s) (ea : a ≡ get_or s p 0) (eb : b ≡ get_or s (p + 1) 0) (t : Bool) (et : t ≡ is_tail b) where
   module _ (tt' : t ≡ true) where
-    pub two_at : (x : ℕ) (r : Sequence) → x ≡ two_bytes a b → r ≡ sequence_for x 2 → 0x7F < a → a ≤ 0xDF → r ≡ first_sequence (decode (drop p s))
-    two_at x r ex er lo hi =
-        chosen (leb 0xC2 a) (a % 32 * 64 + b % 64) x 2 r (λ h. let k : 0xC2 ≤ a = leb-true 0xC2 a h in λ z. omega (arith, k, hi, z)) ex er
+    pub two_at : (x : Option ℕ) → x ≡ two_bytes a b → 0x7F < a → a ≤ 0xDF → zero_for x 2 ≡ sequence_or_zero (decode (drop p s))
+    two_at x ex lo hi =
+        chosen (leb 0xC2 a) (a % 32 * 64 + b % 64) 2 x ex
         ∙ (rw (sym et ∙ tt', and-true (leb 0xC2 a)) at (two_is s p a b (get_or s (p + 2) 0) here ea eb refl lo hi))
 
+    pub two_first : (x : Option ℕ) (r : Option Sequence) → x ≡ two_bytes a b → r ≡ sequence_for x 2 → 0x7F < a → a ≤ 0xDF → r ≡ first_sequence (decode (drop p s))
+    two_first x r ex er lo hi = read_is (decode (drop p s)) x 2 r (λ z. omega (arith, z)) er (two_at x ex lo hi)
+
     module _ (c : ℕ) (ec : c ≡ get_or s (p + 2) 0) (u : Bool) (eu : u ≡ is_tail c) (uu : u ≡ true) where
-      pub three_at : (x : ℕ) (r : Sequence) → x ≡ three_bytes a b c → r ≡ sequence_for x 3 → 0xDF < a → a ≤ 0xEF → r ≡ first_sequence (decode (drop p s))
-      three_at x r ex er lo hi =
-          chosen (is_three (x₃ a b c 0)) (x₃ a b c 0) x 3 r (λ h. let k = three_low a b c 0 (true_T h) in λ z. omega (arith, k, z)) ex er
+      pub three_at : (x : Option ℕ) → x ≡ three_bytes a b c → 0xDF < a → a ≤ 0xEF → zero_for x 3 ≡ sequence_or_zero (decode (drop p s))
+      three_at x ex lo hi =
+          chosen (is_three (x₃ a b c 0)) (x₃ a b c 0) 3 x ex
           ∙ (rw (sym et ∙ tt', sym eu ∙ uu) at (three_is s p a b c here ea eb ec lo hi))
 
-      pub four_at : (d x : ℕ) (r : Sequence) → d ≡ get_or s (p + 3) 0 → x ≡ four_bytes a b c d → r ≡ sequence_for x 4 → 0xEF < a → r ≡ first_sequence (decode (drop p s))
-      four_at d x r ed ex er lo =
-          chosen ((leb a 0xF4 && is_tail d) && is_four (x₄ a b c d)) (x₄ a b c d) x 4 r
-          (λ h. let k = four_bounds a b c d (and_T (leb a 0xF4 && is_tail d) (is_four (x₄ a b c d)) (true_T h)).1 in λ z. omega (arith, k.0, z)) ex er
+      pub three_first : (x : Option ℕ) (r : Option Sequence) → x ≡ three_bytes a b c → r ≡ sequence_for x 3 → 0xDF < a → a ≤ 0xEF → r ≡ first_sequence (decode (drop p s))
+      three_first x r ex er lo hi = read_is (decode (drop p s)) x 3 r (λ z. omega (arith, z)) er (three_at x ex lo hi)
+
+      pub four_at : (d : ℕ) (x : Option ℕ) → d ≡ get_or s (p + 3) 0 → x ≡ four_bytes a b c d → 0xEF < a → zero_for x 4 ≡ sequence_or_zero (decode (drop p s))
+      four_at d x ed ex lo =
+          chosen ((leb a 0xF4 && is_tail d) && is_four (x₄ a b c d)) (x₄ a b c d) 4 x ex
           ∙ (rw (sym et ∙ tt', sym eu ∙ uu) at (four_is s p a b c here ea eb ec d ed lo))
 
-    pub no_third : (c : ℕ) (u : Bool) → c ≡ get_or s (p + 2) 0 → u ≡ is_tail c → u ≡ false → 0xDF < a → sequence_of 0 0 ≡ first_sequence (decode (drop p s))
+      pub four_first : (d : ℕ) (x : Option ℕ) (r : Option Sequence) → d ≡ get_or s (p + 3) 0 → x ≡ four_bytes a b c d → r ≡ sequence_for x 4 → 0xEF < a → r ≡ first_sequence (decode (drop p s))
+      four_first d x r ed ex er lo = read_is (decode (drop p s)) x 4 r (λ z. omega (arith, z)) er (four_at d x ed ex lo)
+
+    pub no_third : (c : ℕ) (u : Bool) → c ≡ get_or s (p + 2) 0 → u ≡ is_tail c → u ≡ false → 0xDF < a → sequence_of 0 0 ≡ sequence_or_zero (decode (drop p s))
     no_third c u ec eu uf lo =
         cases (leb a 0xEF)
         (λ e. rw (sym et ∙ tt', sym eu ∙ uf) at (three_is s p a b c here ea eb ec lo (leb-true a 0xEF e)))
         (λ e. rw (sym et ∙ tt', sym eu ∙ uf, and-false (leb a 0xF4)) at (four_is s p a b c here ea eb ec (get_or s (p + 3) 0) refl (leb-false a 0xEF e)))
 
-  pub no_second : t ≡ false → 0x7F < a → sequence_of 0 0 ≡ first_sequence (decode (drop p s))
+  pub no_second : t ≡ false → 0x7F < a → sequence_of 0 0 ≡ sequence_or_zero (decode (drop p s))
   no_second tf lo =
       cases (leb a 0xDF)
       (λ e. rw (sym et ∙ tf, and-false (leb 0xC2 a)) at (two_is s p a b (get_or s (p + 2) 0) here ea eb refl lo (leb-true a 0xDF e)))
       (λ e. cases (leb a 0xEF)
       (λ f. rw (sym et ∙ tf) at (three_is s p a b (get_or s (p + 2) 0) here ea eb refl (leb-false a 0xDF e) (leb-true a 0xEF f)))
       (λ f. rw (sym et ∙ tf, and-false (leb a 0xF4)) at (four_is s p a b (get_or s (p + 2) 0) here ea eb refl (get_or s (p + 3) 0) refl (leb-false a 0xEF f))))
+
+  pub none_third : t ≡ true → (c : ℕ) (u : Bool) → c ≡ get_or s (p + 2) 0 → u ≡ is_tail c → u ≡ false → 0xDF < a → None ≡ first_sequence (decode (drop p s))
+  none_third tt' c u ec eu uf lo = none_is (decode (drop p s)) (no_third tt' c u ec eu uf lo)
+
+  pub none_second : t ≡ false → 0x7F < a → None ≡ first_sequence (decode (drop p s))
+  none_second tf lo = none_is (decode (drop p s)) (no_second tf lo)

@@ -1,4 +1,5 @@
 pub mod ClassNumbers
+pub mod Classes
 pub mod SequenceBytes
 pub mod ContinuationBytes
 pub mod Runs
@@ -6,6 +7,7 @@ pub mod AsciiRuns
 pub mod LeadBytes
 pub mod PackedScalars
 pub mod ForwardWalk
+pub mod JoinRules
 pub mod BackwardWalk
 pub mod Texts
 pub mod RegionalIndicators

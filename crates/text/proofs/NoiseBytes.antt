@@ -1,5 +1,5 @@
 -- A noise byte stands in no sequence: it separates what stands before it and behind it, and which one it is does not matter.
-use Rattle.std.specs.Prelude.{◌≡◌, refl, ℕ, zero, suc, ◌≤◌, ◌<◌, Bool, true, false, cond, ◌&&◌, ◌||◌, List, [], ◌∷◌, ◌++◌, length, take, replicate, T, leb, ltb, eqb}
+use Rattle.std.specs.Prelude.{◌≡◌, refl, ℕ, zero, suc, ◌≤◌, ◌<◌, Bool, false, cond, ◌&&◌, List, [], ◌∷◌, ◌++◌, length, take, replicate, T, leb, ltb, eqb}
 use Rattle.std.proofs.Common.{sym, ap, ap₂, ◌∙◌, subst, arith, leb→le, ltb→lt, eqb→eq}
 use Rattle.std.proofs.Math.Seq.{take-length}
 use Rattle.text.specs.Tests.{and_T, or_T, is_false, true_T, cases}

@@ -1,26 +1,29 @@
 -- A step of overstrike, in the code's state.
-use Prim.Native.Nat.{◌+◌, ◌-◌, ◌<◌, ◌≤◌, suc, ℕ}
-use native.Mathlib.Numerals.{add-one}
+use Prim.Native.Nat.{suc, ℕ, ◌+◌, ◌-◌, ◌<◌, ◌≤◌}
 use native.Mathlib.Omega.{arith}
-use mathlib.Core.Bool.{Bool, ◌&&◌, ◌||◌, cond, false, true}
-use mathlib.Core.List.{List, [], ◌++◌, ◌∷◌, append_assoc, reverse, reverse-reverse, reverse_aux-append}
+use native.Mathlib.Numerals.{add-one}
 use mathlib.Core.Logic.{◌≢◌}
+use borrow.Author.Tests.{eq-eqb, ne_eqb}
+use mathlib.Core.Bool.{Bool, cond, false, true, ◌&&◌, ◌||◌}
+use mathlib.Core.List.{List, [], ◌++◌, ◌∷◌, append_assoc, reverse, reverse-reverse, reverse_aux-append}
 use mathlib.Core.Path.{◌∙◌, ◌≡◌, ap, refl, sym}
 use lib.Dec.{eqb}
 use lib.ListN.{drop, drop_of_length-le, get_or, length, length-append, take}
 use lib.Seq.{drop-cons, length-slice, length-take-le, slice}
-use borrow.Author.Tests.{eq-eqb, ne_eqb}
 use Rattle.text.specs.Class.{Profile}
 use Rattle.text.specs.Cluster.Walk.{size_is}
 use Rattle.text.specs.Backward.{KnownPlace, backward}
 use Rattle.text.specs.Utf8.Code.{whole}
-use Rattle.text.specs.Overstrike.Code.{BackReady, BackspaceStep, FinishReady, Finished, Front, FrontKnown, Part, Pushed, Sound, StepReady, Stepped, Strike, StruckStep, backspace_on, cluster_on, conversion, finish_on, order_of, part_of, pending_of, plain, pushed_on, state_of, style_of}
-use Rattle.text.specs.Overstrike.{State, Style, ambiguous, backspace, bold, bold_underline, bolded, finish, held, none, normal, on_backspace, on_cluster, order, push, state, step, strike, struck, underline, underlined}
+use Rattle.text.specs.Overstrike.Code.{BackReady, BackspaceStep, FinishReady, Finished, Front, FrontKnown, Part, Pushed, Sound, StepReady, Stepped, Strike, StruckStep, backspace_on, cluster_on, conversion, finish_on, order_of, span_of, PendingPart, part_of, pending_of, plain, pushed_on, state_of, style_of}
+use Rattle.text.specs.Overstrike.{State, Style, ambiguous, backspace, bold, bold_underline, bolded, finish, held, none, normal, on_backspace, on_cluster, order, push, state, step, strike, underline, underlined}
 use Rattle.text.specs.Overstrike.Laws.{push_reverse}
 use Rattle.text.specs.Overstrike.Length.{cost, cost_normal, order_size, waiting, weight}
 use Rattle.text.specs.Tests.{cases}
 use Rattle.text.specs.Utf8.{Scalar, asciis, bytes_of, decode, decode_from, reads, run_of, same_bytes}
 use Rattle.text.specs.declared.overstrike.Conversion.{Conversion}
+use Rattle.text.specs.declared.overstrike.LinePart.{LinePart}
+use Rattle.text.specs.declared.overstrike.Pending as code
+use Rattle.text.specs.declared.overstrike.Pending.TheVariants.{Nothing, Held, Struck}
 use Rattle.text.specs.declared.backward.Erasure.{Erasure}
 use Rattle.text.specs.declared.overstrike.Overstrike.{Overstrike}
 use Rattle.text.proofs.RegionalIndicators.{known_more}
@@ -82,18 +85,27 @@ front_order l l' len r b s out f p =
     rw o.0 at (front_push l l' len r (order_of b s) out f o.1 p)
 
 -- the order and the pending cluster, pushed as bytes
-abbrev pending : List ℕ → Conversion → List ℕ
-pending line st = order_of st.before st.style ++ take (st.end - st.at) (drop st.at line)
+abbrev pending : List ℕ → Conversion → LinePart → List ℕ
+pending line st h = order_of st.before st.style ++ take (h.end - h.at) (drop h.at line)
 
-pub front_pending : {P : Profile} (line l l' : List ℕ) (st : Conversion) (r : ℕ) → Sound P line l st → Pushed l l' st.len (pending line st) r → Front l' r (pushed_on line l st)
+-- the pending cluster is a part of the line
+part_of_held : {P : Profile} (line l : List ℕ) (st : Conversion) (h : LinePart) → Sound P line l st → st.pending ≡ Held h → Part line h.at h.end
+unfolding span_of
+part_of_held line l st h w k = rw k at w.part
+
+part_of_struck : {P : Profile} (line l : List ℕ) (st : Conversion) (h : LinePart) → Sound P line l st → st.pending ≡ Struck h → Part line h.at h.end
+unfolding span_of
+part_of_struck line l st h w k = rw k at w.part
+
+pub front_pending : {P : Profile} (line l l' : List ℕ) (st : Conversion) (h : LinePart) (r : ℕ) → Sound P line l st → st.pending ≡ Held h → Pushed l l' st.len (pending line st h) r → Front l' r (pushed_on line l st h)
 unfolding pushed_on
-front_pending line l l' st r w p =
+front_pending line l l' st h r w k p =
     let o = order_text (style_of st.before) (style_of st.style) in
     let x : List ℕ = order_of st.before st.style in
-    let y : List ℕ = slice st.at st.end line in
-    let q : Pushed l l' st.len (x ++ y) r = rw (part_slice st.at st.end line) at p in
+    let y : List ℕ = slice h.at h.end line in
+    let q : Pushed l l' st.len (x ++ y) r = rw (part_slice h.at h.end line) at p in
     let e : run_of (decode (x ++ y)) ≡ asciis x ++ run_of (decode y) = run_append (asciis x) x y o.0 (ap bytes_of (sym o.0) ∙ o.1) in
-    rw (e, reverse_aux-append (asciis x) (run_of (decode y)) _) at (front_push l l' st.len r (x ++ y) _ (front_of line l st w) (whole_append x y o.1 w.part.valid) q)
+    rw (e, reverse_aux-append (asciis x) (run_of (decode y)) _) at (front_push l l' st.len r (x ++ y) _ (front_of line l st w) (whole_append x y o.1 (part_of_held line l st h w k).valid) q)
 
 -- ---- the weight bounds what is still written
 
@@ -110,11 +122,11 @@ module _ {P : Profile} (line l : List ℕ) (st : Conversion) (w : Sound P line l
       let e : length (bytes_of (asciis (order_of b s))) ≡ length (order_of b s) = ap (λ (x : List Scalar). length (bytes_of x)) (sym (order_text (style_of b) (style_of s)).0) ∙ ap length (order_text (style_of b) (style_of s)).1 in
       omega (arith, order_size (style_of b) (style_of s))
 
-  pub held_weight : st.pending ≡ 1 → st.len + (length (order_of st.before st.style) + (st.end - st.at)) + length (order_of st.style plain) ≤ weight (state_of line l st)
+  pub held_weight : (h : LinePart) → st.pending ≡ Held h → st.len + (length (order_of st.before st.style) + (h.end - h.at)) + length (order_of st.style plain) ≤ weight (state_of line l st)
   unfolding state_of pending_of weight waiting style_of
-  held_weight k =
+  held_weight h k =
       let a = len_size in
-      let b = part_size_law line st.at st.end w.part in
+      let b = part_size_law line h.at h.end (part_of_held line l st h w k) in
       let c = order_length st.before st.style in
       let d = order_length st.style plain in
       let z = cost_normal in
@@ -130,63 +142,64 @@ module _ {P : Profile} (line l : List ℕ) (st : Conversion) (w : Sound P line l
 
 -- ---- a backspace
 
-on_none : (P : Profile) (out : List Scalar) (p : Bool) (g : List Scalar) (b s : Style)
-    → state (backspace P out) none b normal ≡ on_backspace P out (cond p none (struck g)) b s
-unfolding on_backspace
-on_none P out true g b s = refl
-on_none P out false g b s = refl
+on_none : (P : Profile) (line : List ℕ) (out : List Scalar) (q : code.Pending) (b s : Style) → ((h : LinePart) → q ≡ Held h → ⊥)
+    → state (backspace P out) none b normal ≡ on_backspace P out (pending_of line q) b s
+unfolding on_backspace pending_of
+on_none P line out Nothing b s k = refl
+on_none P line out (Struck h) b s k = refl
+on_none P line out (Held h) b s k = absurd (k h refl)
 
-pub back_struck : (P : Profile) (line l : List ℕ) (st : Conversion) → st.pending ≡ 1 → BackReady P l st.len st.known → Part line st.at st.end
-    → Stepped P line l (conversion st.len 2 st.at st.end st.before st.style st.known) (backspace_on P (state_of line l st))
-unfolding state_of pending_of backspace_on on_backspace
-back_struck P line l st k w p = record { same = rw k refl; sound = record { inside = omega (arith, w.room); valid = w.valid; part = p; known = w.known } }
+pub back_struck : (P : Profile) (line l : List ℕ) (st : Conversion) (h : LinePart) → st.pending ≡ Held h → BackReady P l st.len st.known → PendingPart line st.pending
+    → Stepped P line l (conversion st.len (Struck h) st.before st.style st.known) (backspace_on P (state_of line l st))
+unfolding state_of pending_of backspace_on on_backspace span_of
+back_struck P line l st h k w p = record { same = rw k refl; sound = record { inside = omega (arith, w.room); valid = w.valid; part = rw k at p; known = w.known } }
 
-pub back_none : (P : Profile) (line l l' : List ℕ) (st : Conversion) (r : Erasure) → (st.pending ≢ 1) → FrontKnown P l' r (backspace P (backward (take st.len l)))
-    → Stepped P line l' (conversion r.at 0 0 0 st.before plain r.known) (backspace_on P (state_of line l st))
-unfolding state_of pending_of backspace_on style_of
+pub back_none : (P : Profile) (line l l' : List ℕ) (st : Conversion) (r : Erasure) → ((h : LinePart) → st.pending ≡ Held h → ⊥) → FrontKnown P l' r (backspace P (backward (take st.len l)))
+    → Stepped P line l' (conversion r.at Nothing st.before plain r.known) (backspace_on P (state_of line l st))
+unfolding state_of pending_of backspace_on style_of span_of
 back_none P line l l' st r k t = record {
   same =
       ap (λ (x : List Scalar). state x none (style_of st.before) normal) t.front.scalars
-      ∙ rw (ne_eqb st.pending 1 k) (on_none P (backward (take st.len l)) (eqb st.pending 0) (part_of line st.at st.end) (style_of st.before) (style_of st.style));
+      ∙ on_none P line (backward (take st.len l)) st.pending (style_of st.before) (style_of st.style) k;
   sound = record { inside = t.front.inside; valid = t.front.valid; part = part_none line; known = t.known };
 }
 
 -- ---- a cluster
 
-pub hold_none : (P : Profile) (line l : List ℕ) (st : Conversion) (a e : ℕ) → st.pending ≡ 0 → Sound P line l st → Part line a e
-    → Stepped P line l (conversion st.len 1 a e st.style plain st.known) (cluster_on P (state_of line l st) (part_of line a e))
-unfolding state_of pending_of cluster_on on_cluster style_of
-hold_none P line l st a e k w u = record { same = rw k refl; sound = record { inside = w.inside; valid = w.valid; part = u; known = w.known } }
+pub hold_none : (P : Profile) (line l : List ℕ) (st : Conversion) (c : LinePart) → st.pending ≡ Nothing → Sound P line l st → Part line c.at c.end
+    → Stepped P line l (conversion st.len (Held c) st.style plain st.known) (cluster_on P (state_of line l st) (part_of line c.at c.end))
+unfolding state_of pending_of cluster_on on_cluster style_of span_of
+hold_none P line l st c k w u = record { same = rw k refl; sound = record { inside = w.inside; valid = w.valid; part = u; known = w.known } }
 
-known_pushed : {P : Profile} (line l l' : List ℕ) (st : Conversion) (n : ℕ) → Sound P line l st → Front l' n (pushed_on line l st) → KnownPlace P (take n l') st.known
+known_pushed : {P : Profile} (line l l' : List ℕ) (st : Conversion) (h : LinePart) (n : ℕ) → Sound P line l st → Front l' n (pushed_on line l st h) → KnownPlace P (take n l') st.known
 unfolding pushed_on backward
-known_pushed line l l' st n w f =
-    let g : List Scalar = part_of line st.at st.end in
+known_pushed line l l' st h n w f =
+    let g : List Scalar = part_of line h.at h.end in
     let o : List Scalar = asciis (order_of st.before st.style) in
     let r : run_of (decode (take n l')) ≡ run_of (decode (take st.len l)) ++ (o ++ g) =
     front_text l' n _ f ∙ push_reverse g (push o (reverse (run_of (decode (take st.len l))))) ∙ ap (λ (x : List Scalar). x ++ g) (push_reverse o (reverse (run_of (decode (take st.len l)))) ∙ ap (λ (x : List Scalar). x ++ o) (reverse-reverse (run_of (decode (take st.len l)))))
     ∙ append_assoc (run_of (decode (take st.len l))) o g in
     known_more _ (take st.len l) (take n l') (o ++ g) st.known r w.known
 
-pub hold_pushed : (P : Profile) (line l l' : List ℕ) (st : Conversion) (n a e : ℕ) → st.pending ≡ 1 → Front l' n (pushed_on line l st) → Sound P line l st → Part line a e
-    → Stepped P line l' (conversion n 1 a e st.style plain st.known) (cluster_on P (state_of line l st) (part_of line a e))
-unfolding state_of pending_of cluster_on on_cluster style_of pushed_on
-hold_pushed P line l l' st n a e k f w u = record {
-  same = rw k (ap (λ (x : List Scalar). state x (held (part_of line a e)) (style_of st.style) normal) f.scalars);
-  sound = record { inside = f.inside; valid = f.valid; part = u; known = known_pushed line l l' st n w f };
+pub hold_pushed : (P : Profile) (line l l' : List ℕ) (st : Conversion) (h : LinePart) (n : ℕ) (c : LinePart) → st.pending ≡ Held h → Front l' n (pushed_on line l st h) → Sound P line l st → Part line c.at c.end
+    → Stepped P line l' (conversion n (Held c) st.style plain st.known) (cluster_on P (state_of line l st) (part_of line c.at c.end))
+unfolding state_of pending_of cluster_on on_cluster style_of pushed_on span_of
+hold_pushed P line l l' st h n c k f w u = record {
+  same = rw k (ap (λ (x : List Scalar). state x (held (part_of line c.at c.end)) (style_of st.style) normal) f.scalars);
+  sound = record { inside = f.inside; valid = f.valid; part = u; known = known_pushed line l l' st h n w f };
 }
 
 -- ---- a strike
 
-module _ (line : List ℕ) (st : Conversion) (a e : ℕ) (w : Strike line st a e) (x uh ug : Bool)
-    (xs : x ≡ same_bytes (take (st.end - st.at) (drop st.at line)) (take (e - a) (drop a line)))
-    (hs : uh ≡ same_bytes (take (e - a) (drop a line)) (0x5F ∷ []))
-    (gs : ug ≡ same_bytes (take (st.end - st.at) (drop st.at line)) (0x5F ∷ [])) where
+module _ (line : List ℕ) (st : Conversion) (u c : LinePart) (w : Strike line st u c) (x uh ug : Bool)
+    (xs : x ≡ same_bytes (take (u.end - u.at) (drop u.at line)) (take (c.end - c.at) (drop c.at line)))
+    (hs : uh ≡ same_bytes (take (c.end - c.at) (drop c.at line)) (0x5F ∷ []))
+    (gs : ug ≡ same_bytes (take (u.end - u.at) (drop u.at line)) (0x5F ∷ [])) where
   abbrev under : List Scalar
-  under = part_of line st.at st.end
+  under = part_of line u.at u.end
 
   abbrev upper : List Scalar
-  upper = part_of line a e
+  upper = part_of line c.at c.end
 
   abbrev result : List ℕ → List Scalar → Style → State
   result l g s = state (backward (take st.len l)) (held g) (style_of st.before) s
@@ -195,110 +208,117 @@ module _ (line : List ℕ) (st : Conversion) (a e : ℕ) (w : Strike line st a e
       ≡ cond x (cond uh (result l under (ambiguous (style_of st.before) (style_of st.style))) (result l under (bolded (style_of st.style))))
       (cond uh (result l under (underlined (style_of st.style))) (cond ug (result l upper (underlined (style_of st.style))) (result l upper normal)))
   unfolding cluster_on state_of pending_of on_cluster strike reads
-  struck_all P l = rw (ne_eqb st.pending 0 w.not_none, ne_eqb st.pending 1 w.not_held, w.under.valid, w.upper.valid, ← part_slice st.at st.end line, ← part_slice a e line, ← xs, ← hs, ← gs) refl
+  struck_all P l = rw (w.struck, w.under.valid, w.upper.valid, ← part_slice u.at u.end line, ← part_slice c.at c.end line, ← xs, ← hs, ← gs) refl
 
-  keeps : (P : Profile) (l : List ℕ) (r : Conversion) (o : Overstrike) (s : Style) → r ≡ conversion st.len 1 st.at st.end st.before o st.known → style_of o ≡ s → Sound P line l st
+  keeps : (P : Profile) (l : List ℕ) (r : Conversion) (o : Overstrike) (s : Style) → r ≡ conversion st.len (Held u) st.before o st.known → style_of o ≡ s → Sound P line l st
       → result l under s ≡ cluster_on P (state_of line l st) upper → Stepped P line l r (cluster_on P (state_of line l st) upper)
-  unfolding state_of pending_of
+  unfolding state_of pending_of span_of
   keeps P l r o s p f v q = rw p (record { same = ap (result l under) f ∙ q; sound = record { inside = v.inside; valid = v.valid; part = w.under; known = v.known } })
 
-  takes : (P : Profile) (l : List ℕ) (r : Conversion) (o : Overstrike) (s : Style) → r ≡ conversion st.len 1 a e st.before o st.known → style_of o ≡ s → Sound P line l st
+  takes : (P : Profile) (l : List ℕ) (r : Conversion) (o : Overstrike) (s : Style) → r ≡ conversion st.len (Held c) st.before o st.known → style_of o ≡ s → Sound P line l st
       → result l upper s ≡ cluster_on P (state_of line l st) upper → Stepped P line l r (cluster_on P (state_of line l st) upper)
-  unfolding state_of pending_of
+  unfolding state_of pending_of span_of
   takes P l r o s p f v q = rw p (record { same = ap (result l upper) f ∙ q; sound = record { inside = v.inside; valid = v.valid; part = w.upper; known = v.known } })
 
   module _ (r : Conversion) (o : Overstrike) where
-    pub strike_same_under : x ≡ true → uh ≡ true → style_of o ≡ ambiguous (style_of st.before) (style_of st.style) → r ≡ conversion st.len 1 st.at st.end st.before o st.known → StruckStep line st a e r
+    pub strike_same_under : x ≡ true → uh ≡ true → style_of o ≡ ambiguous (style_of st.before) (style_of st.style) → r ≡ conversion st.len (Held u) st.before o st.known → StruckStep line st c r
     strike_same_under p q f i P l v = keeps P l r o _ i f v (sym (rw (p, q) at (struck_all P l)))
 
-    pub strike_same : x ≡ true → uh ≡ false → style_of o ≡ bolded (style_of st.style) → r ≡ conversion st.len 1 st.at st.end st.before o st.known → StruckStep line st a e r
+    pub strike_same : x ≡ true → uh ≡ false → style_of o ≡ bolded (style_of st.style) → r ≡ conversion st.len (Held u) st.before o st.known → StruckStep line st c r
     strike_same p q f i P l v = keeps P l r o _ i f v (sym (rw (p, q) at (struck_all P l)))
 
-    pub strike_upper : x ≡ false → uh ≡ true → style_of o ≡ underlined (style_of st.style) → r ≡ conversion st.len 1 st.at st.end st.before o st.known → StruckStep line st a e r
+    pub strike_upper : x ≡ false → uh ≡ true → style_of o ≡ underlined (style_of st.style) → r ≡ conversion st.len (Held u) st.before o st.known → StruckStep line st c r
     strike_upper p q f i P l v = keeps P l r o _ i f v (sym (rw (p, q) at (struck_all P l)))
 
-    pub strike_under : x ≡ false → uh ≡ false → ug ≡ true → style_of o ≡ underlined (style_of st.style) → r ≡ conversion st.len 1 a e st.before o st.known → StruckStep line st a e r
+    pub strike_under : x ≡ false → uh ≡ false → ug ≡ true → style_of o ≡ underlined (style_of st.style) → r ≡ conversion st.len (Held c) st.before o st.known → StruckStep line st c r
     strike_under p q t f i P l v = takes P l r o _ i f v (sym (rw (p, q, t) at (struck_all P l)))
 
-  pub strike_other : (r : Conversion) → x ≡ false → uh ≡ false → ug ≡ false → r ≡ conversion st.len 1 a e st.before plain st.known → StruckStep line st a e r
+  pub strike_other : (r : Conversion) → x ≡ false → uh ≡ false → ug ≡ false → r ≡ conversion st.len (Held c) st.before plain st.known → StruckStep line st c r
   unfolding style_of
   strike_other r p q t i P l v = takes P l r plain _ i refl v (sym (rw (p, q, t) at (struck_all P l)))
 
 -- ---- the step
 
-module _ (P : Profile) (line l : List ℕ) (st : Conversion) (a e : ℕ) (w : StepReady P line l st a e) (b : Bool)
-    (bs : b ≡ same_bytes (take (e - a) (drop a line)) (0x08 ∷ [])) where
-  step_is : step P (state_of line l st) (part_of line a e) ≡ cond b (backspace_on P (state_of line l st)) (cluster_on P (state_of line l st) (part_of line a e))
+module _ (P : Profile) (line l : List ℕ) (st : Conversion) (c : LinePart) (w : StepReady P line l st c) (b : Bool)
+    (bs : b ≡ same_bytes (take (c.end - c.at) (drop c.at line)) (0x08 ∷ [])) where
+  step_is : step P (state_of line l st) (part_of line c.at c.end) ≡ cond b (backspace_on P (state_of line l st)) (cluster_on P (state_of line l st) (part_of line c.at c.end))
   unfolding step backspace_on cluster_on reads
-  step_is = rw (w.upper.valid, ← part_slice a e line, ← bs) refl
+  step_is = rw (w.upper.valid, ← part_slice c.at c.end line, ← bs) refl
 
-  pub step_back : (l' : List ℕ) (r : Conversion) → b ≡ true → BackspaceStep P l l' st r → Stepped P line l' r (step P (state_of line l st) (part_of line a e))
+  pub step_back : (l' : List ℕ) (r : Conversion) → b ≡ true → BackspaceStep P l l' st r → Stepped P line l' r (step P (state_of line l st) (part_of line c.at c.end))
   step_back l' r t f = let g = f line w.sound.part in record { same = g.same ∙ sym (rw t at step_is); sound = g.sound }
 
-  pub step_cluster : (l' : List ℕ) (r : Conversion) → b ≡ false → Stepped P line l' r (cluster_on P (state_of line l st) (part_of line a e)) → Stepped P line l' r (step P (state_of line l st) (part_of line a e))
+  pub step_cluster : (l' : List ℕ) (r : Conversion) → b ≡ false → Stepped P line l' r (cluster_on P (state_of line l st) (part_of line c.at c.end)) → Stepped P line l' r (step P (state_of line l st) (part_of line c.at c.end))
   step_cluster l' r t g = record { same = g.same ∙ sym (rw t at step_is); sound = g.sound }
 
-  pub step_hold : (r : Conversion) → b ≡ false → st.pending ≡ 0 → r ≡ conversion st.len 1 a e st.style plain st.known → Stepped P line l r (step P (state_of line l st) (part_of line a e))
-  step_hold r t k i = step_cluster l r t (rw i (hold_none P line l st a e k w.sound w.upper))
+  pub step_hold : (r : Conversion) → b ≡ false → st.pending ≡ Nothing → r ≡ conversion st.len (Held c) st.style plain st.known → Stepped P line l r (step P (state_of line l st) (part_of line c.at c.end))
+  step_hold r t k i = step_cluster l r t (rw i (hold_none P line l st c k w.sound w.upper))
 
-  pub step_pushed : (l' : List ℕ) (r : Conversion) (n : ℕ) → b ≡ false → st.pending ≡ 1 → Pushed l l' st.len (pending line st) n → r ≡ conversion n 1 a e st.style plain st.known
-      → Stepped P line l' r (step P (state_of line l st) (part_of line a e))
-  step_pushed l' r n t k p i = step_cluster l' r t (rw i (hold_pushed P line l l' st n a e k (front_pending line l l' st n w.sound p) w.sound w.upper))
+  pub step_pushed : (l' : List ℕ) (r : Conversion) (h : LinePart) (n : ℕ) → b ≡ false → st.pending ≡ Held h → Pushed l l' st.len (pending line st h) n → r ≡ conversion n (Held c) st.style plain st.known
+      → Stepped P line l' r (step P (state_of line l st) (part_of line c.at c.end))
+  step_pushed l' r h n t k p i = step_cluster l' r t (rw i (hold_pushed P line l l' st h n c k (front_pending line l l' st h n w.sound k p) w.sound w.upper))
 
-  pub step_struck : (r : Conversion) → b ≡ false → StruckStep line st a e r → Stepped P line l r (step P (state_of line l st) (part_of line a e))
+  pub step_struck : (r : Conversion) → b ≡ false → StruckStep line st c r → Stepped P line l r (step P (state_of line l st) (part_of line c.at c.end))
   step_struck r t f = step_cluster l r t (f P l w.sound)
 
-pub strike_ready : {P : Profile} (line l : List ℕ) (st : Conversion) (a e : ℕ) → StepReady P line l st a e → (st.pending ≢ 0) → (st.pending ≢ 1) → Strike line st a e
-strike_ready line l st a e w k m = record { not_none = k; not_held = m; under = w.sound.part; upper = w.upper }
+pub strike_ready : {P : Profile} (line l : List ℕ) (st : Conversion) (u c : LinePart) → StepReady P line l st c → st.pending ≡ Struck u → Strike line st u c
+strike_ready line l st u c w k = record { struck = k; under = part_of_struck line l st u w.sound k; upper = w.upper }
 
-pub back_ready : {P : Profile} (line l : List ℕ) (st : Conversion) (a e : ℕ) → StepReady P line l st a e → BackReady P l st.len st.known
-back_ready line l st a e w = record { room = omega (arith, len_weight line l st w.sound, w.room); valid = w.sound.valid; known = w.sound.known }
+pub held_part : {P : Profile} (line l : List ℕ) (st : Conversion) (h c : LinePart) → StepReady P line l st c → st.pending ≡ Held h → Part line h.at h.end
+held_part line l st h c w k = part_of_held line l st h w.sound k
+
+pub back_ready : {P : Profile} (line l : List ℕ) (st : Conversion) (c : LinePart) → StepReady P line l st c → BackReady P l st.len st.known
+back_ready line l st c w = record { room = omega (arith, len_weight line l st w.sound, w.room); valid = w.sound.valid; known = w.sound.known }
 
 -- room for the order and the pending cluster
-pending_room : {P : Profile} (line l : List ℕ) (st : Conversion) → Sound P line l st → weight (state_of line l st) ≤ length l → st.pending ≡ 1
-    → st.len + (length (order_of st.before st.style) + length (take (st.end - st.at) (drop st.at line))) ≤ length l
-pending_room line l st w h k = rw (part_slice st.at st.end line, length-slice st.at st.end line w.part.within) (omega (arith, held_weight line l st w k))
+pending_room : {P : Profile} (line l : List ℕ) (st : Conversion) (h : LinePart) → Sound P line l st → weight (state_of line l st) ≤ length l → st.pending ≡ Held h
+    → st.len + (length (order_of st.before st.style) + length (take (h.end - h.at) (drop h.at line))) ≤ length l
+pending_room line l st h w f k = rw (part_slice h.at h.end line, length-slice h.at h.end line (part_of_held line l st h w k).within) (omega (arith, held_weight line l st w h k))
 
-pub step_room : {P : Profile} (line l : List ℕ) (st : Conversion) (a e : ℕ) → StepReady P line l st a e → st.pending ≡ 1
-    → st.len + (length (order_of st.before st.style) + length (take (st.end - st.at) (drop st.at line))) ≤ length l
-step_room line l st a e w k = pending_room line l st w.sound (omega (arith, w.room)) k
+pub step_room : {P : Profile} (line l : List ℕ) (st : Conversion) (h c : LinePart) → StepReady P line l st c → st.pending ≡ Held h
+    → st.len + (length (order_of st.before st.style) + length (take (h.end - h.at) (drop h.at line))) ≤ length l
+step_room line l st h c w k = pending_room line l st h w.sound (omega (arith, w.room)) k
 
 -- ---- the run's end
 
-finish_other : (P : Profile) (out : List Scalar) (p : Bool) (g : List Scalar) (b s : Style)
-    → push (asciis (order b normal)) out ≡ finish P out (cond p none (struck g)) b s
-unfolding finish
-finish_other P out true g b s = refl
-finish_other P out false g b s = refl
+finish_other : (P : Profile) (line : List ℕ) (out : List Scalar) (q : code.Pending) (b s : Style) → ((h : LinePart) → q ≡ Held h → ⊥)
+    → push (asciis (order b normal)) out ≡ finish P out (pending_of line q) b s
+unfolding finish pending_of
+finish_other P line out Nothing b s k = refl
+finish_other P line out (Struck h) b s k = refl
+finish_other P line out (Held h) b s k = absurd (k h refl)
 
 module _ (line l : List ℕ) (st : Conversion) (w : FinishReady line l st) where
   pub finish_room : st.len + length (order_of st.before plain) ≤ length l
   finish_room = omega (arith, other_weight line l st w.sound, w.room)
 
-  pub finished_none : (l' : List ℕ) (r : ℕ) → (st.pending ≢ 1) → Pushed l l' st.len (order_of st.before plain) r → Finished line l l' st r
+  pub finished_none : (l' : List ℕ) (r : ℕ) → ((h : LinePart) → st.pending ≡ Held h → ⊥) → Pushed l l' st.len (order_of st.before plain) r → Finished line l l' st r
   unfolding finish_on state_of pending_of style_of
   finished_none l' r k p P =
       let f = front_order l l' st.len r st.before plain _ (front_of line l st w.sound) p in
       record {
         inside = f.inside;
-        scalars = f.scalars ∙ rw (ne_eqb st.pending 1 k) (finish_other P (backward (take st.len l)) (eqb st.pending 0) (part_of line st.at st.end) (style_of st.before) (style_of st.style));
+        scalars = f.scalars ∙ finish_other P line (backward (take st.len l)) st.pending (style_of st.before) (style_of st.style) k;
         valid = f.valid;
       }
 
-  pub held_room : st.pending ≡ 1 → st.len + (length (order_of st.before st.style) + length (take (st.end - st.at) (drop st.at line))) ≤ length l
-  held_room k = pending_room line l st w.sound w.room k
+  pub held_room : (h : LinePart) → st.pending ≡ Held h → st.len + (length (order_of st.before st.style) + length (take (h.end - h.at) (drop h.at line))) ≤ length l
+  held_room h k = pending_room line l st h w.sound w.room k
 
-  module _ (k : st.pending ≡ 1) (l₁ : List ℕ) (n : ℕ) (p : Pushed l l₁ st.len (pending line st) n) (long : length l₁ ≡ length l) where
+  pub last_part : (h : LinePart) → st.pending ≡ Held h → Part line h.at h.end
+  last_part h k = part_of_held line l st h w.sound k
+
+  module _ (h : LinePart) (k : st.pending ≡ Held h) (l₁ : List ℕ) (n : ℕ) (p : Pushed l l₁ st.len (pending line st h) n) (long : length l₁ ≡ length l) where
     pub last_order_room : n + length (order_of st.style plain) ≤ length l₁
     last_order_room =
-        let e = length-append (order_of st.before st.style) (take (st.end - st.at) (drop st.at line)) in
-        let d : length (take (st.end - st.at) (drop st.at line)) ≡ st.end - st.at = rw (part_slice st.at st.end line) (length-slice st.at st.end line w.sound.part.within) in
-        omega (arith, p.end, held_weight line l st w.sound k, w.room)
+        let e = length-append (order_of st.before st.style) (take (h.end - h.at) (drop h.at line)) in
+        let d : length (take (h.end - h.at) (drop h.at line)) ≡ h.end - h.at = rw (part_slice h.at h.end line) (length-slice h.at h.end line (last_part h k).within) in
+        omega (arith, p.end, held_weight line l st w.sound h k, w.room)
 
     pub finished_held : (l₂ : List ℕ) (r : ℕ) → Pushed l₁ l₂ n (order_of st.style plain) r → Finished line l l₂ st r
     unfolding finish_on state_of pending_of style_of finish pushed_on
     finished_held l₂ r q P =
-        let g = front_order l₁ l₂ n r st.style plain _ (front_pending line l l₁ st n w.sound p) q in
+        let g = front_order l₁ l₂ n r st.style plain _ (front_pending line l l₁ st h n w.sound k p) q in
         record { inside = g.inside; scalars = rw k g.scalars; valid = g.valid }
 
 -- ---- comparing bytes

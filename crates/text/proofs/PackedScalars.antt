@@ -1,5 +1,5 @@
 -- A packed scalar by its value, ranges computed whole, and by its bytes.
-use Prim.Native.Nat.{◌%◌, ◌*◌, ◌+◌, ◌-◌, ◌<◌, ◌≤◌, ℕ}
+use Prim.Native.Nat.{◌%◌, ◌*◌, ◌+◌, ◌-◌, ◌/◌, ◌<◌, ◌≤◌, ℕ}
 use native.Mathlib.Omega.{arith}
 use mathlib.Core.Bool.{Bool, ◌&&◌, ◌||◌, false, true}
 use mathlib.Core.List.{List}
@@ -9,12 +9,15 @@ use lib.Dec.{T, eqb, leb}
 use lib.ListN.{get_or, length}
 use borrow.Author.Tests.{eq-eqb, eqb-true, ne_eqb}
 use Rattle.text.specs.Class.{Profile, class01, controls, extends, in_any, number, pictographs}
-use Rattle.text.specs.Utf8.Code.{four_bytes, is_tail, sequence_for, three_bytes, two_bytes}
+use Rattle.std.specs.Prelude.{Option, None, Some}
+use Rattle.text.specs.Utf8.Code.{four_bytes, is_tail, three_bytes, two_bytes}
 use Rattle.text.specs.Class.Code.{profile_of}
-use Rattle.text.specs.Scalar.{packed, packed_as, packed_at}
+use Rattle.text.specs.Scalar.{packed_as, packed_at, scalar_here}
+use Rattle.text.specs.Scalar.Laws.{none_here, nothing_is, scalar_is, some_here}
+use Rattle.text.specs.declared.scalar.Scalar as packed
 use Rattle.text.specs.Width.{width01}
 use Rattle.text.specs.Tests.{in_range_law, is_true, or_T, true_T, every, every_one}
-use Rattle.text.proofs.LeadBytes.{four_at, no_second, no_third, three_at, two_at}
+use Rattle.text.proofs.LeadBytes.{four_at, no_second, no_third, three_at, two_at, zero_for}
 use Rattle.text.specs.declared.class.Profile as code
 use Rattle.text.specs.Utf8.Code.FirstSequence.{ascii_sequence}
 use Rattle.text.specs.Class.Ranges.{clear}
@@ -156,48 +159,95 @@ module _ (f : code.Profile) (x : ℕ) where
 
 -- ---- by the bytes
 
-packed_none : (P : Profile) (x n : ℕ) → x ≡ 0 → 0 ≡ packed P (sequence_for x n)
-packed_none P x n z = rw (eq-eqb x 0 z) refl
+-- a packed scalar is not 0
+packed_some : (P : Profile) (n x r : ℕ) → 1 ≤ n → r ≡ packed_as P n x → (r ≢ 0)
+packed_some P n x r h e z = omega (arith, e, z, h)
+
+module _ (P : Profile) (s : List ℕ) (p : ℕ) where
+  here_is : (n x : ℕ) (v : packed.Scalar) → 1 ≤ n → v.0 ≡ packed_as P n x → v.0 ≡ packed_at P s p → Some v ≡ scalar_here P s p
+  here_is n x v h e f = scalar_is P s p v f (packed_some P n x v.0 h e)
 
 pub first_packed : (P : Profile) (s : List ℕ) (p a r : ℕ) → p < length s → a ≡ get_or s p 0 → a ≤ 0x7F → r ≡ packed_as P 1 a → r ≡ packed_at P s p
 unfolding packed_at
 first_packed P s p a r here ea l e = rw (← ascii_sequence s p a here ea (omega (arith, l))) e
 
+pub first_here : (P : Profile) (s : List ℕ) (p a : ℕ) (v : packed.Scalar) → p < length s → a ≡ get_or s p 0 → a ≤ 0x7F → v.0 ≡ packed_as P 1 a → Some v ≡ scalar_here P s p
+first_here P s p a v here ea l e = here_is P s p 1 a v (omega arith) e (first_packed P s p a v.0 here ea l e)
+
 module _ (P : Profile) (s : List ℕ) (p a b : ℕ) (here : p < length s) (ea : a ≡ get_or s p 0) (eb : b ≡ get_or s (p + 1) 0) (t : Bool) (et : t ≡ is_tail b) where
   module _ (tt' : t ≡ true) where
-    module _ (x : ℕ) (ex : x ≡ two_bytes a b) (lo : 0x7F < a) (hi : a ≤ 0xDF) where
-      pub two_packed : (r : ℕ) → (x ≢ 0) → r ≡ packed_as P 2 x → r ≡ packed_at P s p
-      unfolding packed_at
-      two_packed r z e = rw (← two_at s p a b here ea eb t et tt' x (sequence_for x 2) ex refl lo hi, ne_eqb x 0 z) e
+    module _ (lo : 0x7F < a) (hi : a ≤ 0xDF) where
+      two_packed : (o : Option ℕ) → o ≡ two_bytes a b → (x r : ℕ) → o ≡ Some x → r ≡ packed_as P 2 x → r ≡ packed_at P s p
+      unfolding packed_at zero_for
+      two_packed o eo x r ex e = rw (← two_at s p a b here ea eb t et tt' (Some x) (sym ex ∙ eo) lo hi) e
 
-      pub two_none : x ≡ 0 → 0 ≡ packed_at P s p
-      unfolding packed_at
-      two_none z = rw (← two_at s p a b here ea eb t et tt' x (sequence_for x 2) ex refl lo hi) (packed_none P x 2 z)
+      two_none : (o : Option ℕ) → o ≡ two_bytes a b → o ≡ None → 0 ≡ packed_at P s p
+      unfolding packed_at zero_for
+      two_none o eo ex = rw (← two_at s p a b here ea eb t et tt' None (sym ex ∙ eo) lo hi) refl
+
+      pub two_here : (o : Option ℕ) → o ≡ two_bytes a b → (x : ℕ) (v : packed.Scalar) → o ≡ Some x → v.0 ≡ packed_as P 2 x → Some v ≡ scalar_here P s p
+      two_here o eo x v ex e = here_is P s p 2 x v (omega arith) e (two_packed o eo x v.0 ex e)
+
+      pub two_nothing : (o : Option ℕ) (r : Option packed.Scalar) → o ≡ two_bytes a b → o ≡ None → r ≡ None → r ≡ scalar_here P s p
+      two_nothing o r eo ex er = er ∙ nothing_is P s p (two_none o eo ex)
 
     module _ (c : ℕ) (ec : c ≡ get_or s (p + 2) 0) (u : Bool) (eu : u ≡ is_tail c) where
-      module _ (uu : u ≡ true) (x : ℕ) where
-        module _ (ex : x ≡ three_bytes a b c) (lo : 0xDF < a) (hi : a ≤ 0xEF) where
-          pub three_packed : (r : ℕ) → (x ≢ 0) → r ≡ packed_as P 3 x → r ≡ packed_at P s p
-          unfolding packed_at
-          three_packed r z e = rw (← three_at s p a b here ea eb t et tt' c ec u eu uu x (sequence_for x 3) ex refl lo hi, ne_eqb x 0 z) e
+      module _ (uu : u ≡ true) where
+        module _ (lo : 0xDF < a) (hi : a ≤ 0xEF) where
+          three_packed : (o : Option ℕ) → o ≡ three_bytes a b c → (x r : ℕ) → o ≡ Some x → r ≡ packed_as P 3 x → r ≡ packed_at P s p
+          unfolding packed_at zero_for
+          three_packed o eo x r ex e = rw (← three_at s p a b here ea eb t et tt' c ec u eu uu (Some x) (sym ex ∙ eo) lo hi) e
 
-          pub three_none : x ≡ 0 → 0 ≡ packed_at P s p
-          unfolding packed_at
-          three_none z = rw (← three_at s p a b here ea eb t et tt' c ec u eu uu x (sequence_for x 3) ex refl lo hi) (packed_none P x 3 z)
+          three_none : (o : Option ℕ) → o ≡ three_bytes a b c → o ≡ None → 0 ≡ packed_at P s p
+          unfolding packed_at zero_for
+          three_none o eo ex = rw (← three_at s p a b here ea eb t et tt' c ec u eu uu None (sym ex ∙ eo) lo hi) refl
 
-        module _ (d : ℕ) (ed : d ≡ get_or s (p + 3) 0) (ex : x ≡ four_bytes a b c d) (lo : 0xEF < a) where
-          pub four_packed : (r : ℕ) → (x ≢ 0) → r ≡ packed_as P 4 x → r ≡ packed_at P s p
-          unfolding packed_at
-          four_packed r z e = rw (← four_at s p a b here ea eb t et tt' c ec u eu uu d x (sequence_for x 4) ed ex refl lo, ne_eqb x 0 z) e
+          pub three_here : (o : Option ℕ) → o ≡ three_bytes a b c → (x : ℕ) (v : packed.Scalar) → o ≡ Some x → v.0 ≡ packed_as P 3 x → Some v ≡ scalar_here P s p
+          three_here o eo x v ex e = here_is P s p 3 x v (omega arith) e (three_packed o eo x v.0 ex e)
 
-          pub four_none : x ≡ 0 → 0 ≡ packed_at P s p
-          unfolding packed_at
-          four_none z = rw (← four_at s p a b here ea eb t et tt' c ec u eu uu d x (sequence_for x 4) ed ex refl lo) (packed_none P x 4 z)
+          pub three_nothing : (o : Option ℕ) (r : Option packed.Scalar) → o ≡ three_bytes a b c → o ≡ None → r ≡ None → r ≡ scalar_here P s p
+          three_nothing o r eo ex er = er ∙ nothing_is P s p (three_none o eo ex)
 
-      pub third_none : u ≡ false → 0xDF < a → 0 ≡ packed_at P s p
+        module _ (d : ℕ) (ed : d ≡ get_or s (p + 3) 0) (lo : 0xEF < a) where
+          four_packed : (o : Option ℕ) → o ≡ four_bytes a b c d → (x r : ℕ) → o ≡ Some x → r ≡ packed_as P 4 x → r ≡ packed_at P s p
+          unfolding packed_at zero_for
+          four_packed o eo x r ex e = rw (← four_at s p a b here ea eb t et tt' c ec u eu uu d (Some x) ed (sym ex ∙ eo) lo) e
+
+          four_none : (o : Option ℕ) → o ≡ four_bytes a b c d → o ≡ None → 0 ≡ packed_at P s p
+          unfolding packed_at zero_for
+          four_none o eo ex = rw (← four_at s p a b here ea eb t et tt' c ec u eu uu d None ed (sym ex ∙ eo) lo) refl
+
+          pub four_here : (o : Option ℕ) → o ≡ four_bytes a b c d → (x : ℕ) (v : packed.Scalar) → o ≡ Some x → v.0 ≡ packed_as P 4 x → Some v ≡ scalar_here P s p
+          four_here o eo x v ex e = here_is P s p 4 x v (omega arith) e (four_packed o eo x v.0 ex e)
+
+          pub four_nothing : (o : Option ℕ) (r : Option packed.Scalar) → o ≡ four_bytes a b c d → o ≡ None → r ≡ None → r ≡ scalar_here P s p
+          four_nothing o r eo ex er = er ∙ nothing_is P s p (four_none o eo ex)
+
+      third_none : u ≡ false → 0xDF < a → 0 ≡ packed_at P s p
       unfolding packed_at
       third_none uf lo = rw (← no_third s p a b here ea eb t et tt' c u ec eu uf lo) refl
 
-  pub second_none : t ≡ false → 0x7F < a → 0 ≡ packed_at P s p
+      pub third_nothing : u ≡ false → 0xDF < a → None ≡ scalar_here P s p
+      third_nothing uf lo = nothing_is P s p (third_none uf lo)
+
+  second_none : t ≡ false → 0x7F < a → 0 ≡ packed_at P s p
   unfolding packed_at
   second_none tf lo = rw (← no_second s p a b here ea eb t et tf lo) refl
+
+  pub second_nothing : t ≡ false → 0x7F < a → None ≡ scalar_here P s p
+  second_nothing tf lo = nothing_is P s p (second_none tf lo)
+
+-- ---- what was read at a place, by its number
+
+module _ (P : Profile) (s : List ℕ) (p : ℕ) (o : Option packed.Scalar) (read : o ≡ scalar_here P s p) where
+  pub class_some : (v : packed.Scalar) (k : ℕ) → o ≡ Some v → k ≡ v.0 / 8 % 16 → k ≡ packed_at P s p / 8 % 16
+  class_some v k e f = rw (← (some_here P s p o read v e).0) f
+
+  pub class_none : o ≡ None → 0 ≡ packed_at P s p / 8 % 16
+  class_none e = rw (none_here P s p o read e) refl
+
+  pub indicator_some : (v : packed.Scalar) (b : Bool) → o ≡ Some v → b ≡ eqb v.0 212 → b ≡ eqb (packed_at P s p) 212
+  indicator_some v b e f = rw (← (some_here P s p o read v e).0) f
+
+  pub indicator_none : o ≡ None → false ≡ eqb (packed_at P s p) 212
+  indicator_none e = rw (none_here P s p o read e) refl

@@ -2,18 +2,18 @@
 use Prim.Native.Nat.{◌+◌, ◌≤◌, suc, zero, ℕ}
 use native.Mathlib.Nat.{add-suc, add-zero}
 use native.Mathlib.Omega.{arith}
-use mathlib.Core.Bool.{Bool, ◌&&◌, ◌||◌, cond, false, not, true}
+use mathlib.Core.Bool.{Bool, ◌&&◌, beq, cond, false, not, true}
 use mathlib.Core.List.{List, [], ◌++◌, ◌∷◌, append_assoc, append-nil, reverse, reverse_aux-append}
 use mathlib.Core.Logic.{◌≢◌}
-use mathlib.Core.Path.{◌∙◌, ◌≡◌, ap, refl, sym}
+use mathlib.Core.Path.{◌∙◌, ◌≡◌, ap, ap₂, refl, sym}
+use Rattle.text.specs.Tests.{and_T, is_true, true_T}
 use lib.ListN.{drop, get_or, length, length-append, length-set, set, take}
 use lib.Seq.{length-take-le, take_all, take_at, take-suc, take-suc-set}
 use Rattle.buffer.specs.Sink.{Copied}
 use Rattle.text.specs.Backward.{backward}
 use Rattle.text.specs.Utf8.Code.{whole}
-use Rattle.text.specs.Overstrike.Code.{Front, Pushed, changed_style, order_of, style_of}
-use Rattle.text.specs.Overstrike.{order, push}
-use Rattle.text.specs.Tests.{or_false}
+use Rattle.text.specs.Overstrike.Code.{Front, Pushed, order_of, style_of}
+use Rattle.text.specs.Overstrike.{Style, bold, bold_underline, normal, order, push, underline}
 use Rattle.text.specs.Utf8.{Scalar, decode, run_of}
 use Rattle.text.specs.declared.overstrike.Overstrike.{Overstrike}
 use Rattle.text.proofs.Texts.{run_append, whole_append}
@@ -143,19 +143,29 @@ pub order_pushed : (b s : Overstrike) (xs l l' : List ℕ) (len r : ℕ) → xs 
 order_pushed b s xs l l' len r e p = rw (e ∙ changed_order b s) at p
 
 -- nothing changes
-order_same : (b s : Overstrike) → changed_style b s ≡ false → order_of b s ≡ []
-unfolding changed changes
-order_same b s e =
-    let p = or_false ((b.bold && not s.bold) || (not b.bold && s.bold)) ((b.underline && not s.underline) || (not b.underline && s.underline)) e in
-    let q = or_false (b.bold && not s.bold) (not b.bold && s.bold) p.0 in
-    let r = or_false (b.underline && not s.underline) (not b.underline && s.underline) p.1 in
-    let x : changed b s ≡ [] = rw (q.0, q.1, r.0, r.1) refl in
-    sym (changed_order b s) ∙ x
+same_order : (t : Style) → order t t ≡ []
+unfolding order
+same_order normal = refl
+same_order bold = refl
+same_order underline = refl
+same_order bold_underline = refl
 
 -- ---- an order and a cluster
 
-pub styled_same : (b s : Overstrike) (c : Bool) (l l' xs : List ℕ) (len r : ℕ) → c ≡ changed_style b s → c ≡ false → Pushed l l' len xs r → Pushed l l' len (order_of b s ++ xs) r
-styled_same b s c l l' xs len r e f p = rw (order_same b s (sym e ∙ f)) p
+-- `==` of two flags
+flags_same : (a b : Bool) → beq a b ≡ true → a ≡ b
+flags_same true true e = refl
+flags_same false false e = refl
+flags_same true false e = cc
+flags_same false true e = cc
+
+same_style : (b s : Overstrike) → (beq b.bold s.bold && beq b.underline s.underline) ≡ true → b ≡ s
+same_style b s e =
+    let p = and_T (beq b.bold s.bold) (beq b.underline s.underline) (true_T e) in
+    ap₂ (λ (x y : Bool). record { bold = x; underline = y }) (flags_same _ _ (is_true _ p.0)) (flags_same _ _ (is_true _ p.1))
+
+pub styled_same : (b s : Overstrike) (c : Bool) (l l' xs : List ℕ) (len r : ℕ) → c ≡ (beq b.bold s.bold && beq b.underline s.underline) → c ≡ true → Pushed l l' len xs r → Pushed l l' len (order_of b s ++ xs) r
+styled_same b s c l l' xs len r e f p = rw (same_style b s (sym e ∙ f), same_order (style_of s)) p
 
 module _ (l l₁ xs ys : List ℕ) (len n : ℕ) (p : Pushed l l₁ len xs n) (room : len + (length xs + length ys) ≤ length l) (long : length l₁ ≡ length l) where
   pub styled_room : n + length ys ≤ length l₁

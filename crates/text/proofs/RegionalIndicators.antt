@@ -13,7 +13,7 @@ use borrow.Author.Tests.{eqb-true, leb-false, leb-true}
 use Rattle.text.specs.Backward.{KnownPlace, ScalarStart, back, indicator_at, joins_at, without_last}
 use Rattle.text.specs.Class.{Class, Profile, among, class01, class_l, class_lv, class_lvt, class_t, class_v, control, controls, cr, extend, extended_pictographic, extends, in_any, is_control, lf, number, other, pictographs, regional_indicator, zwj}
 use Rattle.text.specs.Cluster.{Context, after, class_of, context, joined, joins, start}
-use Rattle.text.specs.Utf8.Code.{first_sequence, size}
+use Rattle.text.specs.Utf8.Code.{sequence_or_zero, size}
 use Rattle.text.specs.Class.Code.{profile_of}
 use Rattle.text.specs.Scalar.{packed_at}
 use Rattle.text.specs.Scalar.Laws.{NoScalar, PackedScalar, packed_inside, packed_view}
@@ -80,7 +80,7 @@ module _ (P : Profile) (t : List ℕ) (j : ℕ) (e : indicator_at P t j ≡ true
   pub indicator_class : (d : Scalar) (rest es : List Scalar) → run_of (decode t) ≡ reverse_aux rest (d ∷ es) → j ≡ size rest → number (P.class d.code) ≡ 10
   indicator_class d rest es p q = sym (class_of_law P t j 10 d rest es p q (ap (λ (n : ℕ). n / 8 % 16) reads))
 
-pub indicator_control : (v : code.Profile) (t : List ℕ) (j : ℕ) → indicator_at (profile_of v) t j ≡ true → false ≡ is_control (first_sequence (decode (drop j t))).code
+pub indicator_control : (v : code.Profile) (t : List ℕ) (j : ℕ) → indicator_at (profile_of v) t j ≡ true → false ≡ is_control (sequence_or_zero (decode (drop j t))).code
 indicator_control v t j e = sym (ap is_control (head (profile_of v) t j e).coded ∙ indicator_code v (there (profile_of v) t j e).c.code (there (profile_of v) t j e).class)
 
 -- ---- every scalar of this class is one
@@ -119,7 +119,7 @@ module _ (v : code.Profile) (t : List ℕ) (d : Scalar) (rest es : List Scalar) 
       let h = run_head (drop (size rest) t) d es (run_drop rest (d ∷ es) t p) in
       let r = indicator_range v d.code k in
       let w = in_range_law 0x1F1E6 0x1F1FF d.code r in
-      let n : (first_sequence (decode (drop (size rest) t))).len ≡ 4 = high_len t (size rest) (run_inside d rest es t p) (rw h.coded (omega (arith, w.0))) in
+      let n : (sequence_or_zero (decode (drop (size rest) t))).len ≡ 4 = high_len t (size rest) (run_inside d rest es t p) (rw h.coded (omega (arith, w.0))) in
       rw (n, h.coded, ← indicator v d.code r) refl
 
   pub indicator_size : length d.bytes ≡ 4

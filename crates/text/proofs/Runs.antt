@@ -10,7 +10,7 @@ use lib.ListN.{drop, length, take}
 use lib.Seq.{drop-drop, get_or-drop, length-take-le, slice, take-nil}
 use borrow.Author.Tests.{leb-false, leb-true}
 use Rattle.text.specs.Backward.{back}
-use Rattle.text.specs.Utf8.Code.{first_sequence, run_of, size}
+use Rattle.text.specs.Utf8.Code.{sequence_or_zero, run_of, size}
 use Rattle.text.specs.Tests.{cases}
 use Rattle.text.specs.Utf8.{Scalar, decode, decode_from, sequence, value}
 use Rattle.text.specs.Utf8.Laws.{sequence_le}
@@ -24,7 +24,7 @@ pub record Head (s : List ℕ) (d : Scalar) (es : List Scalar) : Type 0 where
   pub some : 1 ≤ length d.bytes
   pub seq : sequence s ≡ length d.bytes
   pub next : run_of (decode (drop (length d.bytes) s)) ≡ es
-  pub coded : (first_sequence (decode s)).code ≡ d.code
+  pub coded : (sequence_or_zero (decode s)).code ≡ d.code
   pub is : d ≡ record { code = value (take (length d.bytes) s); bytes = take (length d.bytes) s }
 
 pub no_head : (d : Scalar) (es : List Scalar) → [] ≡ d ∷ es → ⊥

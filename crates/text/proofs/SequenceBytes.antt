@@ -10,7 +10,7 @@ use lib.Dec.{leb}
 use lib.ListN.{drop, get_or, length, length-drop, take}
 use lib.Seq.{drop-drop, get_or-drop, length-take-le}
 use borrow.Author.Tests.{le-leb}
-use Rattle.text.specs.Utf8.Code.{first_sequence, run_of, sequence_of, size}
+use Rattle.text.specs.Utf8.Code.{sequence_or_zero, run_of, sequence_of, size}
 use Rattle.text.specs.Utf8.Code.FirstSequence.{first_by}
 use Rattle.text.specs.Utf8.Code.Laws.{none_at, none_past}
 use Rattle.text.specs.Utf8.{Scalar, decode, fits, length_in, scalar, sequence, table, value}
@@ -66,7 +66,7 @@ take_pad (b ∷ c ∷ d ∷ s) (suc (suc (suc (suc n)))) h k = absurd (omega ari
 pad : List ℕ → List ℕ
 pad s = get_or s 0 0 ∷ get_or s 1 0 ∷ get_or s 2 0 ∷ get_or s 3 0 ∷ []
 
-first_pad : (s : List ℕ) → 1 ≤ length s → (n v : ℕ) → n ≡ sequence (pad s) → v ≡ value (take n (pad s)) → sequence_of v n ≡ first_sequence (decode s)
+first_pad : (s : List ℕ) → 1 ≤ length s → (n v : ℕ) → n ≡ sequence (pad s) → v ≡ value (take n (pad s)) → sequence_of v n ≡ sequence_or_zero (decode s)
 unfolding pad
 first_pad [] h n v e f = absurd (omega arith)
 first_pad (b ∷ s) h n v e f =
@@ -82,7 +82,7 @@ first_pad (b ∷ s) h n v e f =
 
 -- what is read at a place is the first sequence there
 pub decode_at : (s : List ℕ) (p a b c d n v : ℕ) → p < length s → a ≡ get_or s p 0 → b ≡ get_or s (p + 1) 0 → c ≡ get_or s (p + 2) 0 → d ≡ get_or s (p + 3) 0
-    → n ≡ sequence (a ∷ b ∷ c ∷ d ∷ []) → v ≡ value (take n (a ∷ b ∷ c ∷ d ∷ [])) → sequence_of v n ≡ first_sequence (decode (drop p s))
+    → n ≡ sequence (a ∷ b ∷ c ∷ d ∷ []) → v ≡ value (take n (a ∷ b ∷ c ∷ d ∷ [])) → sequence_of v n ≡ sequence_or_zero (decode (drop p s))
 unfolding pad
 decode_at s p a b c d n v h ea eb ec ed en ev =
     let ga : get_or (drop p s) 0 0 ≡ a = get_or-drop p s 0 0 ∙ ap (λ (i : ℕ). get_or s i 0) (add-zero p) ∙ sym ea in
@@ -105,7 +105,7 @@ run_more b s n q = rw (decode_good b s n q)
 abbrev pub scalar_at : ℕ → ℕ → ℕ → List ℕ → Scalar
 scalar_at p v n s = record { code = v; bytes = take n (drop p s) }
 
-decode_some : (s : List ℕ) → 1 ≤ length s → (u : Sequence) → u ≡ first_sequence (decode s) → 1 ≤ u.len
+decode_some : (s : List ℕ) → 1 ≤ length s → (u : Sequence) → u ≡ sequence_or_zero (decode s) → 1 ≤ u.len
     → (run_of (decode s) ≡ record { code = u.code; bytes = take u.len s } ∷ run_of (decode (drop u.len s))) × (u.len ≤ length s)
 decode_some [] h u e z = absurd (omega arith)
 decode_some (b ∷ s) h u e z = go (sequence (b ∷ s)) refl
@@ -117,7 +117,7 @@ decode_some (b ∷ s) h u e z = go (sequence (b ∷ s)) refl
         let l : suc n ≤ length (b ∷ s) = rw q at (sequence_le (b ∷ s)) in
         rw f (run_more b s n q, l)
 
-module _ (s : List ℕ) (p : ℕ) (u : Sequence) (here : p < length s) (read : u ≡ first_sequence (decode (drop p s))) where
+module _ (s : List ℕ) (p : ℕ) (u : Sequence) (here : p < length s) (read : u ≡ sequence_or_zero (decode (drop p s))) where
   pub run_good : (u.len ≢ 0) → run_of (decode (drop p s)) ≡ scalar_at p u.code u.len s ∷ run_of (decode (drop (p + u.len) s))
   run_good z = rw (drop-drop u.len p s) at (decode_some (drop p s) (rw (length-drop p s) (omega arith)) u read (omega arith)).0
 
@@ -129,7 +129,7 @@ module _ (s : List ℕ) (p : ℕ) (u : Sequence) (here : p < length s) (read : u
 
 -- ---- a loop over the run: a turn, and the ends
 
-module _ (s : List ℕ) (p : ℕ) (u : Sequence) (here : p < length s) (read : u ≡ first_sequence (decode (drop p s)))
+module _ (s : List ℕ) (p : ℕ) (u : Sequence) (here : p < length s) (read : u ≡ sequence_or_zero (decode (drop p s)))
     (total : ℕ) (same : total ≡ p + size (run_of (decode (drop p s)))) where
   pub size_stop : u.len ≡ 0 → p ≡ total
   unfolding size

@@ -1,8 +1,9 @@
--- Forward segmentation: a cluster with the scalar behind it, and what single bytes say of clusters.
-use Rattle.std.specs.Prelude.{◌+◌, ◌<◌, ℕ, Bool, ◌&&◌, cond, not, List, [], ◌∷◌, ◌≡◌, eqb, ltb, get_or, length}
+-- Forward segmentation: a cluster with the scalar after it, and what single bytes say of clusters.
+use Rattle.std.specs.Prelude.{◌+◌, ◌<◌, ℕ, Option, Bool, ◌&&◌, cond, not, List, [], ◌∷◌, ◌≡◌, eqb, ltb, get_or, length}
 use Rattle.text.specs.Class.{Profile}
 use Rattle.text.specs.Cluster.{Context, after, class_of, clusters, joined}
-use Rattle.text.specs.Scalar.{packed_at}
+use Rattle.text.specs.Scalar.{scalar_here}
+use Rattle.text.specs.declared.scalar.Scalar as packed
 use Rattle.text.specs.TextParts.{Measured, text_at}
 use Rattle.text.specs.Utf8.{Scalar}
 use Rattle.text.specs.Utf8.Code.{size}
@@ -33,11 +34,11 @@ module _ (P : Profile) where
   more_of p k (c ∷ s) = let l : List Scalar = c ∷ more_of (class_of P c) (after k (class_of P c)) s in cond (joined p k (class_of P c)) l []
 
   -- u is the scalar at the place
-  pub record NextClusterReady (s : List ℕ) (at u : ℕ) : Type 0 where
+  pub record NextClusterReady (s : List ℕ) (at : ℕ) (u : Option packed.Scalar) : Type 0 where
     pub inside : at < length s
-    pub scalar : u ≡ packed_at P s at
+    pub scalar : u ≡ scalar_here P s at
 
-  -- r is the first cluster at the place, with the scalar behind it
+  -- r is the first cluster at the place, with the scalar after it
   pub record NextCluster (s : List ℕ) (at : ℕ) (r : ClusterStep) : Type 0 where
     pub part : Measured P s at (first_of (clusters P (text_at s at))) r.part
-    pub next : r.next ≡ packed_at P s r.part.end.0
+    pub next : r.next ≡ scalar_here P s r.part.end.0

@@ -1,7 +1,7 @@
 // Classes of scalars: UAX #29's Grapheme_Cluster_Break, whitespace.
 ghost use Rattle.std.specs.Prelude.{◌≡◌, ◌≤◌, ◌<◌};
 ghost use Rattle.text.specs.Class.{number, in_any, controls, extends, pictographs, whitespace, is_control};
-ghost use Rattle.text.specs.Class.Code.{jamo, printable, profile_of, syllable};
+ghost use Rattle.text.specs.Class.Code.{class_number, jamo, printable, profile_of, syllable};
 
 // The version of the text profile that classes and widths are taken from: 0 is document 01's.
 #[derive(Clone, Copy)]
@@ -9,32 +9,23 @@ pub struct Profile {
     pub version: u8,
 }
 
-// The numbers of UAX #29's classes.
-pub(crate) const CR: u8 = 0;
-
-pub(crate) const LF: u8 = 1;
-
-pub(crate) const CONTROL: u8 = 2;
-
-pub(crate) const EXTEND: u8 = 3;
-
-pub(crate) const ZWJ: u8 = 4;
-
-pub(crate) const L: u8 = 5;
-
-pub(crate) const V: u8 = 6;
-
-pub(crate) const T: u8 = 7;
-
-pub const LV: u8 = 8;
-
-pub const LVT: u8 = 9;
-
-pub(crate) const REGIONAL_INDICATOR: u8 = 10;
-
-pub const OTHER: u8 = 11;
-
-pub const EXTENDED_PICTOGRAPHIC: u8 = 12;
+// UAX #29's classes.
+#[derive(Clone, Copy, PartialEq, Eq, Debug)]
+pub enum Class {
+    Cr,
+    Lf,
+    Control,
+    Extend,
+    Zwj,
+    L,
+    V,
+    T,
+    Lv,
+    Lvt,
+    RegionalIndicator,
+    Other,
+    ExtendedPictographic,
+}
 
 fn in_controls(x: u32) -> bool
     ensures { result ≡ in_any controls x }
@@ -66,80 +57,80 @@ pub(crate) fn in_pictographs(x: u32) -> bool
     ((0x1F300 <= x) & (x <= 0x1F64F)) | ((0x1F900 <= x) & (x <= 0x1F9FF))
 }
 
-// The number of a Hangul syllable's class: LV, or LVT where it ends in a consonant.
-fn syllable_class(x: u32) -> u8
+// A Hangul syllable's class: LV, or LVT where it ends in a consonant.
+fn syllable_class(x: u32) -> Class
     requires { 0xAC00 ≤ x }
-    ensures { result ≡ number (syllable x) }
+    ensures { class_number result ≡ number (syllable x) }
 {
     if (x - 0xAC00) % 28 == 0 {
-        return LV;
+        return Class::Lv;
     }
-    LVT
+    Class::Lvt
 }
 
-// The number of the class of one of U+1100 to U+11FF.
-fn jamo_class(x: u32) -> u8
-    ensures { result ≡ number (jamo x) }
+// The class of one of U+1100 to U+11FF.
+fn jamo_class(x: u32) -> Class
+    ensures { class_number result ≡ number (jamo x) }
 {
     if x <= 0x115F {
-        return L;
+        return Class::L;
     }
     if x <= 0x11A7 {
-        return V;
+        return Class::V;
     }
-    T
+    Class::T
 }
 
-// The number of a scalar's class, by the ranges of the profile.
-fn class_in_ranges(profile: Profile, x: u32) -> u8
-    ensures { result ≡ number ((profile_of profile).class x) }
+// A scalar's class, by the ranges of the profile.
+fn class_in_ranges(profile: Profile, x: u32) -> Class
+    ensures { class_number result ≡ number ((profile_of profile).class x) }
 {
     if x == 0x0D {
-        return CR;
+        return Class::Cr;
     }
     if x == 0x0A {
-        return LF;
+        return Class::Lf;
     }
     if in_controls(x) {
-        return CONTROL;
+        return Class::Control;
     }
     if in_extends(x) {
-        return EXTEND;
+        return Class::Extend;
     }
     if x == 0x200D {
-        return ZWJ;
+        return Class::Zwj;
     }
     if ((0x1100 <= x) & (x <= 0x115F)) | ((0xA960 <= x) & (x <= 0xA97C)) {
-        return L;
+        return Class::L;
     }
     if ((0x1160 <= x) & (x <= 0x11A7)) | ((0xD7B0 <= x) & (x <= 0xD7C6)) {
-        return V;
+        return Class::V;
     }
     if ((0x11A8 <= x) & (x <= 0x11FF)) | ((0xD7CB <= x) & (x <= 0xD7FB)) {
-        return T;
+        return Class::T;
     }
     if (0xAC00 <= x) & (x <= 0xD7A3) {
         return syllable_class(x);
     }
     if (0x1F1E6 <= x) & (x <= 0x1F1FF) {
-        return REGIONAL_INDICATOR;
+        return Class::RegionalIndicator;
     }
     if in_pictographs(x) {
-        return EXTENDED_PICTOGRAPHIC;
+        return Class::ExtendedPictographic;
     }
-    OTHER
+    Class::Other
 }
 
-// The number of the class of one of U+0300 to U+11FF.
-fn low_class(profile: Profile, x: u32) -> u8
+// The class of one of U+0300 to U+11FF.
+fn low_class(profile: Profile, x: u32) -> Class
     requires { (0x300 ≤ x) × (x < 0x1200) }
-    ensures { result ≡ number ((profile_of profile).class x) }
+    ensures { class_number result ≡ number ((profile_of profile).class x) }
 {
     if x <= 0x36F {
-        return EXTEND;
+        return Class::Extend;
     }
     if x <= 0x482 {
-        return OTHER;
+        return Class::Other;
     }
     if x < 0x1100 {
         return class_in_ranges(profile, x);
@@ -147,13 +138,13 @@ fn low_class(profile: Profile, x: u32) -> u8
     jamo_class(x)
 }
 
-// The number of a scalar's class, the common ones found first.
-pub(crate) fn class(profile: Profile, x: u32) -> u8
-    ensures { result ≡ number ((profile_of profile).class x) }
+// A scalar's class, the common ones found first.
+pub(crate) fn class_of(profile: Profile, x: u32) -> Class
+    ensures { class_number result ≡ number ((profile_of profile).class x) }
 {
     if x < 0x300 {
         if ((0x20 <= x) & (x <= 0x7E)) | (0xA0 <= x) {
-            return OTHER;
+            return Class::Other;
         }
         return class_in_ranges(profile, x);
     }
@@ -161,16 +152,16 @@ pub(crate) fn class(profile: Profile, x: u32) -> u8
         return low_class(profile, x);
     }
     if (0x2100 <= x) & (x <= 0xA95F) {
-        return OTHER;
+        return Class::Other;
     }
     if (0xAC00 <= x) & (x <= 0xD7A3) {
         return syllable_class(x);
     }
     if (0x1F650 <= x) & (x <= 0x1F8FF) {
-        return OTHER;
+        return Class::Other;
     }
     if (0x1FA00 <= x) & (x <= 0xE00FF) {
-        return OTHER;
+        return Class::Other;
     }
     class_in_ranges(profile, x)
 }

@@ -4,27 +4,83 @@ ghost use Rattle.text.specs.Utf8.{same_bytes, decode, runs};
 ghost use Rattle.text.specs.Overstrike.{bolded, underlined, ambiguous, backspace, step, convert_pieces, convert};
 ghost use Rattle.text.specs.Backward.{backward};
 ghost use Rattle.text.specs.Class.Code.{profile_of};
-ghost use Rattle.text.specs.Overstrike.Code.{BackReady, BackspaceStep, FinishReady, Finished, FrontKnown, LineCopied, PieceDone, PieceReady, Pushed, SpanDone, StepReady, Stepped, Strike, StruckStep, Wrote, changed_style, conversion, order_of, part_of, plain, state_of, style_of};
+ghost use Rattle.text.specs.declared.overstrike.Pending.TheVariants.{Held};
+ghost use Rattle.text.specs.Overstrike.Code.{BackReady, BackspaceStep, FinishReady, Finished, FrontKnown, LineCopied, PieceDone, PieceReady, Pushed, SpanDone, StepReady, Stepped, Strike, StruckStep, Wrote, conversion, order_of, part_of, plain, state_of, style_of};
 
-use super::backward::{Erasure, erase_last};
+use super::backward::{Erasure, Written};
 use super::class::Profile;
 use super::segmentation::cluster_end;
 use super::utf8::decode;
 
 // An overstrike style.
-#[derive(Clone, Copy)]
+#[derive(Clone, Copy, PartialEq, Eq)]
 pub struct Overstrike {
     pub bold: bool,
     pub underline: bool,
 }
 
-// convert_unicode_span's variables: the length of the result, prev_grapheme as a part of the line (pending: 0 none, 1 held, 2 struck), prev_overstrike and overstrike; a place of the result at which an even number of regional indicators ends.
+impl Overstrike {
+    const NORMAL: Overstrike = Overstrike {
+        bold: false,
+        underline: false,
+    };
+
+    fn bold(self) -> Overstrike
+        ensures { style_of result ≡ bolded (style_of self) }
+    {
+        Overstrike { bold: true, ..self }
+    }
+
+    fn underline(self) -> Overstrike
+        ensures { style_of result ≡ underlined (style_of self) }
+    {
+        Overstrike {
+            underline: true,
+            ..self
+        }
+    }
+
+    // Overstriking `_` with itself, in this style and after a cluster of another: the existing overstrike goes on if there is any.
+    fn strike_underscore(self, before: Overstrike) -> Overstrike
+        ensures { style_of result ≡ ambiguous (style_of before) (style_of self) }
+    {
+        if self.bold | self.underline {
+            return Overstrike {
+                bold: true,
+                underline: true,
+            };
+        }
+        if before.bold | before.underline {
+            return before;
+        }
+        Overstrike {
+            bold: true,
+            underline: false,
+        }
+    }
+}
+
+// A cluster's part of the line.
+#[derive(Clone, Copy)]
+pub struct LinePart {
+    pub at: usize,
+    pub end: usize,
+}
+
+// prev_grapheme: none, one, or one after which a backspace has been read.
+#[derive(Clone, Copy)]
+pub enum Pending {
+    Nothing,
+    Held(LinePart),
+    Struck(LinePart),
+}
+
+// convert_unicode_span's variables: the length of the result, prev_grapheme, prev_overstrike and overstrike; a place of the result at which an
+// even number of regional indicators ends.
 #[derive(Clone, Copy)]
 pub struct Conversion {
     pub len: usize,
-    pub pending: u8,
-    pub at: usize,
-    pub end: usize,
+    pub pending: Pending,
     pub before: Overstrike,
     pub style: Overstrike,
     pub known: usize,
@@ -35,7 +91,12 @@ fn backspace(profile: Profile, out: &mut [u8], len: usize, known: usize) -> Eras
     requires { BackReady (profile_of profile) out.old len known }
     ensures { FrontKnown (profile_of profile) out.new result (backspace (profile_of profile) (backward (take len out.old))) }
 {
-    let k = erase_last(profile, &out[..len], known);
+    let written = Written {
+        profile,
+        text: &out[..len],
+        known,
+    };
+    let k = written.erase_last();
     if k.at < len {
         return k;
     }
@@ -46,14 +107,14 @@ fn backspace(profile: Profile, out: &mut [u8], len: usize, known: usize) -> Eras
     }
 }
 
-// Bytes behind the result, few at once without a loop.
+// Bytes after the result, few at once without a loop.
 fn push(out: &mut [u8], len: usize, src: &[u8]) -> usize
     requires { len + length src.now ≤ length out.old }
     ensures { Pushed out.old out.new len src.now result }
 {
     let n = src.len();
     if 4 < n {
-        return buffer::copy_bytes(out, len, src);
+        return buffer::copy(out, len, src);
     }
     if n == 0 {
         return len;
@@ -72,14 +133,6 @@ fn push(out: &mut [u8], len: usize, src: &[u8]) -> usize
     }
     out[len + 3] = src[3];
     len + 4
-}
-
-// Do two styles differ?
-fn is_changed(prev: Overstrike, style: Overstrike) -> bool
-    ensures { result ≡ changed_style prev style }
-{
-    ((prev.bold & !style.bold) | (!prev.bold & style.bold))
-        | ((prev.underline & !style.underline) | (!prev.underline & style.underline))
 }
 
 // The style order from prev to style.
@@ -118,7 +171,7 @@ fn add_control_sequence(out: &mut [u8], len: usize, prev: Overstrike, style: Ove
     len
 }
 
-// The style order from prev to style and a cluster behind the result.
+// The style order from prev to style and a cluster after the result.
 fn push_styled(
     out: &mut [u8],
     len: usize,
@@ -129,85 +182,14 @@ fn push_styled(
     requires { len + (length (order_of prev style) + length cluster.now) ≤ length out.old }
     ensures { Pushed out.old out.new len (order_of prev style ++ cluster.now) result }
 {
-    if is_changed(prev, style) {
-        let n = add_control_sequence(out, len, prev, style);
-        return push(out, n, cluster);
+    if prev == style {
+        return push(out, len, cluster);
     }
-    push(out, len, cluster)
+    let n = add_control_sequence(out, len, prev, style);
+    push(out, n, cluster)
 }
 
-// A cluster that is a backspace.
-fn on_backspace(profile: Profile, out: &mut [u8], st: Conversion) -> Conversion
-    requires { BackReady (profile_of profile) out.old st.len st.known }
-    ensures { BackspaceStep (profile_of profile) out.old out.new st result }
-{
-    let before = st.before;
-    let style = st.style;
-    if st.pending == 1 {
-        return Conversion {
-            len: st.len,
-            pending: 2,
-            at: st.at,
-            end: st.end,
-            before: before,
-            style: style,
-            known: st.known,
-        };
-    }
-    let k = backspace(profile, out, st.len, st.known);
-    Conversion {
-        len: k.at,
-        pending: 0,
-        at: 0,
-        end: 0,
-        before: before,
-        style: Overstrike {
-            bold: false,
-            underline: false,
-        },
-        known: k.known,
-    }
-}
-
-// Overstrike::bold
-fn bold(s: Overstrike) -> Overstrike
-    ensures { style_of result ≡ bolded (style_of s) }
-{
-    Overstrike {
-        bold: true,
-        underline: s.underline,
-    }
-}
-
-// Overstrike::underline
-fn underline(s: Overstrike) -> Overstrike
-    ensures { style_of result ≡ underlined (style_of s) }
-{
-    Overstrike {
-        bold: s.bold,
-        underline: true,
-    }
-}
-
-// Overstriking `_` with itself: the existing overstrike goes on if there is any.
-fn strike_underscore(before: Overstrike, style: Overstrike) -> Overstrike
-    ensures { style_of result ≡ ambiguous (style_of before) (style_of style) }
-{
-    if style.bold | style.underline {
-        return Overstrike {
-            bold: true,
-            underline: true,
-        };
-    }
-    if before.bold | before.underline {
-        return before;
-    }
-    Overstrike {
-        bold: true,
-        underline: false,
-    }
-}
-
+// As `==` says; that walk is not drawn into the code here, and takes `convert` an eighth longer.
 fn same_bytes(x: &[u8], y: &[u8]) -> bool
     ensures { result ≡ same_bytes x.now y.now }
 {
@@ -234,124 +216,115 @@ fn is_byte(x: &[u8], b: u8) -> bool
     false
 }
 
-// The cluster from `at` to `end` held in the pending one's place.
-fn replace(st: Conversion, at: usize, end: usize, style: Overstrike) -> Conversion
-    ensures { result ≡ conversion st.len 1 at end st.before style st.known }
-{
-    let before = st.before;
-    Conversion {
-        len: st.len,
-        pending: 1,
-        at: at,
-        end: end,
-        before: before,
-        style: style,
-        known: st.known,
-    }
-}
-
-// The cluster from `at` to `end` over the struck one.
-fn strike(line: &[u8], st: Conversion, at: usize, end: usize) -> Conversion
-    requires { Strike line.now st at end }
-    ensures { StruckStep line.now st at end result }
-{
-    let a = st.at;
-    let e = st.end;
-    let before = st.before;
-    let style = st.style;
-    let same = same_bytes(&line[a..e], &line[at..end]);
-    let upper = is_byte(&line[at..end], 0x5F);
-    let under = is_byte(&line[a..e], 0x5F);
-    if same {
-        if upper {
-            return replace(st, a, e, strike_underscore(before, style));
-        }
-        return replace(st, a, e, bold(style));
-    }
-    if upper {
-        return replace(st, a, e, underline(style));
-    }
-    if under {
-        return replace(st, at, end, underline(style));
-    }
-    replace(
-        st,
-        at,
-        end,
-        Overstrike {
-            bold: false,
-            underline: false,
-        },
-    )
-}
-
-// The cluster from `at` to `end` held behind a result of `len` bytes.
-fn hold(st: Conversion, len: usize, at: usize, end: usize) -> Conversion
-    ensures { result ≡ conversion len 1 at end st.style plain st.known }
-{
-    let style = st.style;
-    Conversion {
-        len: len,
-        pending: 1,
-        at: at,
-        end: end,
-        before: style,
-        style: Overstrike {
-            bold: false,
-            underline: false,
-        },
-        known: st.known,
-    }
-}
-
-// A step of convert_unicode_span: the cluster from `at` to `end` of the line.
-fn step(
-    profile: Profile,
-    out: &mut [u8],
-    line: &[u8],
-    st: Conversion,
-    at: usize,
-    end: usize,
-) -> Conversion
-    requires { StepReady (profile_of profile) line.now out.old st at end }
-    ensures { Stepped (profile_of profile) line.now out.new result (step (profile_of profile) (state_of line.now out.old st) (part_of line.now at end)) }
-{
-    let back = is_byte(&line[at..end], 0x08);
-    if back {
-        return on_backspace(profile, out, st);
-    }
-    if st.pending == 0 {
-        return hold(st, st.len, at, end);
-    }
-    if st.pending == 1 {
-        let before = st.before;
-        let style = st.style;
-        let a = st.at;
-        let e = st.end;
-        let n = push_styled(out, st.len, before, style, &line[a..e]);
-        return hold(st, n, at, end);
-    }
-    strike(line, st, at, end)
-}
-
-// The run's end.
-fn finish(out: &mut [u8], line: &[u8], st: Conversion) -> usize
-    requires { FinishReady line.now out.old st }
-    ensures { Finished line.now out.old out.new st result }
-{
-    let before = st.before;
-    let style = st.style;
-    let normal = Overstrike {
-        bold: false,
-        underline: false,
+impl Conversion {
+    const START: Conversion = Conversion {
+        len: 0,
+        pending: Pending::Nothing,
+        before: Overstrike::NORMAL,
+        style: Overstrike::NORMAL,
+        known: 0,
     };
-    if st.pending == 1 {
-        let at = st.at;
-        let end = st.end;
-        let n = push_styled(out, st.len, before, style, &line[at..end]);
-        return add_control_sequence(out, n, style, normal);
+
+    // A cluster that is a backspace.
+    fn on_backspace(self, profile: Profile, out: &mut [u8]) -> Conversion
+        requires { BackReady (profile_of profile) out.old self.len self.known }
+        ensures { BackspaceStep (profile_of profile) out.old out.new self result }
+    {
+        if let Pending::Held(cluster) = self.pending {
+            return Conversion {
+                pending: Pending::Struck(cluster),
+                ..self
+            };
+        }
+        let erased = backspace(profile, out, self.len, self.known);
+        Conversion {
+            len: erased.at,
+            pending: Pending::Nothing,
+            before: self.before,
+            style: Overstrike::NORMAL,
+            known: erased.known,
+        }
     }
-    add_control_sequence(out, st.len, before, normal)
+
+    // The cluster held in the pending one's place.
+    fn replace(self, cluster: LinePart, style: Overstrike) -> Conversion
+        ensures { result ≡ conversion self.len (Held cluster) self.before style self.known }
+    {
+        Conversion {
+            pending: Pending::Held(cluster),
+            style,
+            ..self
+        }
+    }
+
+    // The cluster `upper` over the struck one.
+    fn strike(self, line: &[u8], under: LinePart, upper: LinePart) -> Conversion
+        requires { Strike line.now self under upper }
+        ensures { StruckStep line.now self upper result }
+    {
+        let below = &line[under.at..under.end];
+        let above = &line[upper.at..upper.end];
+        let is_upper = is_byte(above, 0x5F);
+        let is_under = is_byte(below, 0x5F);
+        if same_bytes(below, above) {
+            if is_upper {
+                return self.replace(under, self.style.strike_underscore(self.before));
+            }
+            return self.replace(under, self.style.bold());
+        }
+        if is_upper {
+            return self.replace(under, self.style.underline());
+        }
+        if is_under {
+            return self.replace(upper, self.style.underline());
+        }
+        self.replace(upper, Overstrike::NORMAL)
+    }
+
+    // The cluster held after a result of `len` bytes.
+    fn hold(self, len: usize, cluster: LinePart) -> Conversion
+        ensures { result ≡ conversion len (Held cluster) self.style plain self.known }
+    {
+        Conversion {
+            len,
+            pending: Pending::Held(cluster),
+            before: self.style,
+            style: Overstrike::NORMAL,
+            ..self
+        }
+    }
+
+    // A step of convert_unicode_span: the next cluster of the line.
+    fn step(self, profile: Profile, out: &mut [u8], line: &[u8], cluster: LinePart) -> Conversion
+        requires { StepReady (profile_of profile) line.now out.old self cluster }
+        ensures { Stepped (profile_of profile) line.now out.new result (step (profile_of profile) (state_of line.now out.old self) (part_of line.now cluster.at cluster.end)) }
+    {
+        if is_byte(&line[cluster.at..cluster.end], 0x08) {
+            return self.on_backspace(profile, out);
+        }
+        match self.pending {
+            Pending::Nothing => self.hold(self.len, cluster),
+            Pending::Held(before) => {
+                let text = &line[before.at..before.end];
+                let n = push_styled(out, self.len, self.before, self.style, text);
+                self.hold(n, cluster)
+            }
+            Pending::Struck(under) => self.strike(line, under, cluster),
+        }
+    }
+
+    // The run's end.
+    fn finish(self, out: &mut [u8], line: &[u8]) -> usize
+        requires { FinishReady line.now out.old self }
+        ensures { Finished line.now out.old out.new self result }
+    {
+        if let Pending::Held(cluster) = self.pending {
+            let text = &line[cluster.at..cluster.end];
+            let n = push_styled(out, self.len, self.before, self.style, text);
+            return add_control_sequence(out, n, self.style, Overstrike::NORMAL);
+        }
+        add_control_sequence(out, self.len, self.before, Overstrike::NORMAL)
+    }
 }
 
 // A piece of a line read up to a place, and its conversion written up to a place.
@@ -366,35 +339,21 @@ fn convert_unicode_span(profile: Profile, line: &[u8], out: &mut [u8]) -> Progre
     requires { 8 * length line.now ≤ length out.old }
     ensures { SpanDone (profile_of profile) line.now out.new result }
 {
-    let mut st = Conversion {
-        len: 0,
-        pending: 0,
-        at: 0,
-        end: 0,
-        before: Overstrike {
-            bold: false,
-            underline: false,
-        },
-        style: Overstrike {
-            bold: false,
-            underline: false,
-        },
-        known: 0,
-    };
+    let mut st = Conversion::START;
     let mut p = 0;
     while p < line.len() {
         let e = cluster_end(profile, line, p);
         if e == p {
-            let n = finish(out, line, st);
+            let n = st.finish(out, line);
             return Progress {
                 read: p,
                 written: n,
             };
         }
-        st = step(profile, out, line, st, p, e);
+        st = st.step(profile, out, line, LinePart { at: p, end: e });
         p = e;
     }
-    let n = finish(out, line, st);
+    let n = st.finish(out, line);
     Progress {
         read: p,
         written: n,
@@ -408,8 +367,7 @@ fn convert_piece(profile: Profile, line: &[u8], out: &mut [u8], done: Progress) 
 {
     let at = done.read;
     let len = done.written;
-    let u = decode(line, at);
-    if u.len == 0 {
+    if decode(line, at).is_none() {
         out[len] = line[at];
         return Progress {
             read: at + 1,
@@ -438,7 +396,7 @@ fn convert_pieces(profile: Profile, line: &[u8], out: &mut [u8]) -> usize
     done.written
 }
 
-// Copies the line to the front of the buffer. Has it a byte 08?
+// Copies the line to the front of the buffer. Has it a byte 08? One pass: a look that stops at the first 08 would be a second one.
 fn copy_line(line: &[u8], out: &mut [u8]) -> bool
     requires { length line.now ≤ length out.old }
     ensures { LineCopied line.now out.new result }

@@ -3,7 +3,6 @@ ghost use Rattle.std.specs.Prelude.{◌≡◌, true};
 ghost use Rattle.text.specs.Printable.{all_printable, BytesOf, ColumnsOf, PlaceOf};
 
 use super::{BytePlace, Column};
-use buffer::smaller;
 
 // The bytes of so many columns.
 pub fn bytes_of(columns: Column) -> usize
@@ -25,5 +24,5 @@ pub fn place_of(text: &[u8], column: Column) -> BytePlace
     requires { all_printable text.now ≡ true }
     ensures { PlaceOf text.now column.0 result }
 {
-    BytePlace(smaller(bytes_of(column), text.len()))
+    BytePlace(bytes_of(column).min(text.len()))
 }

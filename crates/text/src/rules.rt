@@ -1,67 +1,75 @@
-// UAX #29's rules. What they ask of the scalars before a place is one number, the state: the last one's class, but OTHER after an even
-// number of regional indicators, EXTENDED_PICTOGRAPHIC after one of these and any number of Extend, PICTOGRAPHIC_ZWJ where ZWJ follows
-// them.
-ghost use Rattle.std.specs.Prelude.{◌≡◌, ◌≤◌};
+// UAX #29's rules.
+ghost use Rattle.std.specs.Prelude.{◌≡◌, eqb};
+ghost use Rattle.text.specs.Class.Code.{class_number};
 ghost use Rattle.text.specs.Cluster.{joined};
-ghost use Rattle.text.specs.Rules.{state_context, state_after};
+ghost use Rattle.text.specs.Rules.{before_number, state_context, state_after};
 
-use super::class::{
-    CONTROL, CR, EXTEND, EXTENDED_PICTOGRAPHIC, L, LF, LV, LVT, OTHER, REGIONAL_INDICATOR, T, V,
-    ZWJ,
-};
+use super::class::Class;
 
-const PICTOGRAPHIC_ZWJ: u8 = 15;
-
-// The state after one more scalar, of class c.
-pub(crate) fn state_after(state: u8, c: u8) -> u8
-    ensures { result ≡ state_after state c }
-{
-    if (state == REGIONAL_INDICATOR) & (c == REGIONAL_INDICATOR) {
-        return OTHER;
-    }
-    if (state == EXTENDED_PICTOGRAPHIC) & (c == EXTEND) {
-        return EXTENDED_PICTOGRAPHIC;
-    }
-    if (state == EXTENDED_PICTOGRAPHIC) & (c == ZWJ) {
-        return PICTOGRAPHIC_ZWJ;
-    }
-    c
+// What the rules ask of the scalars before a place.
+#[derive(Clone, Copy)]
+pub(crate) enum Before {
+    // The last one's class; but Other after an even number of regional indicators, and ExtendedPictographic after one of these and any
+    // number of Extend.
+    Scalar(Class),
+    // An Extended_Pictographic, any number of Extend and a ZWJ.
+    PictographZwj,
 }
 
-// Is there no boundary before a scalar of class c? By the class and not in the standard's order: most scalars are OTHER, which one test
-// tells here, and eight there.
-pub(crate) fn continues_cluster(state: u8, c: u8) -> bool
-    requires { (state ≤ 15) × (c ≤ 12) }
-    ensures { result ≡ joined state (state_context state) c }
-{
-    // GB999
-    if c == OTHER {
-        return false;
+impl Before {
+    // With one more scalar, of class c.
+    pub(crate) fn and(self, c: Class) -> Before
+        ensures { before_number result ≡ state_after (before_number self) (class_number c) }
+    {
+        match (self, c) {
+            (Before::Scalar(Class::RegionalIndicator), Class::RegionalIndicator) => {
+                Before::Scalar(Class::Other)
+            }
+            (Before::Scalar(Class::ExtendedPictographic), Class::Extend) => self,
+            (Before::Scalar(Class::ExtendedPictographic), Class::Zwj) => Before::PictographZwj,
+            _ => Before::Scalar(c),
+        }
     }
-    // GB4, GB9
-    if (c == EXTEND) | (c == ZWJ) {
-        return !((state == CONTROL) | ((state == CR) | (state == LF)));
+
+    // Is the last scalar's class, or what stands for it, this one?
+    fn ends_in(self, class: Class) -> bool
+        ensures { result ≡ eqb (before_number self) (class_number class) }
+    {
+        match self {
+            Before::Scalar(last) => last == class,
+            Before::PictographZwj => false,
+        }
     }
-    // GB6
-    if (c == L) | ((c == LV) | (c == LVT)) {
-        return state == L;
+
+    // Is there no boundary before a scalar of class c? By the class and not in the standard's order, in which eight rules come before the one
+    // for most scalars.
+    pub(crate) fn joins(self, c: Class) -> bool
+        ensures { result ≡ joined (before_number self) (state_context (before_number self)) (class_number c) }
+    {
+        match c {
+            // GB999, GB5
+            Class::Other | Class::Cr | Class::Control => false,
+            // GB4, GB9
+            Class::Extend | Class::Zwj => {
+                !(self.ends_in(Class::Control) | self.ends_in(Class::Cr) | self.ends_in(Class::Lf))
+            }
+            // GB6
+            Class::L | Class::Lv | Class::Lvt => self.ends_in(Class::L),
+            // GB6, GB7
+            Class::V => self.ends_in(Class::L) | self.ends_in(Class::Lv) | self.ends_in(Class::V),
+            // GB7, GB8
+            Class::T => {
+                self.ends_in(Class::Lv)
+                    | self.ends_in(Class::V)
+                    | self.ends_in(Class::Lvt)
+                    | self.ends_in(Class::T)
+            }
+            // GB12, GB13
+            Class::RegionalIndicator => self.ends_in(Class::RegionalIndicator),
+            // GB11
+            Class::ExtendedPictographic => matches!(self, Before::PictographZwj),
+            // GB3
+            Class::Lf => self.ends_in(Class::Cr),
+        }
     }
-    // GB6, GB7
-    if c == V {
-        return (state == L) | ((state == LV) | (state == V));
-    }
-    // GB7, GB8
-    if c == T {
-        return ((state == LV) | (state == V)) | ((state == LVT) | (state == T));
-    }
-    // GB12, GB13
-    if c == REGIONAL_INDICATOR {
-        return state == REGIONAL_INDICATOR;
-    }
-    // GB11
-    if c == EXTENDED_PICTOGRAPHIC {
-        return state == PICTOGRAPHIC_ZWJ;
-    }
-    // GB3, GB5
-    (c == LF) & (state == CR)
 }

@@ -1,155 +1,187 @@
-// A scalar as one number: what the walks through a text read at a place.
-ghost use Rattle.std.specs.Prelude.{◌≡◌, ◌≤◌, ◌<◌, length};
-ghost use Rattle.text.specs.Class.Code.{profile_of};
-ghost use Rattle.text.specs.Scalar.{packed_as, packed_at};
+// A scalar as the walks through a text read it at a place.
+ghost use Rattle.std.specs.Prelude.{◌≡◌, ◌≤◌, ◌<◌, ◌+◌, ◌*◌, ◌/◌, ◌%◌, eqb, length};
+ghost use Rattle.text.specs.Class.Code.{class_number, profile_of};
+ghost use Rattle.text.specs.Scalar.{packed_as, scalar_here};
 
-use super::class::{
-    CONTROL, EXTEND, EXTENDED_PICTOGRAPHIC, L, LF, LV, LVT, OTHER, Profile, REGIONAL_INDICATOR, T,
-    V, class, in_pictographs,
-};
+use super::class::{Class, Profile, class_of, in_pictographs};
 use super::utf8::{byte_at, four_bytes, is_tail, three_bytes, two_bytes};
 use super::width::width;
 
-// A scalar packed into one number: its length in bytes, 8 times its class and 128 times its width. These are without the length.
-pub(crate) const NARROW: usize = 8 * (OTHER as usize) + 128;
+// A scalar's length in bytes, 8 times its class and 128 times its width: one number, which a function gives in a register. Three fields
+// are given in memory, which takes a walk half as long again.
+#[derive(Clone, Copy, PartialEq, Eq)]
+pub struct Scalar(u32);
 
-const WIDE: usize = 8 * (OTHER as usize) + 256;
+const PRINTABLE: u32 = 1 + 8 * (Class::Other as u32) + 128;
 
-const MARK: usize = 8 * (EXTEND as usize);
+const INDICATOR: u32 = 4 + 8 * (Class::RegionalIndicator as u32) + 128;
 
-const JAMO_L: usize = 8 * (L as usize) + 256;
+impl Scalar {
+    pub(crate) fn new(len: u32, class: Class, width: u32) -> Scalar
+        requires { (len ≤ 4) × (width ≤ 2) }
+        ensures { result.0 ≡ len + 8 * (class_number class + 16 * width) }
+    {
+        Scalar(len + 8 * (class as u32 + 16 * width))
+    }
 
-const JAMO_V: usize = 8 * (V as usize);
+    // Its length in bytes.
+    pub fn len(self) -> usize
+        ensures { result ≡ self.0 % 8 }
+    {
+        (self.0 % 8) as usize
+    }
 
-const JAMO_T: usize = 8 * (T as usize);
+    pub fn class(self) -> Class
+        requires { self.0 / 8 % 16 ≤ 12 }
+        ensures { class_number result ≡ self.0 / 8 % 16 }
+    {
+        match self.0 / 8 % 16 {
+            0 => Class::Cr,
+            1 => Class::Lf,
+            2 => Class::Control,
+            3 => Class::Extend,
+            4 => Class::Zwj,
+            5 => Class::L,
+            6 => Class::V,
+            7 => Class::T,
+            8 => Class::Lv,
+            9 => Class::Lvt,
+            10 => Class::RegionalIndicator,
+            11 => Class::Other,
+            12 => Class::ExtendedPictographic,
+            _ => unreachable!(),
+        }
+    }
 
-const SYLLABLE_LV: usize = 8 * (LV as usize) + 256;
+    // Is it one of U+0020 to U+007E?
+    pub(crate) fn is_printable(self) -> bool
+        ensures { result ≡ eqb self.0 217 }
+    {
+        self.0 == PRINTABLE
+    }
 
-const SYLLABLE_LVT: usize = 8 * (LVT as usize) + 256;
+    // Is it a regional indicator of four bytes?
+    pub(crate) fn is_indicator(self) -> bool
+        ensures { result ≡ eqb self.0 212 }
+    {
+        self.0 == INDICATOR
+    }
 
-pub(crate) const INDICATOR: usize = 8 * (REGIONAL_INDICATOR as usize) + 128;
+    // Its width in columns.
+    pub fn width(self) -> usize
+        ensures { result ≡ self.0 / 128 }
+    {
+        (self.0 / 128) as usize
+    }
+}
 
-const PICTURE: usize = 8 * (EXTENDED_PICTOGRAPHIC as usize) + 256;
-
-const NEW_LINE: usize = 8 * (LF as usize);
-
-const OTHER_CONTROL: usize = 8 * (CONTROL as usize);
-
-// The scalar x of so many bytes, packed.
-fn pack(profile: Profile, len: usize, x: u32) -> usize
+// The scalar x of so many bytes. Few texts come here: the common ranges are told before.
+#[inline(never)]
+fn pack(profile: Profile, len: u32, x: u32) -> Scalar
     requires { len ≤ 4 }
-    ensures { result ≡ packed_as (profile_of profile) len x }
+    ensures { result.0 ≡ packed_as (profile_of profile) len x }
 {
-    let c = class(profile, x) as usize;
-    let w = width(profile, x);
-    len + 8 * (c + 16 * w)
+    let c = class_of(profile, x);
+    let w = width(profile, x) as u32;
+    Scalar::new(len, c, w)
 }
 
 // The same for each length, the common ranges told first.
-fn pack_one(profile: Profile, x: u32) -> usize
+fn pack_one(profile: Profile, x: u32) -> Scalar
     requires { x < 0x80 }
-    ensures { result ≡ packed_as (profile_of profile) 1 x }
+    ensures { result.0 ≡ packed_as (profile_of profile) 1 x }
 {
     if (0x20 <= x) & (x <= 0x7E) {
-        return 1 + NARROW;
+        return Scalar::new(1, Class::Other, 1);
     }
     if x == 0x0D {
-        return 1;
+        return Scalar::new(1, Class::Cr, 0);
     }
     if x == 0x0A {
-        return 1 + NEW_LINE;
+        return Scalar::new(1, Class::Lf, 0);
     }
-    1 + OTHER_CONTROL
+    Scalar::new(1, Class::Control, 0)
 }
 
-fn pack_two(profile: Profile, x: u32) -> usize
-    ensures { result ≡ packed_as (profile_of profile) 2 x }
+fn pack_two(profile: Profile, x: u32) -> Scalar
+    ensures { result.0 ≡ packed_as (profile_of profile) 2 x }
 {
     if (0xA0 <= x) & (x <= 0x2FF) {
-        return 2 + NARROW;
+        return Scalar::new(2, Class::Other, 1);
     }
     if (0x370 <= x) & (x <= 0x482) {
-        return 2 + NARROW;
+        return Scalar::new(2, Class::Other, 1);
     }
     if (0x300 <= x) & (x <= 0x36F) {
-        return 2 + MARK;
+        return Scalar::new(2, Class::Extend, 0);
     }
     pack(profile, 2, x)
 }
 
-fn pack_three(profile: Profile, x: u32) -> usize
-    ensures { result ≡ packed_as (profile_of profile) 3 x }
+fn pack_three(profile: Profile, x: u32) -> Scalar
+    ensures { result.0 ≡ packed_as (profile_of profile) 3 x }
 {
     if (0x3041 <= x) & (x <= 0xA4CF) {
-        return 3 + WIDE;
+        return Scalar::new(3, Class::Other, 2);
     }
     if (0xAC00 <= x) & (x <= 0xD7A3) {
         if (x - 0xAC00) % 28 == 0 {
-            return 3 + SYLLABLE_LV;
+            return Scalar::new(3, Class::Lv, 2);
         }
-        return 3 + SYLLABLE_LVT;
+        return Scalar::new(3, Class::Lvt, 2);
     }
     if (0x1100 <= x) & (x <= 0x115F) {
-        return 3 + JAMO_L;
+        return Scalar::new(3, Class::L, 2);
     }
     if (0x1160 <= x) & (x <= 0x11A7) {
-        return 3 + JAMO_V;
+        return Scalar::new(3, Class::V, 0);
     }
     if (0x11A8 <= x) & (x <= 0x11FF) {
-        return 3 + JAMO_T;
+        return Scalar::new(3, Class::T, 0);
     }
     pack(profile, 3, x)
 }
 
-fn pack_four(profile: Profile, x: u32) -> usize
-    ensures { result ≡ packed_as (profile_of profile) 4 x }
+fn pack_four(profile: Profile, x: u32) -> Scalar
+    ensures { result.0 ≡ packed_as (profile_of profile) 4 x }
 {
     if (0x1F1E6 <= x) & (x <= 0x1F1FF) {
-        return 4 + INDICATOR;
+        return Scalar::new(4, Class::RegionalIndicator, 1);
     }
     if in_pictographs(x) {
-        return 4 + PICTURE;
+        return Scalar::new(4, Class::ExtendedPictographic, 2);
     }
     if (0x1F650 <= x) & (x <= 0x1F8FF) {
-        return 4 + NARROW;
+        return Scalar::new(4, Class::Other, 1);
     }
     pack(profile, 4, x)
 }
 
-// The scalar at a place, packed; 0 where none begins.
-pub fn scalar_at(profile: Profile, s: &[u8], at: usize) -> usize
+// The scalar at a place, where one begins there.
+pub fn scalar_at(profile: Profile, s: &[u8], at: usize) -> Option<Scalar>
     requires { at < length s.now }
-    ensures { result ≡ packed_at (profile_of profile) s.now at }
+    ensures { result ≡ scalar_here (profile_of profile) s.now at }
 {
     let a = s[at] as u32;
     if a <= 0x7F {
-        return pack_one(profile, a);
+        return Some(pack_one(profile, a));
     }
     let b = byte_at(s, at + 1);
-    if is_tail(b) {
-        if a <= 0xDF {
-            let x = two_bytes(a, b);
-            if x == 0 {
-                return 0;
-            }
-            return pack_two(profile, x);
-        }
-        let c = byte_at(s, at + 2);
-        if is_tail(c) {
-            if a <= 0xEF {
-                let x = three_bytes(a, b, c);
-                if x == 0 {
-                    return 0;
-                }
-                return pack_three(profile, x);
-            }
-            let x = four_bytes(a, b, c, byte_at(s, at + 3));
-            if x == 0 {
-                return 0;
-            }
-            return pack_four(profile, x);
-        }
-        return 0;
+    if !is_tail(b) {
+        return None;
     }
-    0
+    if a <= 0xDF {
+        let x = two_bytes(a, b)?;
+        return Some(pack_two(profile, x));
+    }
+    let c = byte_at(s, at + 2);
+    if !is_tail(c) {
+        return None;
+    }
+    if a <= 0xEF {
+        let x = three_bytes(a, b, c)?;
+        return Some(pack_three(profile, x));
+    }
+    let x = four_bytes(a, b, c, byte_at(s, at + 3))?;
+    Some(pack_four(profile, x))
 }

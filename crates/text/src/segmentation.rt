@@ -1,4 +1,4 @@
-// Forward segmentation into grapheme clusters (UAX #29): the cluster at a place, with its width and the scalar behind it.
+// Forward segmentation into grapheme clusters (UAX #29): the cluster at a place, with its width and the scalar after it.
 ghost use Rattle.std.specs.Prelude.{◌≡◌, ◌+◌, ◌<◌, length};
 ghost use Rattle.text.specs.Cluster.{clusters};
 ghost use Rattle.text.specs.Segmentation.{first_of, first_size, NextCluster, NextClusterReady, never_joins_before, one_byte_cluster};
@@ -6,65 +6,76 @@ ghost use Rattle.text.specs.Class.Code.{profile_of};
 ghost use Rattle.text.specs.TextParts.{text_at, Measured};
 
 use super::class::{Profile, is_printable};
-use super::rules::{continues_cluster, state_after};
-use super::scalar::{NARROW, scalar_at};
+use super::rules::Before;
+use super::scalar::{Scalar, scalar_at};
 use super::utf8::byte_at;
 use super::{BytePlace, Column, TextPart};
 
-// A cluster, and the scalar behind it, packed.
+// A cluster, and the scalar after it.
 #[derive(Clone, Copy)]
 pub struct ClusterStep {
     pub part: TextPart,
-    pub next: usize,
+    pub next: Option<Scalar>,
 }
 
 // The cluster that begins at a place with the scalar u, scalar by scalar.
-fn walk_cluster(profile: Profile, s: &[u8], at: usize, u: usize) -> ClusterStep
+fn walk_cluster(profile: Profile, s: &[u8], at: usize, u: Option<Scalar>) -> ClusterStep
     requires { NextClusterReady (profile_of profile) s.now at u }
     ensures { NextCluster (profile_of profile) s.now at result }
 {
-    let mut p = at + u % 8;
-    let mut w = u / 128;
-    let mut state = (u / 8 % 16) as u8;
+    let Some(first) = u else {
+        return ClusterStep {
+            part: TextPart {
+                end: BytePlace(at),
+                width: Column(0),
+            },
+            next: None,
+        };
+    };
+    let mut p = at + first.len();
+    let mut w = first.width();
+    let mut before = Before::Scalar(first.class());
     while p < s.len() {
-        let v = scalar_at(profile, s, p);
-        let c = (v / 8 % 16) as u8;
-        if continues_cluster(state, c) {
-            state = state_after(state, c);
-            p += v % 8;
-            w += v / 128;
-        } else {
-            return ClusterStep {
-                part: TextPart {
-                    end: BytePlace(p),
-                    width: Column(w),
-                },
-                next: v,
-            };
+        let next = scalar_at(profile, s, p);
+        let part = TextPart {
+            end: BytePlace(p),
+            width: Column(w),
+        };
+        let Some(v) = next else {
+            return ClusterStep { part, next };
+        };
+        let c = v.class();
+        if !before.joins(c) {
+            return ClusterStep { part, next };
         }
+        before = before.and(c);
+        p += v.len();
+        w += v.width();
     }
     ClusterStep {
         part: TextPart {
             end: BytePlace(p),
             width: Column(w),
         },
-        next: 0,
+        next: None,
     }
 }
 
 // The same, a printable byte before another told first. To walk through a text, hand `next` on: each scalar is decoded once.
-pub fn next_cluster(profile: Profile, s: &[u8], at: BytePlace, u: usize) -> ClusterStep
+pub fn next_cluster(profile: Profile, s: &[u8], at: BytePlace, u: Option<Scalar>) -> ClusterStep
     requires { NextClusterReady (profile_of profile) s.now at.0 u }
     ensures { NextCluster (profile_of profile) s.now at.0 result }
 {
-    if (u == 1 + NARROW) & is_printable(byte_at(s, at.0 + 1)) {
-        return ClusterStep {
-            part: TextPart {
-                end: BytePlace(at.0 + 1),
-                width: Column(1),
-            },
-            next: u,
-        };
+    if let Some(first) = u {
+        if first.is_printable() & is_printable(byte_at(s, at.0 + 1)) {
+            return ClusterStep {
+                part: TextPart {
+                    end: BytePlace(at.0 + 1),
+                    width: Column(1),
+                },
+                next: u,
+            };
+        }
     }
     walk_cluster(profile, s, at.0, u)
 }
@@ -82,8 +93,7 @@ pub fn cluster(profile: Profile, text: &[u8], at: BytePlace) -> TextPart
             };
         }
     }
-    let step = walk_cluster(profile, text, at.0, scalar_at(profile, text, at.0));
-    step.part
+    walk_cluster(profile, text, at.0, scalar_at(profile, text, at.0)).part
 }
 
 // Is the byte at a place a cluster by itself: a control below 20, CR apart, or a byte below 80 before another or the end?
@@ -117,14 +127,14 @@ pub fn cluster_end(profile: Profile, s: &[u8], at: usize) -> usize
         return at + 1;
     }
     let u = scalar_at(profile, s, at);
-    let p = at + u % 8;
+    let Some(first) = u else {
+        return at;
+    };
+    let p = at + first.len();
     if never_joins_before(byte_at(s, p)) {
         return p;
     }
-    let step = walk_cluster(profile, s, at, u);
-    let part = step.part;
-    let end = part.end;
-    end.0
+    walk_cluster(profile, s, at, u).part.end.0
 }
 
 // The same for any place: the next boundary, which is the place where a damaged byte or nothing stands there.

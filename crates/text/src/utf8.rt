@@ -3,7 +3,7 @@ ghost use Rattle.std.specs.Prelude.{◌≡◌, ◌+◌, ◌<◌, ◌≤◌, leng
 ghost use Rattle.text.specs.Utf8.{decode};
 ghost use Rattle.text.specs.Utf8.Code.{ascii_four, ascii_length, first_sequence, four_bytes, is_tail, run_of, sequence_for, size, three_bytes, two_bytes};
 
-// A well-formed sequence: its scalar and the number of its bytes. Where none begins the length is 0.
+// A well-formed sequence: its scalar and the number of its bytes.
 #[derive(Clone, Copy)]
 pub struct Sequence {
     pub code: u32,
@@ -24,89 +24,87 @@ pub(crate) fn is_tail(b: u32) -> bool
     (0x80 <= b) & (b <= 0xBF)
 }
 
-// The scalar of two bytes, the first of which is below E0 and the second continues a sequence: Unicode, Table 3-6. 0 where they are none.
-pub(crate) fn two_bytes(a: u32, b: u32) -> u32
+// The scalar of two bytes, the first of which is below E0 and the second continues a sequence: Unicode, Table 3-6.
+pub(crate) fn two_bytes(a: u32, b: u32) -> Option<u32>
     ensures { result ≡ two_bytes a b }
 {
     if 0xC2 <= a {
-        return a % 32 * 64 + b % 64;
+        return Some(a % 32 * 64 + b % 64);
     }
-    0
+    None
 }
 
 // The scalar of three bytes, the first of which is E0 to EF and the others continue a sequence.
-pub(crate) fn three_bytes(a: u32, b: u32, c: u32) -> u32
+pub(crate) fn three_bytes(a: u32, b: u32, c: u32) -> Option<u32>
     ensures { result ≡ three_bytes a b c }
 {
     let x = (a % 16 * 64 + b % 64) * 64 + c % 64;
     if (0x800 <= x) & ((x < 0xD800) | (0xDFFF < x)) {
-        return x;
+        return Some(x);
     }
-    0
+    None
 }
 
 // The scalar of four bytes, the first of which is F0 or above and the next two continue a sequence.
-pub(crate) fn four_bytes(a: u32, b: u32, c: u32, d: u32) -> u32
+pub(crate) fn four_bytes(a: u32, b: u32, c: u32, d: u32) -> Option<u32>
     ensures { result ≡ four_bytes a b c d }
 {
     let x = ((a % 8 * 64 + b % 64) * 64 + c % 64) * 64 + d % 64;
     if ((a <= 0xF4) & is_tail(d)) & ((0x10000 <= x) & (x <= 0x10FFFF)) {
-        return x;
+        return Some(x);
     }
-    0
+    None
 }
 
-// The sequence of so many bytes that stands for the scalar x; none where that is 0.
-fn sequence_of(x: u32, len: usize) -> Sequence
-    ensures { result ≡ sequence_for x len }
+// The sequence of so many bytes for a scalar.
+#[tactic(auto, unfolding(crate::specs::Utf8::Code::sequence_for))]
+fn sequence_of(code: Option<u32>, len: usize) -> Option<Sequence>
+    ensures { result ≡ sequence_for code len }
 {
-    if x == 0 {
-        return Sequence { code: 0, len: 0 };
-    }
-    Sequence { code: x, len: len }
+    Some(Sequence { code: code?, len })
 }
 
 // The sequence at a byte above 7F.
-fn decode_long(s: &[u8], at: usize) -> Sequence
+fn decode_long(s: &[u8], at: usize) -> Option<Sequence>
     requires { (at < length s.now) × (0x7F < get_or s.now at 0) }
     ensures { result ≡ first_sequence (decode (drop at s.now)) }
 {
     let a = s[at] as u32;
     let b = byte_at(s, at + 1);
-    if is_tail(b) {
-        if a <= 0xDF {
-            return sequence_of(two_bytes(a, b), 2);
-        }
-        let c = byte_at(s, at + 2);
-        if is_tail(c) {
-            if a <= 0xEF {
-                return sequence_of(three_bytes(a, b, c), 3);
-            }
-            return sequence_of(four_bytes(a, b, c, byte_at(s, at + 3)), 4);
-        }
-        return Sequence { code: 0, len: 0 };
+    if !is_tail(b) {
+        return None;
     }
-    Sequence { code: 0, len: 0 }
+    if a <= 0xDF {
+        return sequence_of(two_bytes(a, b), 2);
+    }
+    let c = byte_at(s, at + 2);
+    if !is_tail(c) {
+        return None;
+    }
+    if a <= 0xEF {
+        return sequence_of(three_bytes(a, b, c), 3);
+    }
+    sequence_of(four_bytes(a, b, c, byte_at(s, at + 3)), 4)
 }
 
-// The sequence at a place.
-pub fn decode(s: &[u8], at: usize) -> Sequence
+// The sequence at a place, where the bytes there are one.
+pub fn decode(s: &[u8], at: usize) -> Option<Sequence>
     requires { at < length s.now }
     ensures { result ≡ first_sequence (decode (drop at s.now)) }
 {
     let a = s[at] as u32;
     if a <= 0x7F {
-        return Sequence { code: a, len: 1 };
+        return Some(Sequence { code: a, len: 1 });
     }
     decode_long(s, at)
 }
 
 // The sequence that the bytes begin with.
-pub fn first_sequence(s: &[u8]) -> Sequence
+pub fn first_sequence(s: &[u8]) -> Option<Sequence>
     ensures { result ≡ first_sequence (decode s.now) }
 {
-    if s.len() == 0 {
-        return Sequence { code: 0, len: 0 };
+    if s.is_empty() {
+        return None;
     }
     decode(s, 0)
 }
@@ -148,10 +146,9 @@ pub fn run_end(s: &[u8], at: usize) -> usize
 {
     let mut p = ascii_end(s, at);
     while p < s.len() {
-        let u = decode_long(s, p);
-        if u.len == 0 {
+        let Some(u) = decode_long(s, p) else {
             return p;
-        }
+        };
         p = ascii_end(s, p + u.len);
     }
     p

@@ -4,7 +4,7 @@ ghost use Rattle.text.specs.Class.{number, among, in_any, cr, lf, control, exten
 ghost use Rattle.text.specs.Width.{wides};
 ghost use Rattle.text.specs.Class.Code.{profile_of};
 
-use super::class::{CONTROL, CR, EXTEND, LF, Profile, T, V, ZWJ, class, is_printable};
+use super::class::{Class, Profile, class_of, is_printable};
 
 fn in_wides(x: u32) -> bool
     ensures { result ≡ in_any wides x }
@@ -28,9 +28,10 @@ fn in_wides(x: u32) -> bool
 fn has_no_width(profile: Profile, x: u32) -> bool
     ensures { result ≡ among (number ((profile_of profile).class x)) (cr ∷ lf ∷ control ∷ extend ∷ zwj ∷ class_v ∷ class_t ∷ []) }
 {
-    let c = class(profile, x);
-    (c == CR)
-        | ((c == LF) | ((c == CONTROL) | ((c == EXTEND) | ((c == ZWJ) | ((c == V) | (c == T))))))
+    matches!(
+        class_of(profile, x),
+        Class::Cr | Class::Lf | Class::Control | Class::Extend | Class::Zwj | Class::V | Class::T
+    )
 }
 
 // The width of a scalar.

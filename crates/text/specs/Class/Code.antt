@@ -3,6 +3,8 @@ use Rattle.std.specs.Prelude.{◌%◌, ◌-◌, ℕ, Bool, ◌&&◌, cond, eqb, 
 use Rattle.text.specs.Class.{Class, Profile, class_l, class_lv, class_lvt, class_t, class_v}
 use Rattle.text.specs.Width.{profile01}
 use Rattle.text.specs.declared.class.Profile as code
+use Rattle.text.specs.declared.class.Class as declared
+use Rattle.text.specs.declared.class.Class.TheVariants as variant
 
 -- document 01's profile, whatever the version: other versions join it as cases
 unfoldable pub profile_of : code.Profile → Profile
@@ -19,3 +21,19 @@ jamo v = cond (leb v 0x115F) class_l (cond (leb v 0x11A7) class_v class_t)
 -- 20 to 7E
 abbrev pub printable : ℕ → Bool
 printable v = leb 0x20 v && leb v 0x7E
+
+-- the number of a class that the code holds
+abbrev pub class_number : declared.Class → ℕ
+class_number variant.Cr = 0
+class_number variant.Lf = 1
+class_number variant.Control = 2
+class_number variant.Extend = 3
+class_number variant.Zwj = 4
+class_number variant.L = 5
+class_number variant.V = 6
+class_number variant.T = 7
+class_number variant.Lv = 8
+class_number variant.Lvt = 9
+class_number variant.RegionalIndicator = 10
+class_number variant.Other = 11
+class_number variant.ExtendedPictographic = 12

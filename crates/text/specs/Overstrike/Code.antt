@@ -1,5 +1,5 @@
 -- What the values of overstrike's code say of the definition's ones: the result so far is a valid text at the front of a buffer.
-use Rattle.std.specs.Prelude.{◌*◌, ◌+◌, ◌-◌, ◌<◌, ◌≤◌, ℕ, Bool, ◌&&◌, ◌||◌, cond, false, not, List, ◌++◌, ◌≢◌, ◌≡◌, eqb, drop, length, take}
+use Rattle.std.specs.Prelude.{◌*◌, ◌+◌, ◌-◌, ◌<◌, ◌≤◌, ℕ, Bool, cond, false, List, ◌++◌, ◌≡◌, drop, length, take}
 use Rattle.std.proofs.Math.Seq.{slice}
 use Rattle.text.specs.Backward.{KnownPlace, backward}
 use Rattle.text.specs.Class.{Profile}
@@ -9,6 +9,9 @@ use Rattle.text.specs.Overstrike.Length.{weight}
 use Rattle.text.specs.Utf8.{Scalar, asciis, bytes_of, decode, runs}
 use Rattle.text.specs.declared.backward.Erasure.{Erasure}
 use Rattle.text.specs.declared.overstrike.Conversion.{Conversion}
+use Rattle.text.specs.declared.overstrike.LinePart.{LinePart}
+use Rattle.text.specs.declared.overstrike.Pending as code
+use Rattle.text.specs.declared.overstrike.Pending.TheVariants.{Nothing, Held, Struck}
 use Rattle.text.specs.declared.overstrike.Overstrike.{Overstrike}
 use Rattle.text.specs.declared.overstrike.Progress.{Progress}
 
@@ -36,10 +39,6 @@ style_of o = cond o.bold (cond o.underline bold_underline bold) (cond o.underlin
 abbrev pub order_of : Overstrike → Overstrike → List ℕ
 order_of b s = order (style_of b) (style_of s)
 
--- they differ
-abbrev pub changed_style : Overstrike → Overstrike → Bool
-changed_style b s = ((b.bold && not s.bold) || (not b.bold && s.bold)) || ((b.underline && not s.underline) || (not b.underline && s.underline))
-
 -- the part of a line from a to e is valid text
 pub record Part (line : List ℕ) (a e : ℕ) : Type 0 where
   pub ordered : a ≤ e
@@ -50,24 +49,35 @@ pub record Part (line : List ℕ) (a e : ℕ) : Type 0 where
 abbrev pub part_of : List ℕ → ℕ → ℕ → List Scalar
 part_of line a e = run_of (decode (slice a e line))
 
--- the pending cluster, a part of the line: 0 none, 1 held, else struck
-unfoldable pub pending_of : List ℕ → ℕ → ℕ → ℕ → Pending
-pending_of line n a e = cond (eqb n 0) none (cond (eqb n 1) (held (part_of line a e)) (struck (part_of line a e)))
+-- the pending cluster
+unfoldable pub pending_of : List ℕ → code.Pending → Pending
+pending_of line Nothing = none
+pending_of line (Held p) = held (part_of line p.at p.end)
+pending_of line (Struck p) = struck (part_of line p.at p.end)
+
+-- its part of the line
+unfoldable pub span_of : code.Pending → LinePart
+span_of Nothing = record { at = 0; end = 0 }
+span_of (Held p) = p
+span_of (Struck p) = p
 
 -- the definition's state, of the line, the buffer and the code's state
 unfoldable pub state_of : List ℕ → List ℕ → Conversion → State
-state_of line l st = state (backward (take st.len l)) (pending_of line st.pending st.at st.end) (style_of st.before) (style_of st.style)
+state_of line l st = state (backward (take st.len l)) (pending_of line st.pending) (style_of st.before) (style_of st.style)
 
-abbrev pub conversion : ℕ → ℕ → ℕ → ℕ → Overstrike → Overstrike → ℕ → Conversion
-conversion n p a e b s v = record { len = n; pending = p; at = a; end = e; before = b; style = s; known = v }
+abbrev pub conversion : ℕ → code.Pending → Overstrike → Overstrike → ℕ → Conversion
+conversion n q b s v = record { len = n; pending = q; before = b; style = s; known = v }
 
 abbrev pub plain : Overstrike
 plain = record { bold = false; underline = false }
 
+abbrev pub PendingPart : List ℕ → code.Pending → Type 0
+PendingPart line q = Part line (span_of q).at (span_of q).end
+
 pub record Sound (P : Profile) (line l : List ℕ) (st : Conversion) : Type 0 where
   pub inside : st.len ≤ length l
   pub valid : whole (take st.len l)
-  pub part : Part line st.at st.end
+  pub part : PendingPart line st.pending
   pub known : KnownPlace P (take st.len l) st.known
 
 -- the code's state stands for the state t
@@ -86,8 +96,8 @@ unfoldable pub finish_on : Profile → State → List Scalar
 finish_on P t = finish P t.out t.pending t.before t.style
 
 -- the order and the pending cluster behind the result so far
-unfoldable pub pushed_on : List ℕ → List ℕ → Conversion → List Scalar
-pushed_on line l st = push (part_of line st.at st.end) (push (asciis (order_of st.before st.style)) (backward (take st.len l)))
+unfoldable pub pushed_on : List ℕ → List ℕ → Conversion → LinePart → List Scalar
+pushed_on line l st p = push (part_of line p.at p.end) (push (asciis (order_of st.before st.style)) (backward (take st.len l)))
 
 -- what a backspace needs
 pub record BackReady (P : Profile) (l : List ℕ) (len i : ℕ) : Type 0 where
@@ -97,16 +107,16 @@ pub record BackReady (P : Profile) (l : List ℕ) (len i : ℕ) : Type 0 where
 
 -- for any line: a backspace takes the state st with the buffer l to the state r with the buffer l'
 abbrev pub BackspaceStep : Profile → List ℕ → List ℕ → Conversion → Conversion → Type 0
-BackspaceStep P l l' st r = (line : List ℕ) → Part line st.at st.end → Stepped P line l' r (backspace_on P (state_of line l st))
+BackspaceStep P l l' st r = (line : List ℕ) → PendingPart line st.pending → Stepped P line l' r (backspace_on P (state_of line l st))
 
--- for any profile and buffer: the cluster from a to e over the struck one takes the state st to the state r
-abbrev pub StruckStep : List ℕ → Conversion → ℕ → ℕ → Conversion → Type 0
-StruckStep line st a e r = (P : Profile) (l : List ℕ) → Sound P line l st → Stepped P line l r (cluster_on P (state_of line l st) (part_of line a e))
+-- for any profile and buffer: the cluster c over the struck one takes the state st to the state r
+abbrev pub StruckStep : List ℕ → Conversion → LinePart → Conversion → Type 0
+StruckStep line st c r = (P : Profile) (l : List ℕ) → Sound P line l st → Stepped P line l r (cluster_on P (state_of line l st) (part_of line c.at c.end))
 
--- what a step on the cluster from a to e needs: the weight bounds what the machine may still write
-pub record StepReady (P : Profile) (line l : List ℕ) (st : Conversion) (a e : ℕ) : Type 0 where
+-- what a step on the cluster c needs: the weight bounds what the machine may still write
+pub record StepReady (P : Profile) (line l : List ℕ) (st : Conversion) (c : LinePart) : Type 0 where
   pub sound : Sound P line l st
-  pub upper : Part line a e
+  pub upper : Part line c.at c.end
   pub room : weight (state_of line l st) < length l
 
 -- what the run's end needs
@@ -120,11 +130,10 @@ abbrev pub Finished : List ℕ → List ℕ → List ℕ → Conversion → ℕ 
 Finished line l l' st r = (P : Profile) → Front l' r (finish_on P (state_of line l st))
 
 -- the two clusters of a strike
-pub record Strike (line : List ℕ) (st : Conversion) (a e : ℕ) : Type 0 where
-  pub not_none : st.pending ≢ 0
-  pub not_held : st.pending ≢ 1
-  pub under : Part line st.at st.end
-  pub upper : Part line a e
+pub record Strike (line : List ℕ) (st : Conversion) (u c : LinePart) : Type 0 where
+  pub struck : st.pending ≡ Struck u
+  pub under : Part line u.at u.end
+  pub upper : Part line c.at c.end
 
 -- the front of a buffer is this text
 pub record Wrote (l : List ℕ) (r : ℕ) (xs : List ℕ) : Type 0 where

@@ -3,15 +3,17 @@ use Rattle.std.specs.Prelude.{◌%◌, ◌*◌, ◌+◌, ◌/◌, ◌<◌, ◌�
 use Rattle.std.proofs.Common.{arith, inl, inr, ⊎_elim, ◌∙◌, ap, sym, leb→le, drop_of_length-le, length-take-le}
 use Rattle.std.proofs.Math.Path.{refl}
 use Rattle.std.proofs.Math.ListN.{length}
-use borrow.Author.Tests.{eqb-false, eqb-true, ltb-false, ltb-true}
+use borrow.Author.Tests.{eqb-false, eqb-true, ltb-false, ltb-true, ne_eqb}
 use Rattle.text.specs.Class.{Profile, number}
 use Rattle.text.specs.Class.Laws.{number_le}
 use Rattle.text.specs.Cluster.{class_of, clusters}
 use Rattle.text.specs.Cluster.Laws.{clusters_first}
 use Rattle.text.specs.Segmentation.{first_of}
-use Rattle.text.specs.Utf8.Code.{first_sequence, size}
+use Rattle.text.specs.Utf8.Code.{sequence_or_zero, size}
 use Rattle.text.specs.Utf8.Code.Laws.{ScalarAt, none_at, none_past, scalar_at_law}
-use Rattle.text.specs.Scalar.{packed_at}
+use Rattle.std.specs.Prelude.{Option, None, Some, is_some, false}
+use Rattle.text.specs.Scalar.{as_scalar, number_in, packed_at, scalar as as_number, scalar_here}
+use Rattle.text.specs.declared.scalar.Scalar as code
 use Rattle.text.specs.Tests.{and_T, cases}
 use Rattle.text.specs.TextParts.{text_at}
 use Rattle.text.specs.Utf8.{Range, Scalar, decode, decode_from, fits, length_in, scalar, sequence, table}
@@ -35,19 +37,19 @@ in_short (r ∷ rs) s t =
     let q = and_T (leb (length r) 4) (short rs) t in
     cases (fits r s) (λ e. rw e (leb→le _ _ q.0)) (λ e. rw e (in_short rs s q.1))
 
-first_len : (b : ℕ) (s : List ℕ) (n : ℕ) → sequence (b ∷ s) ≡ n → (first_sequence (decode (b ∷ s))).len ≡ n
-unfolding first_sequence scalar
+first_len : (b : ℕ) (s : List ℕ) (n : ℕ) → sequence (b ∷ s) ≡ n → (sequence_or_zero (decode (b ∷ s))).len ≡ n
+unfolding sequence_or_zero scalar
 first_len b s zero e = rw (decode_bad b s e) refl
 first_len b s (suc n) e = rw (decode_good b s n e) (length-take-le (suc n) (b ∷ s) (rw e at (sequence_le (b ∷ s))))
 
-len_le : (s : List ℕ) → (first_sequence (decode s)).len ≤ 4
-unfolding first_sequence decode decode_from sequence
+len_le : (s : List ℕ) → (sequence_or_zero (decode s)).len ≤ 4
+unfolding sequence_or_zero decode decode_from sequence
 len_le [] = omega arith
 len_le (b ∷ s) = rw (first_len b s (sequence (b ∷ s)) refl) (in_short table (b ∷ s) short_table)
 
 module _ (P : Profile) (s : List ℕ) (p : ℕ) where
   pub packed_past : length s ≤ p → packed_at P s p ≡ 0
-  unfolding packed_at decode decode_from first_sequence
+  unfolding packed_at decode decode_from sequence_or_zero
   packed_past h = rw (drop_of_length-le s h) refl
 
   module _ (u : ℕ) (read : u ≡ packed_at P s p) where
@@ -61,19 +63,19 @@ module _ (P : Profile) (s : List ℕ) (p : ℕ) where
         cases (ltb p (length s))
         (λ e.
         let h : p < length s = ltb-true p (length s) e in
-        cases (eqb (first_sequence (decode (drop p s))).len 0)
-        (λ n. none_at s p (first_sequence (decode (drop p s))) h refl (eqb-true _ 0 n))
+        cases (eqb (sequence_or_zero (decode (drop p s))).len 0)
+        (λ n. none_at s p (sequence_or_zero (decode (drop p s))) h refl (eqb-true _ 0 n))
         (λ n.
-        let a = scalar_at_law s p (first_sequence (decode (drop p s))) h refl (eqb-false _ 0 n) in
+        let a = scalar_at_law s p (sequence_or_zero (decode (drop p s))) h refl (eqb-false _ 0 n) in
         absurd (omega (arith, z, a.some, rw n at read))))
         (λ e. none_past s p (ltb-false p (length s) e))
 
-    pub packed_some : (u ≢ 0) → ScalarAt s p (first_sequence (decode (drop p s)))
+    pub packed_some : (u ≢ 0) → ScalarAt s p (sequence_or_zero (decode (drop p s)))
     unfolding packed_at
     packed_some z =
-        cases (eqb (first_sequence (decode (drop p s))).len 0)
+        cases (eqb (sequence_or_zero (decode (drop p s))).len 0)
         (λ n. absurd (z (rw n at read)))
-        (λ n. scalar_at_law s p (first_sequence (decode (drop p s))) (packed_inside z) refl (eqb-false _ 0 n))
+        (λ n. scalar_at_law s p (sequence_or_zero (decode (drop p s))) (packed_inside z) refl (eqb-false _ 0 n))
 
     pub first_some : (u ≢ 0) → 1 ≤ size (first_of (clusters P (text_at s p)))
     unfolding first_of size
@@ -100,7 +102,7 @@ rest_of k w g = omega (arith, g)
 pub packed_view : (P : Profile) (s : List ℕ) (p v : ℕ) → p < length s → v ≡ packed_at P s p → NoScalar s p v ⊎ PackedScalar P s p v
 unfolding packed_at
 packed_view P s p v here read =
-    let q : Sequence = first_sequence (decode (drop p s)) in
+    let q : Sequence = sequence_or_zero (decode (drop p s)) in
     let k : ℕ = number (P.class q.code) in
     let w : ℕ = P.width q.code in
     let h : q.len ≤ 4 = len_le (drop p s) in
@@ -126,3 +128,71 @@ packed_view P s p v here read =
 
 pub packed_scalar : (P : Profile) (s : List ℕ) (p v : ℕ) → v ≡ packed_at P s p → (v ≢ 0) → PackedScalar P s p v
 packed_scalar P s p v read z = ⊎_elim (λ (n : NoScalar s p v). absurd (z n.zero)) (λ (x : PackedScalar P s p v). x) (packed_view P s p v (packed_inside P s p v read z) read)
+
+-- ---- as the code holds it
+
+as_some : (n : ℕ) (r : Option code.Scalar) (v : code.Scalar) → r ≡ as_scalar n → r ≡ Some v → (v.0 ≡ n) × (v.0 ≢ 0)
+unfolding as_scalar
+as_some n r v read e =
+    cases (eqb n 0)
+    (λ z. let f : r ≡ None = rw z at read in absurd (apart f))
+    (λ z. let f : r ≡ Some (as_number n) = rw z at read in let g : v ≡ as_number n = cc in (ap (λ (x : code.Scalar). x.0) g, rw g (eqb-false n 0 z)))
+  where
+    apart : r ≡ None → ⊥
+    apart f = cc (e, f)
+
+as_none : (n : ℕ) (r : Option code.Scalar) → r ≡ as_scalar n → r ≡ None → n ≡ 0
+unfolding as_scalar
+as_none n r read e =
+    cases (eqb n 0)
+    (λ z. eqb-true n 0 z)
+    (λ z. let f : r ≡ Some (as_number n) = rw z at read in absurd (apart f))
+  where
+    apart : r ≡ Some (as_number n) → ⊥
+    apart f = cc (e, f)
+
+module _ (P : Profile) (s : List ℕ) (p : ℕ) where
+  -- what was read is what stands there
+  pub scalar_is : (v : code.Scalar) → v.0 ≡ packed_at P s p → (v.0 ≢ 0) → Some v ≡ scalar_here P s p
+  unfolding scalar_here as_scalar
+  scalar_is v e z = rw (← e, ne_eqb v.0 0 z) refl
+
+  pub nothing_is : 0 ≡ packed_at P s p → None ≡ scalar_here P s p
+  unfolding scalar_here as_scalar
+  nothing_is e = rw (← e) refl
+
+  pub past_is : length s ≤ p → None ≡ scalar_here P s p
+  past_is h = nothing_is (sym (packed_past P s p h))
+
+  module _ (r : Option code.Scalar) (read : r ≡ scalar_here P s p) where
+    pub some_here : (v : code.Scalar) → r ≡ Some v → (v.0 ≡ packed_at P s p) × (v.0 ≢ 0)
+    unfolding scalar_here
+    some_here v e = as_some (packed_at P s p) r v read e
+
+    pub none_here : r ≡ None → packed_at P s p ≡ 0
+    unfolding scalar_here
+    none_here e = as_none (packed_at P s p) r read e
+
+    pub none_text : r ≡ None → text_at s p ≡ []
+    none_text e = packed_none P s p 0 (sym (none_here e)) refl
+
+    pub number_here : number_in r ≡ packed_at P s p
+    unfolding number_in scalar_here as_scalar
+    number_here = rw read (cases (eqb (packed_at P s p) 0) (λ z. rw z (sym (eqb-true _ 0 z))) (λ z. rw z refl))
+
+    pub packed_here : (v : code.Scalar) → r ≡ Some v → PackedScalar P s p v.0
+    packed_here v e = let h = some_here v e in packed_scalar P s p v.0 h.0 h.1
+
+    -- what `Scalar::class` asks for
+    pub class_known : (v : code.Scalar) → r ≡ Some v → v.0 / 8 % 16 ≤ 12
+    class_known v e = let x = packed_here v e in rw (← x.class) (number_le (P.class x.c.code))
+
+-- ---- a walk that goes on while a scalar stands there
+
+pub no_scalar : (u : Option code.Scalar) → is_some u ≡ false → u ≡ None
+no_scalar None z = refl
+no_scalar (Some v) z = cc
+
+pub scalar_there : (P : Profile) (s : List ℕ) (p : ℕ) (u : Option code.Scalar) → u ≡ scalar_here P s p → is_some u ≡ true → (packed_at P s p ≢ 0)
+scalar_there P s p None e z = cc
+scalar_there P s p (Some v) e z = let h = some_here P s p (Some v) e v refl in λ y. h.1 (h.0 ∙ y)

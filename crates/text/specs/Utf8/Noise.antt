@@ -1,13 +1,7 @@
 -- Noise bytes: ranges in which none lies, texts that hold none, and lines that differ only in which they hold.
-use Rattle.std.specs.Prelude.{◌≡◌, refl, ℕ, zero, suc, ◌≤◌, ◌<◌, Bool, true, false, cond, ◌&&◌, ◌||◌, List, [], ◌∷◌, ◌++◌, length, take, replicate, T, leb, ltb, eqb}
-use Rattle.std.proofs.Common.{sym, ap, ap₂, ◌∙◌, subst, arith, leb→le, ltb→lt, eqb→eq}
-use Rattle.std.proofs.Math.Seq.{take-length}
-use Rattle.text.specs.Tests.{and_T, or_T, is_false, true_T, cases}
-use Rattle.text.specs.Each.{Each, nil, cons, All, all_nil, all_cons, all_append}
-use Rattle.text.specs.Utf8.{Range, within, table, fits, length_in, sequence, decoded_as, decode_from, decode, Decoded, well_formed, ill_formed, scalar, Scalar, Piece, run, damaged, add_to_run, runs, bytes_of, noise, all_noise, noises_of}
-use Rattle.text.specs.Utf8.Laws.{decode_bad}
-use Rattle.text.specs.Utf8.Separation.{decode_apart}
-use Rattle.text.specs.Utf8.Valid.{Valid, valid_sequence}
+use Rattle.std.specs.Prelude.{◌≡◌, ℕ, Bool, true, false, ◌&&◌, ◌||◌, List, [], ◌∷◌, T, leb, ltb}
+use Rattle.text.specs.Each.{Each}
+use Rattle.text.specs.Utf8.{Range, table, Decoded, ill_formed, Piece, damaged, noise}
 
 unfoldable pub clean : Range → Bool
 clean r = ◌||◌ (ltb r.high 0xC0) (◌&&◌ (leb 0xC2 r.low) (ltb r.high 0xF5))

@@ -1,21 +1,18 @@
-use Rattle.std.proofs.Common.{rules}
-use Rattle.text.proofs.CellLoops.{counted_begin, counted_inside, counted_most, counted_turn, counted_end}
+use native.Mathlib.Omega.{arith}
+use Rattle.text.proofs.CellLoops.{counted_begin, counted_end, counted_most, counted_past, counted_turn}
 use Rattle.text.proofs.cells.written_len.Goals as goal
 
-pub loop-n-init : goal.loop-n-init
-loop-n-init c = search counted_begin
-
-pub bounds-cells-i : goal.bounds-cells-i
-bounds-cells-i c = search counted_inside
+pub loop-left-init : goal.loop-left-init
+loop-left-init c = search counted_begin
 
 pub overflow_add-n : goal.overflow_add-n
-overflow_add-n c = let h = counted_most _ _ _ c.before.before.before.loop-n.invariant c.before.before.loop-n-test.true _ c.overstruck_len-n.ensures in search rules
+overflow_add-n c = omega (arith, counted_most _ _ _ c.loop-left.invariant c.in-len2-up.len_at_least _ c.overstruck_len-n.ensures)
 
-pub loop-n-smaller : goal.loop-n-smaller
-loop-n-smaller c = let h = counted_inside _ _ _ c.before.before.before.loop-n.invariant c.before.before.loop-n-test.true in search rules
+pub returns-then-n-gt4096 : goal.returns-then-n-gt4096
+returns-then-n-gt4096 c = counted_past _ _ _ c.loop-left.invariant c.in-len2-up.len_at_least _ c.overstruck_len-n.ensures c.if-n-gt4096.true
 
-pub loop-n-preserved : goal.loop-n-preserved
-loop-n-preserved c = search counted_turn
+pub loop-left-preserved : goal.loop-left-preserved
+loop-left-preserved c = counted_turn _ _ _ c.loop-left.invariant c.in-len2-up.len_at_least _ c.overstruck_len-n.ensures c.if-n-gt4096.false
 
 pub returns : goal.returns
-returns c = search counted_end
+returns c = counted_end _ _ _ c.loop-left.invariant c.in_default.len_below

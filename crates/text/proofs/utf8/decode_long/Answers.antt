@@ -1,21 +1,21 @@
 use native.Mathlib.Omega.{arith}
-use Rattle.text.proofs.LeadBytes.{four_at, no_second, no_third, three_at, two_at}
+use Rattle.text.proofs.LeadBytes.{four_first, none_second, none_third, three_first, two_first}
 use Rattle.text.proofs.utf8.decode_long.Goals as goal
 
 pub overflow_cast-a : goal.overflow_cast-a
 overflow_cast-a c = omega (arith, c.type_inv.s c.args.at)
 
+pub returns-then-not-is_tail : goal.returns-then-not-is_tail
+returns-then-not-is_tail c = search none_second
+
 pub returns-then-a-le223 : goal.returns-then-a-le223
-returns-then-a-le223 c = search two_at
+returns-then-a-le223 c = search two_first
+
+pub returns-then-not-is_tail-2 : goal.returns-then-not-is_tail-2
+returns-then-not-is_tail-2 c = search none_third
 
 pub returns-then-a-le239 : goal.returns-then-a-le239
-returns-then-a-le239 c = search three_at
-
-pub returns-then-is_tail-2 : goal.returns-then-is_tail-2
-returns-then-is_tail-2 c = search four_at
-
-pub returns-then-is_tail : goal.returns-then-is_tail
-returns-then-is_tail c = search no_third
+returns-then-a-le239 c = search three_first
 
 pub returns : goal.returns
-returns c = search no_second
+returns c = search four_first

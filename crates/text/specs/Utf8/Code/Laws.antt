@@ -1,5 +1,5 @@
 -- The run that a text begins with, cut in two between scalars.
-use Rattle.std.specs.Prelude.{◌≡◌, refl, ◌≢◌, ℕ, ◌+◌, ◌≤◌, ◌<◌, take, drop}
+use Rattle.std.specs.Prelude.{◌≡◌, refl, ◌≢◌, ℕ, ◌+◌, ◌≤◌, ◌<◌, Option, None, Some, Bool, true, false, not, eqb, take, drop}
 use Rattle.std.proofs.Math.Path.{sym, ap}
 use Rattle.std.proofs.Common.{ap₂, ◌∙◌, arith, length-append, drop_of_length-le}
 use Rattle.std.proofs.Math.Nat.{add-zero}
@@ -12,7 +12,10 @@ use Rattle.text.specs.Utf8.Laws.{bytes_of_append, decoded_bytes, decoded_bytes_d
 use Rattle.text.specs.Utf8.Valid.{Valid, ValidDecoded, decode_valid, decode_text, run_text}
 use Rattle.text.specs.Cluster.Walk.{size_is}
 use Rattle.text.specs.declared.utf8.Sequence.{Sequence}
-use Rattle.text.specs.Utf8.Code.{first_sequence, run_of, sequence_of, size, whole}
+use Rattle.text.specs.Utf8.Code.{first_sequence, given, sequence_or_zero, run_of, sequence_of, size, whole}
+use Rattle.std.specs.Option.{is_some}
+use Rattle.text.specs.Tests.{cases}
+use borrow.Author.Tests.{eqb-false, eqb-true}
 
 pub size_nil : size [] ≡ 0
 unfolding size
@@ -105,9 +108,9 @@ pub record ScalarAt (s : List ℕ) (p : ℕ) (u : Sequence) : Type 0 where
   pub some : 1 ≤ u.len
   pub fits : p + u.len ≤ length s
 
-module _ (s : List ℕ) (p : ℕ) (u : Sequence) (here : p < length s) (read : u ≡ first_sequence (decode (drop p s))) where
+module _ (s : List ℕ) (p : ℕ) (u : Sequence) (here : p < length s) (read : u ≡ sequence_or_zero (decode (drop p s))) where
   scalar_by : (ds : List Decoded) → decode (drop p s) ≡ ds → (u.len ≢ 0) → ScalarAt s p u
-  unfolding first_sequence run_of size
+  unfolding sequence_or_zero run_of size
   scalar_by [] e z = absurd (z (ap (λ (x : Sequence). x.len) (rw e at read)))
   scalar_by (ill_formed b ∷ ds) e z = absurd (z (ap (λ (x : Sequence). x.len) (rw e at read)))
   scalar_by (well_formed c ∷ ds) e z =
@@ -128,7 +131,7 @@ module _ (s : List ℕ) (p : ℕ) (u : Sequence) (here : p < length s) (read : u
   scalar_at_law z = scalar_by (decode (drop p s)) refl z
 
   none_by : (ds : List Decoded) → decode (drop p s) ≡ ds → u.len ≡ 0 → (run_of (decode (drop p s)) ≡ []) × (u.code ≡ 0)
-  unfolding first_sequence run_of
+  unfolding sequence_or_zero run_of
   none_by [] e z = (ap run_of e, ap (λ (x : Sequence). x.code) (rw e at read))
   none_by (ill_formed b ∷ ds) e z = (ap run_of e, ap (λ (x : Sequence). x.code) (rw e at read))
   none_by (well_formed c ∷ ds) e z =
@@ -138,9 +141,61 @@ module _ (s : List ℕ) (p : ℕ) (u : Sequence) (here : p < length s) (read : u
       lone : {x : List Scalar} → All Valid (c ∷ x) → u.len ≡ length c.bytes → ⊥
       lone (all_cons h a) q = omega (arith, h.some)
 
+  pub no_code : u.len ≡ 0 → u.code ≡ 0
+  no_code z = (none_by (decode (drop p s)) refl z).1
+
   -- a damaged byte
   pub none_at : u.len ≡ 0 → run_of (decode (drop p s)) ≡ []
   none_at z = (none_by (decode (drop p s)) refl z).0
+
+-- ---- the first sequence, or none
+
+module _ (q u : Sequence) (r : Option Sequence) (read : r ≡ given q) where
+  pub given_some : r ≡ Some u → (u ≡ q) × (u.len ≢ 0)
+  unfolding given
+  given_some e =
+      cases (eqb q.len 0)
+      (λ z. let f : r ≡ None = rw z at read in absurd (apart f))
+      (λ z. let f : r ≡ Some q = rw z at read in let g : u ≡ q = cc in (g, rw g (eqb-false q.len 0 z)))
+    where
+      apart : r ≡ None → ⊥
+      apart f = cc (e, f)
+
+module _ (q : Sequence) (r : Option Sequence) (read : r ≡ given q) where
+  pub given_none : r ≡ None → q.len ≡ 0
+  unfolding given
+  given_none e =
+      cases (eqb q.len 0)
+      (λ z. eqb-true q.len 0 z)
+      (λ z. let f : r ≡ Some q = rw z at read in absurd (apart f))
+    where
+      apart : r ≡ Some q → ⊥
+      apart f = cc (e, f)
+
+-- as `is_none` tells them
+pub none_of : (r : Option Sequence) (b : Bool) → is_some r ≡ not b → b ≡ true → r ≡ None
+none_of None b e t = refl
+none_of (Some u) b e t = absurd (apart (rw t at e))
+  where
+    apart : true ≡ false → ⊥
+    apart f = cc
+
+pub given_len : (q : Sequence) (r : Option Sequence) (b : Bool) → r ≡ given q → is_some r ≡ not b → b ≡ false → (q.len ≢ 0)
+unfolding given
+given_len q r b e n t z = apart (rw (e, z, t) at n)
+  where
+    apart : false ≡ true → ⊥
+    apart f = cc
+
+-- the same by what was decoded
+module _ (s : List ℕ) (p : ℕ) (here : p < length s) (r : Option Sequence) (read : r ≡ first_sequence (decode (drop p s))) where
+  pub some_at : (u : Sequence) → r ≡ Some u → ScalarAt s p u
+  unfolding first_sequence
+  some_at u e = let g = given_some (sequence_or_zero (decode (drop p s))) u r read e in scalar_at_law s p u here g.0 g.1
+
+  pub nothing_at : r ≡ None → run_of (decode (drop p s)) ≡ []
+  unfolding first_sequence
+  nothing_at e = none_at s p (sequence_or_zero (decode (drop p s))) here refl (given_none (sequence_or_zero (decode (drop p s))) r read e)
 
 pub run_nil : run_of (decode []) ≡ []
 unfolding run_of decode decode_from
