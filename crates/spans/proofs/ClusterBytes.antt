@@ -22,12 +22,13 @@ use Rattle.text.specs.Utf8.Ascii.{ascii_run}
 use Rattle.text.specs.Utf8.Runs.{run_fits}
 use Rattle.text.specs.declared.class.Profile as code
 use Rattle.spans.specs.Sequence.{sgr, erase_to_end, ignored, hyperlink, line_drawing, Found, found, missing, parse}
-use Rattle.spans.specs.Spans.{control, unprintable, tab, crlf, lf, ClusterKind, plain, special, escape_kind, control_kind, cluster_kind, kind_of}
+use Rattle.spans.specs.Spans.{control, unprintable, tab, crlf, lf, ClusterKind, plain, special, escape_kind, control_kind, cluster_kind}
+use Rattle.spans.specs.Spans.Kinds.{content_kind}
 use Rattle.spans.specs.Spans.FirstSpan.{is_plain, escape_special, plain_cluster, plain_same}
 use Rattle.spans.specs.Sequence.Contracts.{sequence_of}
 use Rattle.spans.specs.Reader.{a_head, escape_head, head_bytes}
+use Rattle.spans.specs.declared.kind.SpanKind.TheVariants as kind
 use Rattle.spans.specs.declared.reader.SpanHead.{SpanHead}
-use Rattle.spans.specs.declared.sequence.Sequence as sequence
 
 no_one : (n : ℕ) → eqb (suc (suc n)) 1 ≡ false
 no_one n = ne_eqb (suc (suc n)) 1 (λ e. omega arith)
@@ -85,15 +86,15 @@ kind_plain g n a y w f =
 -- ---- the span
 
 unfoldable pub kind_head : ClusterKind → SpanHead
-kind_head plain = a_head 0 0
-kind_head (special c k) = a_head (kind_of c) k
+kind_head plain = a_head kind.Text 0
+kind_head (special c k) = a_head (content_kind c) k
 
-last_head : (g : List Scalar) (n w : ℕ) → is_plain (last_kind g n w) ≡ false → kind_head (last_kind g n w) ≡ a_head 5 n
-unfolding is_plain last_kind kind_head kind_of
+last_head : (g : List Scalar) (n w : ℕ) → is_plain (last_kind g n w) ≡ false → kind_head (last_kind g n w) ≡ a_head kind.Unprintable n
+unfolding is_plain last_kind kind_head content_kind
 last_head g n w = cases (eqb w 0) (λ e. rw e (λ f. refl)) (λ e. rw e (λ f. absurd (let z : ◌≡◌ {A = ℕ} 0 1 = cc in omega arith)))
 
 escape_head_law : (f : Found) → kind_head (escape_kind f) ≡ escape_head (sequence_of f)
-unfolding kind_head escape_kind escape_head sequence_of kind_of
+unfolding kind_head escape_kind escape_head sequence_of content_kind
 escape_head_law (found (sgr os) n) = refl
 escape_head_law (found erase_to_end n) = refl
 escape_head_law (found ignored n) = refl
@@ -102,7 +103,7 @@ escape_head_law (found (line_drawing b) n) = refl
 escape_head_law missing = refl
 
 kind_head_law : (g : List Scalar) (n a y w : ℕ) (f : Found) → is_plain (kind_by g n a y w f) ≡ false → kind_head (kind_by g n a y w f) ≡ head_bytes n a y f
-unfolding kind_by head_bytes kind_head kind_of
+unfolding kind_by head_bytes kind_head content_kind
 kind_head_law g n a y w f =
     cases (eqb n 1)
     (λ p.
@@ -114,7 +115,7 @@ kind_head_law g n a y w f =
     (λ u. rw (p, x, z, u) (λ h. refl))
     (λ u. cases (leb a 0x1F || eqb a 0x7F)
     (λ v. rw (p, x, z, u, v) (λ h. refl))
-    (λ v. rw (p, x, z, u, v) (λ h. last_head g n w h ∙ ap (a_head 5) (eqb-true n 1 p)))))))
+    (λ v. rw (p, x, z, u, v) (λ h. last_head g n w h ∙ ap (a_head kind.Unprintable) (eqb-true n 1 p)))))))
     (λ p. cases (eqb n 2 && (eqb a 0x0D && eqb y 0x0A))
     (λ x. rw (p, x) (λ h. refl))
     (λ x. rw (p, x) (λ h. last_head g n w h)))
@@ -189,15 +190,12 @@ module _ (p : code.Profile) (s : List ℕ) (g : List Scalar) (gs : List (List Sc
 
 -- ---- the head of a span, by branches
 
-pub on_sequence : (q x : sequence.Sequence) (z : SpanHead) → q ≡ x → z ≡ escape_head x → z ≡ escape_head q
-on_sequence q x z e f = rw e f
-
 -- the same chain as `head_bytes`, where no sequence begins at an ESC
 unfoldable pub head_of : ℕ → ℕ → ℕ → SpanHead
 head_of n a b =
     cond (eqb n 1)
-    (cond (eqb a 0x0A) (a_head 12 1) (cond (eqb a 0x09) (a_head 10 1) (cond (leb a 0x1F || eqb a 0x7F) (a_head 3 1) (a_head 5 1))))
-    (cond (eqb n 2 && (eqb a 0x0D && eqb b 0x0A)) (a_head 11 2) (a_head 5 n))
+    (cond (eqb a 0x0A) (a_head kind.Lf 1) (cond (eqb a 0x09) (a_head kind.Tab 1) (cond (leb a 0x1F || eqb a 0x7F) (a_head kind.Control 1) (a_head kind.Unprintable 1))))
+    (cond (eqb n 2 && (eqb a 0x0D && eqb b 0x0A)) (a_head kind.CrLf 2) (a_head kind.Unprintable n))
 
 heads_same : (n a b : ℕ) → head_of n a b ≡ head_bytes n a b missing
 unfolding head_of head_bytes escape_head sequence_of
@@ -205,7 +203,3 @@ heads_same n a b = cases (eqb a 0x1B) (λ e. rw (eqb-true a 0x1B e)) (λ e. rw e
 
 pub head_is : (n a b x y : ℕ) (z : SpanHead) → a ≡ x → b ≡ y → z ≡ head_of n a b → z ≡ head_bytes n x y missing
 head_is n a b x y z e q p = p ∙ heads_same n a b ∙ rw (e, q)
-
--- one byte says enough
-pub head_one : (n a x y : ℕ) (z : SpanHead) → a ≡ x → z ≡ head_of n a y → z ≡ head_bytes n x y missing
-head_one n a x y z e p = head_is n a y x y z e refl p

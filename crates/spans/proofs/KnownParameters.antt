@@ -1,60 +1,17 @@
 -- What the known parameters say.
 use mathlib.Core.Path.{◌≡◌, refl, sym}
-use Prim.Native.Nat.{ℕ, ◌+◌, ◌-◌, ◌≤◌, ◌<◌}
+use Prim.Native.Nat.{ℕ, ◌≤◌, ◌<◌}
 use native.Mathlib.Omega.{arith}
 use mathlib.Core.Bool.{Bool, true, false, ◌&&◌}
 use mathlib.Core.List.{List, [], ◌∷◌}
 use lib.Dec.{T, leb, ltb, ltb→lt}
 use borrow.Author.Tests.{lt-leb, leb-true}
-use Rattle.text.specs.Tests.{cases, and_T, is_true, true_T}
+use Rattle.text.specs.Tests.{cases, and_T}
 use Rattle.text.specs.Utf8.{to, within}
-use Rattle.spans.specs.Sgr.{Known, known, meaning_of, coloured, meaning_after}
+use Rattle.spans.specs.Sgr.{Known, known, meaning_of}
 use Rattle.spans.specs.Sgr.Contracts.{eights}
-use Rattle.spans.specs.declared.sgr.Color.{Color}
-use Rattle.spans.specs.declared.sgr.Color.TheVariants.{Palette}
-use Rattle.spans.specs.declared.sgr.Sgr.{Sgr}
-use Rattle.spans.specs.declared.sgr.Sgr.TheVariants.{Foreground, Background}
-use Rattle.spans.specs.declared.sgr.Target.{Target}
-use Rattle.spans.specs.declared.sgr.ColorState.{ColorState}
 use Rattle.spans.specs.declared.sgr.Meaning.{Meaning}
-use Rattle.spans.specs.declared.sgr.Meaning.TheVariants.{Order, Unknown}
-
--- a value that a match has told apart
-pub on_target : (t x : Target) (c : Color) (z : Sgr) → t ≡ x → z ≡ coloured x c → z ≡ coloured t c
-on_target t x c z e p = rw e p
-
-pub on_wait : (w x : ColorState) (p : ℕ) (z : Meaning) → w ≡ x → z ≡ meaning_after x p → z ≡ meaning_after w p
-on_wait w x p z e q = rw e q
-
-pub on_parameter : (p k : ℕ) (z : Meaning) → p ≡ k → z ≡ meaning_of known k → z ≡ meaning_of known p
-on_parameter p k z e q = rw e q
-
--- ---- the sixteen colours
-
-pub in_row : (a b p : ℕ) → (leb a p && leb p b) ≡ true → (a ≤ p) × (p ≤ b)
-in_row a b p h = let w = and_T (leb a p) (leb p b) (true_T h) in (leb-true a p (is_true _ w.0), leb-true p b (is_true _ w.1))
-
-module _ (p x : ℕ) where
-  pub foreground : (leb 30 p && leb p 37) ≡ true → x ≡ p - 30 → Order (Foreground (Palette x)) ≡ meaning_of eights p
-  unfolding meaning_of eights
-  foreground h e = rw (h, e)
-
-  pub background : (leb 30 p && leb p 37) ≡ false → (leb 40 p && leb p 47) ≡ true → x ≡ p - 40 → Order (Background (Palette x)) ≡ meaning_of eights p
-  unfolding meaning_of eights
-  background h i e = rw (h, i, e)
-
-  pub bright_foreground : (leb 30 p && leb p 37) ≡ false → (leb 40 p && leb p 47) ≡ false → (leb 90 p && leb p 97) ≡ true → x ≡ p - 82 → Order (Foreground (Palette x)) ≡ meaning_of eights p
-  unfolding meaning_of eights
-  bright_foreground h i j e = let k : x ≡ 8 + (p - 90) = omega (arith, (in_row 90 97 p j).0) in rw (h, i, j, k)
-
-  pub bright_background : (leb 30 p && leb p 37) ≡ false → (leb 40 p && leb p 47) ≡ false → (leb 90 p && leb p 97) ≡ false → (leb 100 p && leb p 107) ≡ true → x ≡ p - 92
-      → Order (Background (Palette x)) ≡ meaning_of eights p
-  unfolding meaning_of eights
-  bright_background h i j k e = let l : x ≡ 8 + (p - 100) = omega (arith, (in_row 100 107 p k).0) in rw (h, i, j, k, l)
-
-pub no_colour : (p : ℕ) → (leb 30 p && leb p 37) ≡ false → (leb 40 p && leb p 47) ≡ false → (leb 90 p && leb p 97) ≡ false → (leb 100 p && leb p 107) ≡ false → Unknown ≡ meaning_of eights p
-unfolding meaning_of eights
-no_colour p h i j k = rw (h, i, j, k)
+use Rattle.spans.specs.declared.sgr.Meaning.TheVariants.{Unknown}
 
 -- ---- no other row
 

@@ -4,21 +4,24 @@ use mathlib.Core.Logic.{◌≢◌}
 use Prim.Native.Nat.{ℕ, suc, ◌+◌, ◌-◌, ◌*◌, ◌%◌, ◌≤◌, ◌<◌}
 use native.Mathlib.Numerals.{add-one}
 use native.Mathlib.Omega.{arith}
-use native.Mathlib.Nat.{zero-add, add-zero}
-use mathlib.Core.Bool.{Bool, true, false, cond, ◌&&◌, true≢false}
+use native.Mathlib.Nat.{zero-add}
+use mathlib.Core.Bool.{Bool, true, false, cond, ◌&&◌}
 use mathlib.Core.List.{List, [], ◌∷◌, map}
 use lib.ListN.{length, drop, get_or, drop_of_length-le, length-drop, length-map}
-use lib.Seq.{drop-cons, get_or-drop}
+use lib.Seq.{drop-cons, take-length}
 use lib.Dec.{eqb, leb, ltb, leb→le}
 use borrow.Author.Tests.{eq-eqb, ne_eqb, le-leb, lt-leb, leb-true, leb-false}
+use Rattle.std.specs.Prelude.{Option, Some, None, MatchOption, fold, take, ⊤}
+use Rattle.std.specs.List.{prefix_len}
+use Rattle.std.specs.Iterator.{MakesProgress, item_count}
+use lib.Pointwise.{pointwise}
+use Rattle.std.proofs.lemmas.Slice.Eq.{strip_prefix_is}
+use Rattle.std.proofs.lemmas.Bool.Decides.{Decides-eqb}
+use denote.Ref.{Bor}
 use Rattle.text.specs.Tests.{cases, and_T, true_T}
-use Rattle.text.specs.Places.{behind_byte}
 use Rattle.spans.specs.Sgr.{digit, parameters, all_at_most, allowed, meaning_after, follow, orders_from, orders}
 use Rattle.spans.specs.Sequence.{leading, parameter_byte}
-use Rattle.spans.specs.Sgr.Contracts.{more, numbers, Scanned, parameters_at, orders_at, orders_of, onward, next_from, next_order, NextOrderAt}
-use Rattle.spans.specs.declared.sgr.Orders.{Orders}
-use Rattle.spans.specs.declared.sgr.NextOrder.{NextOrder}
-use Rattle.spans.specs.declared.sgr.NextOrder.TheVariants.{Order, End}
+use Rattle.spans.specs.Sgr.Contracts.{more, numbers, Scanned, numbers_of_rest}
 use Rattle.spans.specs.declared.sgr.Sgr.{Sgr}
 use Rattle.spans.specs.declared.sgr.Meaning.{Meaning}
 use Rattle.spans.specs.declared.sgr.Meaning.TheVariants as step
@@ -222,131 +225,65 @@ module _ (s : List ℕ) (i count v : ℕ) (f : Bool) (z : Scanning s i count f v
   pub scan_stops : (d : Bool) → i < length s → d ≡ digit (get_or s i 0) → d ≡ false → (get_or s i 0 ≡ 0x3B → ⊥) → Scanned s (record { len = i; fine = (f && leb v 65535) && ltb count 32 })
   scan_stops d h p q n = let t : digit (get_or s i 0) ≡ false = sym p ∙ q in scanned (bytes_stop s i h t n) (numbers_stop s i v h t n)
 
--- ---- the next order
+-- ---- one after the other
 
-after : (s : List ℕ) (i x : ℕ) (l : List ℕ) → drop i s ≡ x ∷ l → drop (i + 1) s ≡ l
-after s i x l p = ap (λ (n : ℕ). drop n s) (add-one i) ∙ behind_byte i s x l p
+-- what an iterator gives that has one item fewer left
+pub progress : {S A : Type 0} (rest : S → List A) (s t : S) (x : A) → rest s ≡ x ∷ rest t → MakesProgress (λ (s : S). ⊤) (item_count rest) s (Some x) t
+progress rest s t x e = record { on = λ h. (tt, tt, omega (arith, ap length e)); keeps = tt; rests = λ h. tt }
 
-module _ (s : List ℕ) (i b : ℕ) (e : b ≡ get_or s i 0) where
-  first : (l : List ℕ) → drop i s ≡ l → b ≡ get_or l 0 0
-  first l p = e ∙ ap (λ (n : ℕ). get_or s n 0) (sym (add-zero i)) ∙ sym (get_or-drop i s 0 0) ∙ ap (λ (m : List ℕ). get_or m 0 0) p
+here : (v b : ℕ) (s : List ℕ) (r : Option (Bor (List ℕ))) → MatchOption r ((rest : List ℕ) → b ∷ s ≢ 0x3B ∷ rest) (λ x. b ∷ s ≡ 0x3B ∷ x.now) → cond (eqb b 0x3B) (v ∷ numbers 0 s) (v ∷ []) ≡ v ∷ numbers_of_rest r
+here v b s None h = rw (ne_eqb b 0x3B (λ e. h s (rw e refl))) refl
+here v b s (Some x) h =
+    let e : b ≡ 0x3B = ap (λ (l : List ℕ). get_or l 0 0) h in
+    let f : s ≡ x.now = ap (λ (l : List ℕ). drop 1 l) h in
+    rw (e, f) refl
 
-  inside : (l : List ℕ) → drop i s ≡ l → (b ≢ 0) → i < length s
-  inside [] p z = absurd (z (first [] p))
-  inside (x ∷ l) p z = omega (arith, length-drop i s, ap length p)
+pub one_more : (n : ℕ) → 1 + n ≡ suc n
+one_more n = omega arith
 
-  pub digit_inside : digit b ≡ true → i < length s
-  digit_inside d = inside (drop i s) refl (λ z. true≢false (sym d ∙ ap digit z))
-
-  pub separator_inside : eqb b 0x3B ≡ true → i < length s
-  separator_inside d = inside (drop i s) refl (λ z. true≢false (sym d ∙ ap (λ (n : ℕ). eqb n 0x3B) z))
-
-  module _ (w : ColorState) (v : ℕ) where
-    one_more : (l : List ℕ) → drop i s ≡ l → digit b ≡ true → next_from w v i l ≡ next_from w (more v b) (i + 1) (drop (i + 1) s)
-    unfolding next_from
-    one_more [] p d = absurd (true≢false (sym d ∙ ap digit (first [] p)))
-    one_more (x ∷ l) p d = let q : x ≡ b = sym (first (x ∷ l) p) in rw (q, d, after s i x l p) refl
-
-    -- a parameter ends here, at a `;` where f
-    ended : (l : List ℕ) → drop i s ≡ l → digit b ≡ false → (f : Bool) → f ≡ eqb b 0x3B → (j : ℕ) → j ≡ cond f (i + 1) i
-        → next_from w v i l ≡ onward (meaning_after w v) (record { at = j; further = f }) (λ x. cond f (next_from x 0 j (drop j s)) End)
-    unfolding next_from
-    ended [] p d f q j r = let k : f ≡ false = q ∙ ap (λ (n : ℕ). eqb n 0x3B) (first [] p) in rw (r, k) refl
-    ended (x ∷ l) p d true q j r = let y : x ≡ b = sym (first (x ∷ l) p) in rw (y, d, ← q, r, after s i x l p) refl
-    ended (x ∷ l) p d false q j r = let y : x ≡ b = sym (first (x ∷ l) p) in rw (y, d, ← q, r) refl
-
--- ---- the orders that it gives
-
-last_orders : (s : List ℕ) (i : ℕ) (t : Meaning) → orders_of s (onward t (record { at = i; further = false }) (λ x. End)) ≡ follow t (λ x. orders_from x [])
-unfolding onward follow orders_of orders_at parameters_at orders orders_from
-last_orders s i (step.Order o) = refl
-last_orders s i (step.Group w) = refl
-last_orders s i step.Unknown = refl
-
-more_orders : (s : List ℕ) (i : ℕ) (l : List ℕ) (t : Meaning) → drop i s ≡ l → ((x : ColorState) → orders_of s (next_from x 0 i l) ≡ orders_from x (numbers 0 l))
-    → orders_of s (onward t (record { at = i; further = true }) (λ x. next_from x 0 i l)) ≡ follow t (λ x. orders_from x (numbers 0 l))
-unfolding onward follow orders_of orders_at parameters_at orders
-more_orders s i l (step.Order o) p ih = ap (λ (os : List Sgr). o ∷ os) (ap (λ (m : List ℕ). orders_from Ready (parameters 0 m)) p ∙ sym (orders_same Ready l))
-more_orders s i l (step.Group w) p ih = ih w
-more_orders s i l step.Unknown p ih = refl
-
-from_orders : (s l : List ℕ) → (w : ColorState) (v i : ℕ) → drop i s ≡ l → orders_of s (next_from w v i l) ≡ orders_from w (numbers v l)
-unfolding next_from numbers orders_from
-from_orders s [] = λ w v i p. last_orders s i (meaning_after w v)
-from_orders s (b ∷ l) = λ w v i p.
-    let t : drop (i + 1) s ≡ l = after s i b l p in
+-- a number is what the digits in front write; another follows where a `;` stands after them
+next_number : (s : List ℕ) (v : ℕ) (r : Option (Bor (List ℕ))) (d : List ℕ) → d ≡ drop (prefix_len digit s) s → MatchOption r ((rest : List ℕ) → d ≢ 0x3B ∷ rest) (λ x. d ≡ 0x3B ∷ x.now)
+    → numbers v s ≡ fold more v (take (prefix_len digit s) s) ∷ numbers_of_rest r
+unfolding numbers
+next_number [] v None d e h = refl
+next_number [] v (Some x) d e h = absurd (let z : length d ≡ 0 = ap length e in omega (arith, z, ap length h))
+next_number (b ∷ s) v r d e h =
     cases (digit b)
-    (λ d. rw d (from_orders s l w (more v b) (i + 1) t))
-    (λ d. cases (eqb b 0x3B)
-    (λ n. rw (d, n) (more_orders s (i + 1) l (meaning_after w v) t (λ x. from_orders s l x 0 (i + 1) t)))
-    (λ n. rw (d, n) (last_orders s i (meaning_after w v))))
+    (λ y. rw (y, one_more (prefix_len digit s)) (next_number s (more v b) r d (rw (y, one_more (prefix_len digit s)) at e) h))
+    (λ y. let f : d ≡ b ∷ s = rw y at e in rw y (here v b s r (rw f at h)))
 
-at_orders : (s : List ℕ) (i : ℕ) (further : Bool) → orders_of s (cond further (next_from Ready 0 i (drop i s)) End) ≡ orders_from Ready (cond further (parameters 0 (drop i s)) [])
-unfolding orders_of orders_from
-at_orders s i true = from_orders s (drop i s) Ready 0 i refl ∙ orders_same Ready (drop i s)
-at_orders s i false = refl
+pub after_digits : (s : List ℕ) (n x : ℕ) (r : Option (Bor (List ℕ))) → n ≡ prefix_len digit s → x ≡ fold more 0 (take n s)
+    → MatchOption r (pointwise eqb (take 1 (take (length s - n) (drop n s))) (0x3B ∷ []) ≡ false)
+    (λ y. (pointwise eqb (take 1 (take (length s - n) (drop n s))) (0x3B ∷ []) ≡ true) × (y.now ≡ drop 1 (take (length s - n) (drop n s))) × (length y.now + 1 ≡ length (take (length s - n) (drop n s))))
+    → numbers 0 s ≡ x ∷ numbers_of_rest r
+after_digits s n x r e f h =
+    let k = strip_prefix_is Decides-eqb (take (length s - n) (drop n s)) (0x3B ∷ []) r h in
+    let g : take (length s - n) (drop n s) ≡ drop n s = ap (λ (k : ℕ). take k (drop n s)) (sym (length-drop n s)) ∙ take-length (drop n s) in
+    rw f (rw e (next_number s 0 r (drop n s) (rw e) (rw g at k)))
 
-pub next_order_at : (s : List ℕ) (c : Orders) (r : NextOrder) → r ≡ next_order s c → NextOrderAt s c r
-unfolding next_order orders_at orders parameters_at
-next_order_at s c r e = record { orders = rw e (at_orders s c.at c.further); exact = e }
+pub orders_at_law : (s t : List ℕ) → t ≡ s → orders_from Ready (numbers 0 t) ≡ orders (parameters 0 s)
+unfolding orders
+orders_at_law s t e = rw e (orders_same Ready s)
 
--- ---- the loops
+-- what the next number says
+module _ (w : ColorState) (ms : List ℕ) (os : List Sgr) (i : orders_from w ms ≡ os) where
+  pub given_none : ms ≡ [] → os ≡ []
+  unfolding orders_from
+  given_none e = sym i ∙ rw e refl
 
--- the reading before a parameter at i, if there is one: no order was found yet
-pub record Reading (s : List ℕ) (c : Orders) (i : ℕ) (further : Bool) (w : ColorState) (next : NextOrder) : Type 0 where
-  pub todo : cond further (next_from w 0 i (drop i s)) End ≡ next_order s c
-  pub none : next ≡ End
+  module _ (p : ℕ) (ns : List ℕ) (e : ms ≡ p ∷ ns) (t : Meaning) (f : t ≡ meaning_after w p) where
+    said : os ≡ follow t (λ x. orders_from x ns)
+    unfolding orders_from
+    said = sym i ∙ rw (e, f) refl
 
--- inside a parameter that begins at i₀
-pub record Digits (s : List ℕ) (w : ColorState) (i₀ v₀ i v : ℕ) : Type 0 where
-  pub same : next_from w v i (drop i s) ≡ next_from w v₀ i₀ (drop i₀ s)
-  pub up : i₀ ≤ i
+    pub given_order : (o : Sgr) → t ≡ step.Order o → os ≡ o ∷ orders_from Ready ns
+    unfolding follow
+    given_order o q = rw q at said
 
--- a bound that falls from parameter to parameter
-abbrev pub room : List ℕ → Bool → ℕ → ℕ
-room s further i = cond further (suc (length s - i)) 0
+    pub given_group : (x : ColorState) → t ≡ step.Group x → orders_from x ns ≡ os
+    unfolding follow
+    given_group x q = sym (rw q at said)
 
-pub reading_begins : (s : List ℕ) (c : Orders) → Reading s c c.at c.further Ready End
-unfolding next_order
-reading_begins s c = record { todo = refl; none = refl }
-
-pub digits_begin : (s : List ℕ) (w : ColorState) (i v : ℕ) → Digits s w i v i v
-digits_begin s w i v = record { same = refl; up = omega arith }
-
-module _ (s : List ℕ) (i b : ℕ) (d : Bool) (e : b ≡ get_or s i 0) (p : d ≡ digit b) (q : d ≡ true) where
-  pub digit_here : i < length s
-  digit_here = digit_inside s i b e (sym p ∙ q)
-
-  pub digits_fall : length s - (i + 1) < length s - i
-  digits_fall = omega (arith, digit_here)
-
-  pub digits_more : (w : ColorState) (i₀ v₀ v u : ℕ) → Digits s w i₀ v₀ i v → u ≡ more v b → Digits s w i₀ v₀ (i + 1) u
-  digits_more w i₀ v₀ v u z r = record { same = rw r (sym (one_more s i b e w v (drop i s) refl (sym p ∙ q)) ∙ z.same); up = omega (arith, z.up) }
-
-module _ (s : List ℕ) (i b : ℕ) (d : Bool) (e : b ≡ get_or s i 0) (f : Bool) (g : f ≡ eqb b 0x3B) where
-  module _ (j : ℕ) (r : j ≡ cond f (i + 1) i) (i₀ v : ℕ) (w : ColorState) (z : Digits s w i₀ 0 i v) where
-    pub reading_falls : (further : Bool) → further ≡ true → room s f j < room s further i₀
-    reading_falls further h = rw h (falls f g j r)
-      where
-        falls : (f : Bool) → f ≡ eqb b 0x3B → (j : ℕ) → j ≡ cond f (i + 1) i → room s f j < suc (length s - i₀)
-        falls true g j r = omega (arith, separator_inside s i b e (sym g), z.up)
-        falls false g j r = omega arith
-
-    module _ (c : Orders) (further : Bool) (next : NextOrder) (k : Reading s c i₀ further w next) (h : further ≡ true) (p : d ≡ digit b) (q : d ≡ false) (t : Meaning) (m : t ≡ meaning_after w v) where
-      said : onward t (record { at = j; further = f }) (λ x. cond f (next_from x 0 j (drop j s)) End) ≡ next_order s c
-      said = rw m (sym (ended s i b e w v (drop i s) refl (sym p ∙ q) f g j r) ∙ z.same ∙ (rw h at k.todo))
-
-      pub reading_more : (x : ColorState) → t ≡ step.Group x → Reading s c j f x next
-      unfolding onward
-      reading_more x l = record { todo = rw l at said; none = k.none }
-
-      pub reading_order : (o : Sgr) → t ≡ step.Order o → NextOrderAt s c (Order o (record { at = j; further = f }))
-      unfolding onward
-      reading_order o l = next_order_at s c (Order o (record { at = j; further = f })) (rw l at said)
-
-      pub reading_stops : t ≡ step.Unknown → NextOrderAt s c next
-      unfolding onward
-      reading_stops l = next_order_at s c next (k.none ∙ (rw l at said))
-
-pub reading_ends : (s : List ℕ) (c : Orders) (i : ℕ) (further : Bool) (w : ColorState) (next : NextOrder) → Reading s c i further w next → further ≡ false → NextOrderAt s c next
-reading_ends s c i further w next k f = next_order_at s c next (k.none ∙ (rw f at k.todo))
+    pub given_unknown : t ≡ step.Unknown → os ≡ []
+    unfolding follow
+    given_unknown q = rw q at said

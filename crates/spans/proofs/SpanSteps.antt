@@ -1,5 +1,6 @@
 -- The next span of a segment, kind by kind.
 use mathlib.Core.Path.{◌≡◌, refl, sym, ap, ap₂, ◌∙◌}
+use Rattle.std.specs.Prelude.{Option, Some, None}
 use Prim.Native.Nat.{ℕ, suc, ◌+◌, ◌-◌, ◌≤◌, ◌<◌}
 use native.Mathlib.Nat.{add-zero}
 use native.Mathlib.Numerals.{add-one}
@@ -19,15 +20,17 @@ use Rattle.text.specs.Cluster.Walk.{first_is, size_is, first_size_law, first_non
 use Rattle.text.specs.Class.Code.{profile_of}
 use Rattle.text.specs.Segmentation.{first_size, never_joins_before, NextCluster}
 use Rattle.text.specs.Utf8.Code.Laws.{size_nil}
-use Rattle.text.specs.Scalar.{packed_at}
-use Rattle.text.specs.Scalar.Laws.{packed_none}
+use Rattle.text.specs.Scalar.{scalar_here}
+use Rattle.text.specs.Scalar.Laws.{packed_none, none_here}
 use Rattle.text.specs.declared.segmentation.ClusterStep.{ClusterStep}
 use Rattle.text.specs.TextParts.{text_at}
 use Rattle.text.specs.declared.class.Profile as code
+use Rattle.text.specs.declared.scalar.Scalar as scalar
 use Rattle.spans.specs.Sequence as found
 use Rattle.spans.specs.Sequence.{sgr, erase_to_end, ignored, hyperlink, line_drawing, Found, found, missing, parse}
 use Rattle.spans.specs.Sequence.Laws.{parse_length, parse_last}
 use Rattle.spans.specs.Spans.{Content, Span, span, ClusterKind, plain, special, cluster_kind, spans_at, text, control, invalid, unprintable, escape, tab, crlf, lf, Record, a_record, kind_of, match_of, record_of, records}
+use Rattle.spans.specs.Spans.Kinds.{number_of_kind, content_kind_law}
 use Rattle.spans.specs.Spans.FirstSpan.{extent, is_plain, plain_cluster, plain_same, plain_size, plain_text, skipped, step_text, step_special, step_invalid, NoText, kind_no_text}
 use Rattle.spans.specs.Sequence.Contracts.{SequenceReady, sequence_of}
 use Rattle.spans.specs.Reader.{c0_not_cr, clusters_at, run_at, HeadReady, InRun, SkipToReady, SkippedTo, escape_head, head_bytes, RunKnown, NextSpanReady, is_match, match_in, text_record, records_from, invalid_at, SpanStep, ControlSpanReady, EscapeSpanReady, MarkSpanReady, SpecialStep}
@@ -78,7 +81,7 @@ head_any n a y f f' e = rw e
 record Found_special (w : ClusterKind) (l : SpanHead) : Type 0 where
   content : Content
   is : w ≡ special content l.len
-  kind : kind_of content ≡ l.kind
+  kind : kind_of content ≡ number_of_kind l.kind
   unmatched : match_of content ≡ 0
 
 no_match : (c : Content) (k : ℕ) → NoText (special c k) → match_of c ≡ 0
@@ -95,7 +98,7 @@ no_match lf k h = refl
 special_is : (w : ClusterKind) (l : SpanHead) → is_plain w ≡ false → kind_head w ≡ l → NoText w → Found_special w l
 unfolding is_plain kind_head
 special_is plain l e f h = absurd (let z : ◌≡◌ {A = ℕ} 0 1 = cc in omega arith)
-special_is (special c k) l e f h = record { content = c; is = ap (λ (x : SpanHead). special c x.len) f; kind = ap (λ (x : SpanHead). x.kind) f; unmatched = no_match c k h }
+special_is (special c k) l e f h = record { content = c; is = ap (λ (x : SpanHead). special c x.len) f; kind = content_kind_law c ∙ ap (λ (x : SpanHead). number_of_kind x.kind) f; unmatched = no_match c k h }
 
 -- the cluster from `at` to `end` is no part of a text
 module _ (P : Profile) (t : List ℕ) (at end : ℕ) (z : plain_size P (clusters_at P (drop at t)) ≡ 0) (f : end ≡ at + first_size P (run_of (decode (drop at t)))) (h : at < end) where
@@ -145,7 +148,7 @@ module _ (P : Profile) (t : List ℕ) (at end : ℕ) (z : plain_size P (clusters
         (λ e. ap (λ (x : List ℕ). head_bytes (extent w.g) (get_or t at 0) (get_or t (at + 1) 0) (parse x)) (b ∙ ap (λ (i : ℕ). slice (at + i) run t) (eqb-true (extent w.g) 1 e)) ∙ rw (← n) (sym q))
         (λ e. head_any (extent w.g) (get_or t at 0) (get_or t (at + 1) 0) (parse (bytes_of (join_all w.gs))) (parse (slice (at + 1) run t)) e ∙ rw (← n) (sym q))
 
-    special_step : (next run : ℕ) (r : Record) → SkippedTo P t end (at + l.len) next → r ≡ a_record l.kind at l.len 0 → RunKnown t (record { at = next; run = run })
+    special_step : (next run : ℕ) (r : Record) → SkippedTo P t end (at + l.len) next → r ≡ a_record (number_of_kind l.kind) at l.len 0 → RunKnown t (record { at = next; run = run })
         → SpecialStep P t at (record { span = r; place = record { at = next; run = run } })
     unfolding records_from records record_of
     special_step next run r s e u m =
@@ -184,7 +187,7 @@ module _ (t : List ℕ) (c : Place) (z : EscapeSpanReady t c) where
     pub escape_within : SequenceReady t c.at run
     escape_within = let r = escape_room in record { first = omega (arith, r.1.0); last = omega (arith, r.1.1); small = z.ready.small }
 
-    module _ (o : sequence.Sequence) (g : o ≡ sequence_of (parse (slice (c.at + 1) run t))) (l : SpanHead) (e : l ≡ escape_head o) where
+    module _ (o : Option sequence.Sequence) (g : o ≡ sequence_of (parse (slice (c.at + 1) run t))) (l : SpanHead) (e : l ≡ escape_head o) where
       escape_head_is : l ≡ head_bytes (c.at + 1 - c.at) (get_or t c.at 0) (get_or t (c.at + 1) 0) (parse (slice (c.at + 1) (run_at t c.at) t))
       unfolding head_bytes
       escape_head_is = let n : c.at + 1 - c.at ≡ 1 = omega arith in rw (n, z.escape, ← f) (e ∙ ap escape_head g)
@@ -216,7 +219,7 @@ module _ (t : List ℕ) (c : Place) (z : EscapeSpanReady t c) where
       pub escape_ready : SkipToReady t (c.at + 1) (c.at + l.len)
       escape_ready = record { ahead = escape_ahead; begins = escape_begins }
 
-      pub escape_step : (p : code.Profile) (next : ℕ) (r : Record) → SkippedTo (profile_of p) t (c.at + 1) (c.at + l.len) next → r ≡ a_record l.kind c.at l.len 0
+      pub escape_step : (p : code.Profile) (next : ℕ) (r : Record) → SkippedTo (profile_of p) t (c.at + 1) (c.at + l.len) next → r ≡ a_record (number_of_kind l.kind) c.at l.len 0
           → SpecialStep (profile_of p) t c.at (record { span = r; place = record { at = next; run = run } })
       escape_step p next r s q =
           special_step (profile_of p) t c.at (c.at + 1) (escape_size p) (escape_end p) (omega arith) l escape_head_is next run r s q (λ h. f ∙ sym (s.run ∙ escape_room.0))
@@ -239,7 +242,7 @@ module _ (P : Profile) (t : List ℕ) (c : Place) (end : ℕ) (z : MarkSpanReady
   pub mark_part_law : HeadReady t c.at end
   mark_part_law = record { here = z.ready.here; ordered = omega (arith, z.some); inside = let r = run_room P t c.at end z.special z.ends z.some in omega (arith, r.0, r.1) }
 
-  pub mark_step : (l : SpanHead) (r : Record) → l ≡ head_bytes (end - c.at) (get_or t c.at 0) (get_or t (c.at + 1) 0) missing → r ≡ a_record l.kind c.at l.len 0
+  pub mark_step : (l : SpanHead) (r : Record) → l ≡ head_bytes (end - c.at) (get_or t c.at 0) (get_or t (c.at + 1) 0) missing → r ≡ a_record (number_of_kind l.kind) c.at l.len 0
       → SpecialStep P t c.at (record { span = r; place = record { at = end; run = c.run } })
   mark_step l r e q =
       let n : c.at + l.len - end ≡ 0 = rw e (omega (arith, head_whole (end - c.at) (get_or t c.at 0) (get_or t (c.at + 1) 0) (omega (arith, z.some)))) in
@@ -285,19 +288,16 @@ text_record_law : (m : Matched) (at n : ℕ) (s : List Scalar) → record_of (sp
 unfolding record_of kind_of match_of match_in text_record
 text_record_law m at n s = cases (is_match m) (λ b. rw b) (λ b. rw b)
 
-pub invalid_is : (c : Place) (r : Record) → r ≡ a_record 4 c.at 1 0 → record { span = r; place = record { at = c.at + 1; run = c.run } } ≡ invalid_at c
-invalid_is c r e = rw e
-
 pub control_ready : (t : List ℕ) (c : Place) (a : ℕ) (x : Bool) → NextSpanReady t c → a ≡ get_or t c.at 0 → x ≡ c0_not_cr a → x ≡ true → ControlSpanReady t c
 control_ready t c a x z e f q = record { ready = z; control = rw e at (sym f ∙ q) }
 
 module _ (P : Profile) (t : List ℕ) (c : Place) (z : NextSpanReady t c) where
-  module _ (u : ℕ) (f : u ≡ packed_at P t c.at) where
-    pub invalid_step : (m : Matched) (r : NextSpan) → u ≡ 0 → r ≡ invalid_at c → SpanStep P t m c.at r
+  module _ (u : Option scalar.Scalar) (f : u ≡ scalar_here P t c.at) where
+    pub invalid_step : (m : Matched) (r : NextSpan) → u ≡ None → r ≡ invalid_at c → SpanStep P t m c.at r
     unfolding records_from records record_of kind_of match_of
     invalid_step m r h e =
         let at : ℕ = c.at in
-        let n : run_of (decode (drop at t)) ≡ [] = packed_none P t at u f h in
+        let n : run_of (decode (drop at t)) ≡ [] = packed_none P t at 0 (sym (none_here P t at u f h)) refl in
         let d : drop at t ≡ get_or t at 0 ∷ drop (suc at) t = drop-cons t at 0 z.here in
         let v : c.at < c.run → c.run ≡ c.at = λ k. z.fresh k ∙ rw (n, size_nil) (add-zero at) in
         rw e (record {
@@ -333,20 +333,20 @@ module _ (P : Profile) (t : List ℕ) (c : Place) (z : NextSpanReady t c) where
   special_done m r h = h m
 
 -- the first cluster: a mark where it has no width, else the beginning of a text
-module _ (v : code.Profile) (t : List ℕ) (c : Place) (z : NextSpanReady t c) (u : ℕ) (f : u ≡ packed_at (profile_of v) t c.at) (some : u ≢ 0) (r : ClusterStep) (n : NextCluster (profile_of v) t c.at r) where
-  begin : ClustersLoop (profile_of v) t c.at c.at u
-  begin = clusters_begin (profile_of v) t c.at u z.here f
+module _ (v : code.Profile) (t : List ℕ) (c : Place) (z : NextSpanReady t c) (w : scalar.Scalar) (f : Some w ≡ scalar_here (profile_of v) t c.at) (r : ClusterStep) (n : NextCluster (profile_of v) t c.at r) where
+  begin : ClustersLoop (profile_of v) t c.at c.at (Some w)
+  begin = clusters_begin (profile_of v) t c.at (Some w) z.here f
 
   first_up : c.at < r.part.end.0
-  first_up = omega (arith, clusters_less v t c.at c.at u begin some r n, n.part.inside)
+  first_up = omega (arith, clusters_less v t c.at c.at (Some w) begin w refl r n, n.part.inside)
 
   pub mark_ready : (x : Bool) (a : ℕ) → a ≡ get_or t c.at 0 → x ≡ c0_not_cr a → x ≡ false → r.part.width.0 ≡ 0 → MarkSpanReady (profile_of v) t c r.part.end.0
-  mark_ready x a b q w e = record {
+  mark_ready x a b q k e = record {
     ready = z;
-    special = no_text v t c.at c.at u begin some r n e;
+    special = no_text v t c.at c.at (Some w) begin w refl r n e;
     ends = n.part.end ∙ ap (λ (k : ℕ). c.at + k) (sym (first_is (profile_of v) (text_at t c.at)));
     some = first_up;
-    other = λ y. let j : a ≡ 0x1B = b ∙ y in let o : true ≡ false = rw j at (sym q ∙ w) in absurd (true≢false o);
+    other = λ y. let j : a ≡ 0x1B = b ∙ y in let o : true ≡ false = rw j at (sym q ∙ k) in absurd (true≢false o);
   }
 
   module _ (wide : r.part.width.0 ≢ 0) (end : ℕ) (g : end ≡ r.part.end.0 + plain_size (profile_of v) (clusters_at (profile_of v) (drop r.part.end.0 t))) where
@@ -354,4 +354,4 @@ module _ (v : code.Profile) (t : List ℕ) (c : Place) (z : NextSpanReady t c) (
     text_up = omega (arith, first_up, g)
 
     pub text_done : (m : Matched) (s : Record) → s ≡ text_record m c.at (end - c.at) → SpanStep (profile_of v) t m c.at (record { span = s; place = record { at = end; run = c.run } })
-    text_done m s e = text_step (profile_of v) t c z end (g ∙ (clusters_on v t c.at c.at u begin some r n wide).same) m s (omega (arith, first_up, g)) e
+    text_done m s e = text_step (profile_of v) t c z end (g ∙ (clusters_on v t c.at c.at (Some w) begin w refl r n wide).same) m s (omega (arith, first_up, g)) e

@@ -11,7 +11,7 @@ use lib.Seq.{get_or-drop, get_or-take}
 use lib.Dec.{eqb, ltb}
 use borrow.Author.Tests.{eq-eqb, eqb-true, le-ltb, lt-ltb, ne_eqb}
 use Rattle.text.specs.Tests.{cases}
-use Rattle.text.specs.Utf8.{ascii}
+use Rattle.text.specs.Utf8.{ascii, decode, run_of}
 use Rattle.text.specs.Utf8.Laws.{bytes_one}
 use Rattle.text.specs.Utf8.Runs.{front_bytes}
 use Rattle.text.specs.Class.Ascii.{syllable_or_other}
@@ -20,7 +20,7 @@ use Rattle.text.specs.Class.Code.{profile_of}
 use Rattle.text.specs.Utf8.Code.{size}
 use Rattle.text.specs.Utf8.Code.Laws.{none_past, size_cons, size_nil}
 use Rattle.text.specs.Scalar.{packed_at}
-use Rattle.text.specs.Scalar.Laws.{NoScalar, PackedScalar, packed_scalar, packed_view}
+use Rattle.text.specs.Scalar.Laws.{packed_none, NoScalar, PackedScalar, packed_scalar, packed_view}
 use Rattle.text.specs.TextParts.{text_at}
 use Rattle.text.specs.TextParts.Laws.{ascii_at}
 use Rattle.text.specs.declared.class.Profile as code
@@ -142,3 +142,13 @@ module _ (p : code.Profile) (t : List ℕ) (at : ℕ) where
 
         pub syllables_last : 0x80 ≤ b → SyllablesTo (profile_of p) t at i
         syllables_last l = ends_at i (count_stop (left_high l) other_size)
+
+    -- no scalar stands there: a damaged byte
+    pub syllables_none : next < length t → 0 ≡ packed_at (profile_of p) t next → SyllablesTo (profile_of p) t at i
+    unfolding leaves_syllable syllables_size
+    syllables_none h e =
+        let n : run_of (decode (drop next t)) ≡ [] = packed_none (profile_of p) t next 0 e refl in
+        let d : damaged ≡ true = lt-ltb (run_at t at) (length t) (omega (arith, h, w.run, ap size n, size_nil)) in
+        let z : size_at next ≡ 0 = rw n refl in
+        let l : left_at next ≡ false = rw (n, d) refl in
+        ends_at i (count_stop l z)

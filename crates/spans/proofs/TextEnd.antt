@@ -25,12 +25,14 @@ use Rattle.text.specs.Segmentation.{first_of, NextCluster, NextClusterReady}
 use Rattle.text.specs.Segmentation.Laws.{FirstCluster}
 use Rattle.text.specs.Utf8.Code.Laws.{size_cons, size_nil}
 use Rattle.text.specs.Class.Profile01.{ascii_classes}
-use Rattle.text.specs.Scalar.{packed_at}
-use Rattle.text.specs.Scalar.Laws.{first_some, packed_inside, packed_none}
+use Rattle.text.specs.Scalar.{packed_at, scalar_here, number_in}
+use Rattle.text.specs.Scalar.Laws.{some_here, number_here, first_some, packed_inside, packed_none}
 use Rattle.text.specs.TextParts.{text_at}
 use Rattle.text.specs.TextParts.Laws.{ascii_at, first_there}
 use Rattle.text.specs.declared.segmentation.ClusterStep.{ClusterStep}
-use Rattle.text.specs.declared.class.Profile as code
+use Rattle.text.specs.declared.class.Profile as profile
+use Rattle.text.specs.declared.scalar.Scalar as code
+use Rattle.std.specs.Prelude.{Option, Some, None}
 use Rattle.spans.specs.Spans.FirstSpan.{extent, plain_cluster, plain_size}
 use Rattle.spans.specs.Reader.{c0_not_cr, clusters_at, PlainTo, clusters_size, printable_pair, ClustersTo}
 use Rattle.spans.proofs.ClusterBytes.{plain_width}
@@ -39,13 +41,23 @@ use Rattle.spans.proofs.FirstClusters.{no_clusters, behind_clusters}
 
 -- ---- `clusters_end`
 
+-- a scalar that was read is one that stands there
+module _ (P : Profile) (t : List ℕ) (p : ℕ) (u : Option code.Scalar) (e : u ≡ scalar_here P t p) where
+  number_none : u ≡ None → number_in u ≡ 0
+  unfolding number_in
+  number_none z = rw z refl
+
+  number_some : (w : code.Scalar) → u ≡ Some w → number_in u ≢ 0
+  unfolding number_in
+  number_some w some = rw some (some_here P t p u e w some).1
+
 -- plain clusters from `at` to p, and the scalar u there
-pub record ClustersLoop (P : Profile) (t : List ℕ) (at p u : ℕ) : Type 0 where
+pub record ClustersLoop (P : Profile) (t : List ℕ) (at p : ℕ) (u : Option code.Scalar) : Type 0 where
   pub to : PlainTo P t at p
-  pub scalar : u ≡ packed_at P t p
+  pub scalar : u ≡ scalar_here P t p
   pub work : p + clusters_size P false (drop p t) (clusters_at P (drop p t)) ≡ at + clusters_size P false (drop at t) (clusters_at P (drop at t))
 
-pub clusters_begin : (P : Profile) (t : List ℕ) (at u : ℕ) → at < length t → u ≡ packed_at P t at → ClustersLoop P t at at u
+pub clusters_begin : (P : Profile) (t : List ℕ) (at : ℕ) (u : Option code.Scalar) → at < length t → u ≡ scalar_here P t at → ClustersLoop P t at at u
 clusters_begin P t at u h e = record { to = plain_here P t at (omega (arith, h)); scalar = e; work = refl }
 
 -- a printable byte begins a cluster that has a width
@@ -55,7 +67,7 @@ printable_at t p e =
     let h : p < length t = cases (ltb p (length t)) (λ l. ltb-true _ _ l) (λ l. absurd (omega (arith, w.0, get_or-eq_default t 0 (nltb→le p (length t) (rw l tt))))) in
     ascii_at t p (get_or t p 0) h refl (omega (arith, w.1))
 
-printable_wide : (v : code.Profile) (t : List ℕ) (p : ℕ) → printable (get_or t p 0) ≡ true → 1 ≤ width_of (profile_of v) (first_of (clusters (profile_of v) (text_at t p)))
+printable_wide : (v : profile.Profile) (t : List ℕ) (p : ℕ) → printable (get_or t p 0) ≡ true → 1 ≤ width_of (profile_of v) (first_of (clusters (profile_of v) (text_at t p)))
 printable_wide v t p e = rw (printable_at t p e) (printable_width (profile_of v) (ascii_classes v) (get_or t p 0) (text_at t (p + 1)) e)
 
 -- clusters behind others, by the bytes there
@@ -69,11 +81,14 @@ unfolding clusters_size
 behind_none P s [] k = refl
 behind_none P s (g ∷ gs) k = rw k refl
 
-module _ (v : code.Profile) (t : List ℕ) (at p u : ℕ) (z : ClustersLoop (profile_of v) t at p u) where
-  pub clusters_past : u ≡ 0 → ClustersTo (profile_of v) t at p
+module _ (v : profile.Profile) (t : List ℕ) (at p : ℕ) (u : Option code.Scalar) (z : ClustersLoop (profile_of v) t at p u) where
+  read : number_in u ≡ packed_at (profile_of v) t p
+  read = number_here (profile_of v) t p u z.scalar
+
+  pub clusters_past : u ≡ None → ClustersTo (profile_of v) t at p
   unfolding plain_size clusters_size
   clusters_past e =
-      let m : text_at t p ≡ [] = packed_none (profile_of v) t p u z.scalar e in
+      let m : text_at t p ≡ [] = packed_none (profile_of v) t p (number_in u) read (number_none (profile_of v) t p u z.scalar e) in
       let n : clusters_at (profile_of v) (drop p t) ≡ [] = ap (clusters (profile_of v)) m ∙ clusters_nil (profile_of v) in
       record {
         is = omega (arith, z.work, ap (clusters_size (profile_of v) false (drop p t)) n);
@@ -82,13 +97,16 @@ module _ (v : code.Profile) (t : List ℕ) (at p u : ℕ) (z : ClustersLoop (pro
         further = λ k. absurd (omega (arith, ap size (sym (printable_at t p k) ∙ m), size_nil, size_cons (ascii (get_or t p 0)) (text_at t (p + 1))));
       }
 
-  module _ (some : u ≢ 0) where
+  module _ (w : code.Scalar) (some : u ≡ Some w) where
+    not_zero : number_in u ≢ 0
+    not_zero = number_some (profile_of v) t p u z.scalar w some
+
     pub clusters_ready : NextClusterReady (profile_of v) t p u
-    clusters_ready = record { inside = packed_inside (profile_of v) t p u z.scalar some; scalar = z.scalar }
+    clusters_ready = record { inside = packed_inside (profile_of v) t p (number_in u) read not_zero; scalar = z.scalar }
 
     -- the cluster there, and those behind it
     there : FirstCluster (profile_of v) (text_at t p)
-    there = first_there (profile_of v) (text_at t p) (λ e. omega (arith, e, first_some (profile_of v) t p u z.scalar some))
+    there = first_there (profile_of v) (text_at t p) (λ e. omega (arith, e, first_some (profile_of v) t p (number_in u) read not_zero))
 
     first : List Scalar
     first = first_of (clusters_at (profile_of v) (drop p t))
@@ -181,7 +199,7 @@ text_past P t at i z h =
 
 -- ---- controls
 
-c0_size : (p : code.Profile) (t : List ℕ) (at a : ℕ) (x : Bool) → a ≡ get_or t at 0 → x ≡ c0_not_cr a → x ≡ true → plain_size (profile_of p) (clusters_at (profile_of p) (drop at t)) ≡ 0
+c0_size : (p : profile.Profile) (t : List ℕ) (at a : ℕ) (x : Bool) → a ≡ get_or t at 0 → x ≡ c0_not_cr a → x ≡ true → plain_size (profile_of p) (clusters_at (profile_of p) (drop at t)) ≡ 0
 unfolding plain_size
 c0_size p t at a x e f q =
     let c : c0_not_cr (get_or t at 0) ≡ true = rw e at (sym f ∙ q) in
@@ -199,7 +217,7 @@ other_here t at a x e f q =
     let z : a ≡ 0 = e ∙ get_or-eq_default t 0 k in
     absurd (true≢false (rw z at (sym f ∙ q))))
 
-module _ (p : code.Profile) (t : List ℕ) (at i a : ℕ) (x : PlainTo (profile_of p) t at i) (y : PlainTo (profile_of p) t i a) where
+module _ (p : profile.Profile) (t : List ℕ) (at i a : ℕ) (x : PlainTo (profile_of p) t at i) (y : PlainTo (profile_of p) t i a) where
   pub text_control : (c : ℕ) (e : Bool) → c ≡ get_or t a 0 → e ≡ c0_not_cr c → e ≡ true → a ≡ at + plain_size (profile_of p) (clusters_at (profile_of p) (drop at t))
   text_control c e f g h = omega (arith, (plain_on (profile_of p) t at i a x y).same, c0_size p t a c e f g h)
 

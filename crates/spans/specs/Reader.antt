@@ -1,5 +1,6 @@
 -- What the contracts of src/reader.rt say beyond the definitions.
-use Rattle.std.specs.Prelude.{◌≡◌, ℕ, suc, ◌+◌, ◌-◌, ◌≤◌, ◌<◌, ◌≢◌, Bool, true, false, not, cond, ◌&&◌, ◌||◌, List, [], ◌∷◌, length, drop, get_or, eqb, leb, ltb}
+use Rattle.std.specs.Prelude.{◌≡◌, ℕ, suc, ◌+◌, ◌-◌, ◌≤◌, ◌<◌, ◌≢◌, Bool, true, false, not, cond, ◌&&◌, ◌||◌, List, [], ◌∷◌, length, drop, get_or, eqb, leb, ltb, Some, None}
+use Rattle.std.specs.Prelude as rust
 use Rattle.std.proofs.Math.Option.{Option, none, some}
 use Rattle.text.specs.Utf8.{Scalar, decode, run_of, bytes_of}
 use Rattle.text.specs.Class.{Profile, number}
@@ -11,12 +12,15 @@ use Rattle.text.specs.Class.Code.{printable}
 use Rattle.spans.specs.Sequence.{Found}
 use Rattle.spans.specs.Spans.{spans_at, Record, a_record, records}
 use Rattle.spans.specs.Spans.FirstSpan.{plain_cluster, plain_size, skipped}
+use Rattle.spans.specs.declared.kind.SpanKind.{SpanKind}
+use Rattle.spans.specs.declared.kind.SpanKind.TheVariants as kind
 use Rattle.spans.specs.declared.reader.SpanHead.{SpanHead}
 use Rattle.spans.specs.declared.reader.Place.{Place}
 use Rattle.spans.specs.declared.reader.Matched.{Matched}
+use Rattle.spans.specs.declared.reader.Matched.TheVariants.{Before, Match}
 use Rattle.spans.specs.declared.reader.NextSpan.{NextSpan}
 use Rattle.spans.specs.declared.sequence.Sequence as code
-use Rattle.spans.specs.declared.sequence.Sequence.TheVariants.{Missing, EraseToEnd, Ignored, Hyperlink, LineDrawing}
+use Rattle.spans.specs.declared.sequence.Sequence.TheVariants.{EraseToEnd, Ignored, Hyperlink, LineDrawing}
 use Rattle.spans.specs.declared.sequence.Sequence.TheVariants as sequence
 use Rattle.spans.specs.Sequence.Contracts.{sequence_of}
 
@@ -79,24 +83,24 @@ pub record ClustersTo (P : Profile) (t : List ℕ) (at r : ℕ) : Type 0 where
   pub ends : printable (get_or t r 0) ≡ false → plain_size P (clusters_at P (drop r t)) ≡ 0
   pub further : printable (get_or t r 0) ≡ true → at < r
 
-abbrev pub a_head : ℕ → ℕ → SpanHead
+abbrev pub a_head : SpanKind → ℕ → SpanHead
 a_head k n = record { kind = k; len = n }
 
-unfoldable pub escape_head : code.Sequence → SpanHead
-escape_head Missing = a_head 3 1
-escape_head (sequence.Sgr n) = a_head 6 n
-escape_head (Hyperlink p k n) = a_head 7 n
-escape_head (LineDrawing b n) = a_head 8 n
-escape_head (Ignored n) = a_head 9 n
-escape_head (EraseToEnd n) = a_head 13 n
+unfoldable pub escape_head : rust.Option code.Sequence → SpanHead
+escape_head None = a_head kind.Control 1
+escape_head (Some (sequence.Sgr n)) = a_head kind.SgrSequence n
+escape_head (Some (Hyperlink p k n)) = a_head kind.Hyperlink n
+escape_head (Some (LineDrawing b n)) = a_head kind.LineDrawing n
+escape_head (Some (Ignored n)) = a_head kind.Ignore n
+escape_head (Some (EraseToEnd n)) = a_head kind.EraseToEndOfLine n
 
 -- what a cluster of n bytes is, the first of them a and b, that is no part of a text; f is what stands at an ESC
 unfoldable pub head_bytes : ℕ → ℕ → ℕ → Found → SpanHead
 unfolding escape_head sequence_of
 head_bytes n a b f =
     cond (eqb n 1)
-    (cond (eqb a 0x1B) (escape_head (sequence_of f)) (cond (eqb a 0x0A) (a_head 12 1) (cond (eqb a 0x09) (a_head 10 1) (cond (leb a 0x1F || eqb a 0x7F) (a_head 3 1) (a_head 5 1)))))
-    (cond (eqb n 2 && (eqb a 0x0D && eqb b 0x0A)) (a_head 11 2) (a_head 5 n))
+    (cond (eqb a 0x1B) (escape_head (sequence_of f)) (cond (eqb a 0x0A) (a_head kind.Lf 1) (cond (eqb a 0x09) (a_head kind.Tab 1) (cond (leb a 0x1F || eqb a 0x7F) (a_head kind.Control 1) (a_head kind.Unprintable 1)))))
+    (cond (eqb n 2 && (eqb a 0x0D && eqb b 0x0A)) (a_head kind.CrLf 2) (a_head kind.Unprintable n))
 
 -- the part from `at` to `end` of t
 pub record HeadReady (t : List ℕ) (at end : ℕ) : Type 0 where
@@ -136,15 +140,21 @@ pub record NextSpanReady (t : List ℕ) (c : Place) : Type 0 where
   pub fresh : RunKnown t c
 
 abbrev pub is_match : Matched → Bool
-is_match m = eqb m.kind 2
+is_match (Before n) = false
+is_match (Match n) = true
+
+-- the number of the match that a segment is, or of the one that follows it
+abbrev pub match_number : Matched → ℕ
+match_number (Before n) = n
+match_number (Match n) = n
 
 -- the match that a segment is, if it is one
 unfoldable pub match_in : Matched → Option ℕ
-match_in m = cond (is_match m) (some m.number) none
+match_in m = cond (is_match m) (some (match_number m)) none
 
 -- the record of a text of n bytes at a place
 unfoldable pub text_record : Matched → ℕ → ℕ → Record
-text_record m at n = cond (is_match m) (a_record 2 at n m.number) (a_record 1 at n 0)
+text_record m at n = cond (is_match m) (a_record 2 at n (match_number m)) (a_record 1 at n 0)
 
 -- the records of the spans from a place to the segment's end
 unfoldable pub records_from : Profile → Matched → List ℕ → ℕ → List Record

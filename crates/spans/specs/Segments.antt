@@ -3,11 +3,14 @@ use Rattle.std.specs.Prelude.{◌≡◌, ℕ, suc, ◌+◌, ◌-◌, ◌*◌, �
 use Rattle.std.proofs.Math.Option.{some}
 use Rattle.text.specs.Class.{Profile}
 use Rattle.spans.specs.Search.{trimmed, escapes, searched_length, in_order, offset_from, read_part, read_matches, read}
-use Rattle.spans.specs.Spans.{Span, Record, a_record, records}
+use Rattle.spans.specs.Spans.{Span, Record, records}
 use Rattle.spans.specs.declared.reader.Matched.{Matched}
+use Rattle.spans.specs.declared.reader.Matched.TheVariants.{Before}
 use Rattle.spans.specs.declared.segments.Cursor.{Cursor}
-use Rattle.spans.specs.declared.segments.NextRecord.{NextRecord}
-use Rattle.spans.specs.Reader.{RunKnown, is_match, records_from}
+use Rattle.spans.specs.declared.segments.Records.{Records}
+use Rattle.spans.specs.declared.search.Offsets.{Offsets}
+use Rattle.text.specs.Class.Code.{profile_of}
+use Rattle.spans.specs.Reader.{RunKnown, is_match, match_number, records_from}
 use Rattle.spans.specs.Search.Contracts.{OffsetsFrom}
 
 -- the segment has no bytes left, of a line of n bytes, and another follows, with k numbers of match ranges
@@ -29,7 +32,7 @@ pending P line k start (b ∷ ms) =
 -- what follows a segment that ends at `end`
 unfoldable pub behind_segment : Profile → List ℕ → Matched → ℕ → List ℕ → List Span
 unfolding pending read_matches escapes
-behind_segment P line m end ms = cond (is_match m) (read_matches P (escapes line) end (suc m.number) ms line) (pending P line m.number end ms)
+behind_segment P line m end ms = cond (is_match m) (read_matches P (escapes line) end (suc (match_number m)) ms line) (pending P line (match_number m) end ms)
 
 -- the records that a reading has before it
 unfoldable pub remaining : Profile → List ℕ → List ℕ → Cursor → List Record
@@ -53,27 +56,26 @@ pub record Sound (line matches : List ℕ) (c : Cursor) : Type 0 where
   pub from : OffsetsFrom (without_newline line) last c.offsets
   pub order : order_from (is_match c.matched) (searched_length line) last (drop c.index matches) ≡ true
   pub index : c.index ≤ length matches
-  pub few : c.matched.number + cond (is_match c.matched) 1 0 ≤ c.index
+  pub few : match_number c.matched + cond (is_match c.matched) 1 0 ≤ c.index
   pub fresh : RunKnown (take c.end line) c.place
 
-pub record OutsideReady (line matches : List ℕ) (number : ℕ) (c : Cursor) : Type 0 where
+pub record OutsideReady (line matches : List ℕ) (number index : ℕ) (o : Offsets) : Type 0 where
   pub small : length line ≤ 65536
   pub last : ℕ
-  pub from : OffsetsFrom (without_newline line) last c.offsets
-  pub order : in_order (searched_length line) last (drop c.index matches) ≡ true
-  pub index : c.index ≤ length matches
-  pub few : number ≤ c.index
+  pub from : OffsetsFrom (without_newline line) last o
+  pub order : in_order (searched_length line) last (drop index matches) ≡ true
+  pub within : index ≤ length matches
+  pub few : number ≤ index
 
 -- the reading of match `number` and what follows it begins at `start`
-pub record OutsideBegun (line matches : List ℕ) (start number : ℕ) (c r : Cursor) : Type 0 where
-  pub same : (P : Profile) → remaining P line matches r ≡ records (read_matches P (escapes line) start number (drop c.index matches) line)
+pub record OutsideBegun (line matches : List ℕ) (start number index : ℕ) (r : Cursor) : Type 0 where
+  pub same : (P : Profile) → remaining P line matches r ≡ records (read_matches P (escapes line) start number (drop index matches) line)
   pub sound : Sound line matches r
-  pub falls : segments_left (length matches) r ≤ 2 * (length matches - c.index)
-  pub count : r.count ≡ c.count
+  pub falls : segments_left (length matches) r ≤ 2 * (length matches - index)
 
-pub record InsideReady (line matches : List ℕ) (c : Cursor) : Type 0 where
+pub record InsideReady (line matches : List ℕ) (number : ℕ) (c : Cursor) : Type 0 where
   pub sound : Sound line matches c
-  pub outside : is_match c.matched ≡ false
+  pub outside : c.matched ≡ Before number
   pub some : c.index < length matches
 
 pub record AdvanceReady (line matches : List ℕ) (c : Cursor) : Type 0 where
@@ -85,39 +87,20 @@ pub record Advanced (line matches : List ℕ) (c r : Cursor) : Type 0 where
   pub same : (P : Profile) → remaining P line matches r ≡ records (behind_segment P line c.matched c.end (drop c.index matches))
   pub sound : Sound line matches r
   pub falls : segments_left (length matches) r < segments_left (length matches) c
-  pub count : r.count ≡ c.count
 
--- the same records, from a segment with bytes left if there is one
-pub record SpentSkipped (line matches : List ℕ) (c r : Cursor) : Type 0 where
-  pub same : (P : Profile) → remaining P line matches r ≡ remaining P line matches c
-  pub sound : Sound line matches r
-  pub settled : spent (length line) (length matches) r ≡ false
-  pub count : r.count ≡ c.count
+-- ---- records one after the other
 
-pub record NextRecordReady (line matches : List ℕ) (c : Cursor) : Type 0 where
-  pub sound : Sound line matches c
-  pub counts : c.count < 18446744073709551615
+-- the records that a reading has before it
+abbrev pub records_left : Records → List Record
+records_left r = remaining (profile_of r.profile) r.searched.line.now r.searched.matches.now r.cursor
 
-unfoldable pub first_record : List Record → Record
-first_record [] = a_record 0 0 0 0
-first_record (r ∷ rs) = r
-
--- the first record and the others
-pub record RecordStep (P : Profile) (line matches : List ℕ) (c : Cursor) (r : NextRecord) : Type 0 where
-  pub head : r.span ≡ first_record (remaining P line matches c)
-  pub tail : remaining P line matches r.cursor ≡ drop 1 (remaining P line matches c)
-  pub sound : Sound line matches r.cursor
-  pub count : r.cursor.count + length (remaining P line matches r.cursor) ≡ c.count + length (remaining P line matches c)
-
--- has the reading a record before it?
-abbrev pub HasNext : List ℕ → List ℕ → Cursor → Bool → Type 0
-HasNext line matches c r = (P : Profile) → r ≡ ltb 0 (length (remaining P line matches c))
+abbrev pub IsReady : Records → Type 0
+IsReady r = Sound r.searched.line.now r.searched.matches.now r.cursor
 
 pub record BeginReady (line matches : List ℕ) : Type 0 where
   pub small : length line ≤ 65536
   pub order : in_order (searched_length line) 0 matches ≡ true
 
-pub record Begun (line matches : List ℕ) (r : Cursor) : Type 0 where
-  pub same : (P : Profile) → remaining P line matches r ≡ records (read P matches line)
-  pub sound : Sound line matches r
-  pub count : r.count ≡ 0
+pub record Begun (P : Profile) (line matches : List ℕ) (r : Records) : Type 0 where
+  pub same : records_left r ≡ records (read P matches line)
+  pub ready : IsReady r

@@ -23,6 +23,7 @@ pub mod PlainClusters
 pub mod ContentKinds
 pub mod TextClusters
 pub mod Controls
+pub mod Kinds
 
 -- the source's Span: what a span holds; Text is `text none`, Match is `text (some k)`
 pub data Content : Type 0 where

@@ -1,18 +1,22 @@
 // Layer 2, spans: the sequences at ESC, reading, and reading with matches.
 #![tactic(auto)]
 
-ghost use Rattle.std.specs.Prelude.{◌≡◌, ◌++◌, ◌≤◌, ◌-◌, cond, length, take, replicate};
+ghost use Rattle.std.specs.Prelude.{MatchOption, ◌≡◌, ◌≤◌, length};
 ghost use Rattle.text.specs.Width.{profile01};
-ghost use Rattle.spans.specs.Calls.{no_record, read_call};
+ghost use Rattle.text.specs.Calls.Code.{answer_of, kept_by};
+ghost use Rattle.spans.specs.Calls.{read_call};
+ghost use Rattle.spans.specs.Spans.Kinds.{number_of_kind, NamesNoKind};
 ghost use Rattle.spans.specs.Search.{searched_length, in_order};
-ghost use Rattle.spans.specs.Calls.Contracts.{refused_by, Planned, Prepared, NextReadingReady, ReadingStep, ParseSpansReady, SpansParsed, Holds, number_of, Finished, read_as};
+ghost use Rattle.spans.specs.Segments.{IsReady, records_left};
+ghost use Rattle.spans.specs.Calls.Contracts.{Listed, Parsed, listed, read_as};
 
-use reader::{Matched, Place};
-use search::{Escape, Offsets, in_order, searched_len};
-use segments::{Cursor, begin, has_next, next_record};
+use kind::SpanKind;
+use search::{in_order, searched_len};
+use segments::Records;
 use text::class::Profile;
-use text::{Answer, BytePlace};
+use text::{Answer, BytePlace, Refusal, clear_refused, try_convert};
 
+pub mod kind;
 pub mod numbers;
 pub mod reader;
 pub mod search;
@@ -31,192 +35,76 @@ pub struct Span {
     pub matched: usize,
 }
 
-// A reading of a line: the number of its refusal or 0, the length of the converted line, how many places of the span list are to be
-// filled, none where the call is refused or behind the last span, and where the reading stands.
-#[derive(Clone, Copy)]
-pub struct Reading {
-    pub number: usize,
-    pub len: usize,
-    pub places: usize,
-    pub cursor: Cursor,
-}
-
-// A record of the span list, and the reading behind it.
-#[derive(Clone, Copy)]
-pub struct NextReading {
-    pub span: Span,
-    pub reading: Reading,
-}
-
-fn refused(number: usize) -> Reading
-    ensures { result ≡ refused_by number }
-{
-    Reading {
-        number: number,
-        len: 0,
-        places: 0,
-        cursor: Cursor {
-            place: Place { at: 0, run: 0 },
-            end: 0,
-            matched: Matched { kind: 1, number: 0 },
-            index: 0,
-            offsets: Offsets {
-                origin: 0,
-                passed: 0,
-                next: Escape {
-                    from: 0,
-                    upto: 0,
-                    found: false,
-                },
-            },
-            count: 0,
-        },
-    }
-}
-
-// Question 3: are the match ranges in order within the text searched?
-fn are_in_order(line: &[u8], matches: &[usize]) -> bool
-    requires { length line.now ≤ 65536 }
-    ensures { result ≡ in_order (searched_length line.now) 0 matches.now }
-{
-    if matches.len() == 0 {
-        return true;
-    }
-    in_order(matches, searched_len(line))
-}
-
-// The beginning of a converted line that passes question 3, with a span list of so many places.
-fn plan(line: &[u8], matches: &[usize], places: usize) -> Reading
-    requires { length line.now ≤ 65536 }
-    ensures { Planned line.now matches.now places result }
-{
-    if are_in_order(line, matches) {
-        let c = begin(line, matches);
-        return Reading {
-            number: 0,
-            len: line.len(),
-            places: places,
-            cursor: c,
-        };
-    }
-    refused(3)
-}
-
-// Questions 1 to 3: the converted line in conv, and the beginning of its reading.
-fn prepare(line: &[u8], matches: &[usize], conv: &mut [u8], places: usize) -> Reading
-    ensures { Prepared line.now matches.now (length conv.old) conv.new places result }
-{
-    let a = text::convert(line, conv);
-    if a.number == 0 {
-        let n = a.count;
-        return plan(&conv[..n], matches, places);
-    }
-    refused(a.number)
-}
-
-// So many places where there is a span for them.
-fn places_for(places: usize, found: bool) -> usize
-    ensures { result ≡ cond found places 0 }
-{
-    if found { places } else { 0 }
-}
-
-// The next record of a reading; behind the last one no place is to be filled.
-fn next_reading(conv: &[u8], matches: &[usize], r: Reading) -> NextReading
-    requires { NextReadingReady conv.now matches.now r }
-    ensures { ReadingStep conv.now matches.now r result }
-{
-    let c = r.cursor;
-    let len = r.len;
-    let n = next_record(Profile { version: 0 }, &conv[..len], matches, c);
-    let span = n.span;
-    let after = n.cursor;
-    let places = places_for(r.places, c.count < after.count);
-    NextReading {
-        span: span,
-        reading: Reading {
-            number: 0,
-            len: len,
-            places: places,
-            cursor: after,
-        },
-    }
-}
-
-// A record for each step; the reading behind the last place or the last span.
-fn parse_spans(spans: &mut [Span], conv: &[u8], matches: &[usize], start: Reading) -> Reading
-    requires { ParseSpansReady conv.now matches.now (length spans.old) start }
-    ensures { SpansParsed conv.now matches.now spans.new start result }
-{
-    let mut c = start;
-    let mut i = 0;
-    while i < c.places {
-        let n = next_reading(conv, matches, c);
-        spans[i] = n.span;
-        c = n.reading;
-        i += 1;
-    }
-    c
-}
-
-// Records of zeros from the place `from` on.
-pub fn clear_spans(spans: &mut [Span], from: usize)
-    ensures { spans.new ≡ take from spans.old ++ replicate (length spans.old - from) no_record }
-{
-    let none = Span {
+impl Span {
+    // The record of a place that holds no span: zeros.
+    pub const NONE: Span = Span {
         kind: 0,
         place: BytePlace(0),
         len: 0,
         matched: 0,
     };
-    let mut i = from;
-    while i < spans.len() {
-        spans[i] = none;
-        i += 1;
+
+    // The span's kind; none where the record holds no span.
+    pub fn kind(self) -> Option<SpanKind>
+        ensures { MatchOption result (NamesNoKind self.kind) (λ k. number_of_kind k ≡ self.kind) }
+    {
+        SpanKind::try_from(self.kind).ok()
     }
 }
 
-// Question 4, where no other refuses: is there a span behind the last place?
-fn number_of(conv: &[u8], matches: &[usize], r: Reading) -> usize
-    requires { Holds conv.now matches.now r }
-    ensures { result ≡ number_of conv.now matches.now r }
+// Question 3: are the match ranges in order within the text searched?
+fn are_in_order(line: &[u8], matches: &[usize]) -> bool
+    ensures { result ≡ in_order (searched_length line.now) 0 matches.now }
 {
-    if r.number == 0 {
-        let len = r.len;
-        if has_next(&conv[..len], matches, r.cursor) {
-            return 4;
+    matches.is_empty() || in_order(matches, searched_len(line))
+}
+
+// Question 4: is there a place for each record? Then they are in the list.
+fn parse_spans(spans: &mut [Span], mut records: Records) -> Result<usize, Refusal>
+    requires { IsReady records }
+    ensures { Listed (records_left records.entry) spans.new result }
+{
+    let mut count = 0;
+    while let Some(span) = records.next() {
+        if count == spans.len() {
+            return Err(Refusal::SpansTooFew);
         }
+        spans[count] = span;
+        count += 1;
     }
-    r.number
+    Ok(count)
 }
 
-// The answer; zeros in conv where the call is refused.
-fn finish(conv: &mut [u8], matches: &[usize], r: Reading) -> Answer
-    requires { Holds conv.old matches.now r }
-    ensures { Finished conv.old matches.now r conv.new result }
+// Questions 3 and 4 of a converted line, and its records.
+fn try_parse(line: &[u8], matches: &[usize], spans: &mut [Span]) -> Result<usize, Refusal>
+    requires { length line.now ≤ 65536 }
+    ensures { Parsed line.now matches.now spans.new result }
 {
-    let number = number_of(conv, matches, r);
-    if number == 0 {
-        let c = r.cursor;
-        return Answer {
-            number: 0,
-            count: c.count,
-        };
+    if !are_in_order(line, matches) {
+        return Err(Refusal::MatchesNotInOrder);
     }
-    buffer::clear_bytes(conv, 0);
-    Answer {
-        number: number,
-        count: 0,
-    }
+    parse_spans(spans, Records::begin(Profile { version: 0 }, line, matches))
 }
 
 // The call `read`: the converted line in conv, the records in spans, and zeros after each.
 pub fn read(line: &[u8], matches: &[usize], conv: &mut [u8], spans: &mut [Span]) -> Answer
     ensures { read_as result conv.new spans.new ≡ read_call profile01 (length conv.old) (length spans.old) matches.now line.now }
 {
-    let start = prepare(line, matches, conv, spans.len());
-    let r = parse_spans(spans, conv, matches, start);
-    let a = finish(conv, matches, r);
-    clear_spans(spans, a.count);
-    a
+    let outcome = try_read(line, matches, conv, spans);
+    clear_refused(outcome, conv, 0);
+    buffer::clear(spans, outcome.unwrap_or(0), Span::NONE);
+    Answer::from(outcome)
+}
+
+// The same, as a Result: nothing is said of what stands in conv and spans where the call is refused, nor of the places after the records.
+pub fn try_read(
+    line: &[u8],
+    matches: &[usize],
+    conv: &mut [u8],
+    spans: &mut [Span],
+) -> Result<usize, Refusal>
+    ensures { read_as (answer_of result) (kept_by result 0 conv.new) (listed result spans.new) ≡ read_call profile01 (length conv.old) (length spans.old) matches.now line.now }
+{
+    let len = try_convert(line, conv)?;
+    try_parse(&conv[..len], matches, spans)
 }

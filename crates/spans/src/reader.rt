@@ -1,17 +1,21 @@
 // parse_spans: the spans of a segment of a line, one after the other. A segment ends where the slice ends.
 ghost use Rattle.std.specs.Prelude.{◌≡◌, ◌+◌, ◌-◌, ◌≤◌, ◌<◌, length, get_or, drop};
+ghost use Rattle.std.specs.List.{prefix_len};
 ghost use Rattle.text.specs.Class.Ascii.{syllable_or_other};
-ghost use Rattle.text.specs.Class.Code.{profile_of};
+ghost use Rattle.text.specs.Class.Code.{class_number, printable, profile_of};
 ghost use Rattle.spans.specs.Sequence.{missing};
 ghost use Rattle.spans.specs.Spans.{a_record};
 ghost use Rattle.spans.specs.Spans.FirstSpan.{plain_size};
-ghost use Rattle.spans.specs.Reader.{c0_not_cr, clusters_at, PrintableTo, SyllablesTo, ClustersTo, escape_head, head_bytes, HeadReady, SkipToReady, SkippedTo, run_at, text_record, invalid_at, EscapeSpanReady, MarkSpanReady, ControlSpanReady, SpecialStep, NextSpanReady, SpanStep};
+ghost use Rattle.spans.specs.Spans.Kinds.{number_of_kind};
+ghost use Rattle.spans.specs.Reader.{c0_not_cr, clusters_at, a_head, PrintableTo, SyllablesTo, ClustersTo, escape_head, head_bytes, HeadReady, SkipToReady, SkippedTo, run_at, text_record, invalid_at, EscapeSpanReady, MarkSpanReady, ControlSpanReady, SpecialStep, NextSpanReady, SpanStep};
 
 use super::Span;
+use super::kind::SpanKind;
 use super::sequence::{Sequence, sequence_at};
+use super::sgr::bytes_from;
 use buffer::byte_at;
 use text::BytePlace;
-use text::class::{EXTENDED_PICTOGRAPHIC, LV, LVT, OTHER, Profile, is_printable};
+use text::class::{Class, Profile, is_printable};
 use text::scalar::scalar_at;
 use text::segmentation::{cluster_end, next_cluster};
 use text::utf8::run_end;
@@ -19,7 +23,7 @@ use text::utf8::run_end;
 // What a cluster that is no part of a text is: a kind of span, and its length.
 #[derive(Clone, Copy)]
 pub struct SpanHead {
-    pub kind: usize,
+    pub kind: SpanKind,
     pub len: usize,
 }
 
@@ -30,26 +34,33 @@ pub struct Place {
     pub run: usize,
 }
 
-// The kind of a segment's texts, 1 Text or 2 Match, and the number of the match that it is or that follows it. (A flag of one byte
-// would leave bytes unused, and the copies of these make every step slower.)
-#[derive(Clone, Copy)]
-pub struct Matched {
-    pub kind: usize,
-    pub number: usize,
+// What a segment is: what stands before the match of a number, or after the last one; or the match.
+#[derive(Clone, Copy, PartialEq, Eq, Debug)]
+pub enum Matched {
+    Before(usize),
+    Match(usize),
 }
 
-// A span, and where the reading stands behind it.
+// A span, and where the reading stands after it.
 #[derive(Clone, Copy)]
 pub struct NextSpan {
     pub span: Span,
     pub place: Place,
 }
 
-// Is the byte a C0 control, CR apart? No rule joins what stands behind it.
+// Is the byte a C0 control, CR apart? No rule joins what stands after it.
 fn is_c0_not_cr(b: u8) -> bool
     ensures { result ≡ c0_not_cr b }
 {
     (b <= 0x1F) & (b != 0x0D)
+}
+
+// How many bytes in front are printable.
+fn printable_len(s: &[u8]) -> usize
+    ensures printable { result ≡ prefix_len printable s.now }
+    ensures inside { result ≤ length s.now }
+{
+    s.iter().take_while(|b| is_printable(**b as u32)).count()
 }
 
 // Past printable bytes, each a plain cluster by itself; the last of them is left where what follows may join it.
@@ -57,29 +68,21 @@ fn printable_end(profile: Profile, t: &[u8], at: usize) -> usize
     requires { at < length t.now }
     ensures { PrintableTo (profile_of profile) t.now at result }
 {
-    if is_printable(t[at] as u32) {
-        let mut i = at;
-        while i + 1 < t.len() {
-            let b = t[i + 1] as u32;
-            if is_printable(b) {
-                i += 1;
-            } else {
-                if b < 0x80 {
-                    return i + 1;
-                }
-                return i;
-            }
-        }
-        return i + 1;
+    let end = at + printable_len(bytes_from(t, at));
+    if (at < end) & (0x80 <= byte_at(t, end)) {
+        return end - 1;
     }
-    at
+    end
 }
 
 // Is it class LV, LVT, other or Extended_Pictographic? No rule joins two scalars of these classes, and none of them is without width.
-fn is_syllable_or_other(class: u8) -> bool
-    ensures { result ≡ syllable_or_other class }
+fn is_syllable_or_other(class: Class) -> bool
+    ensures { result ≡ syllable_or_other (class_number class) }
 {
-    (class == LV) | ((class == LVT) | ((class == OTHER) | (class == EXTENDED_PICTOGRAPHIC)))
+    matches!(
+        class,
+        Class::Lv | Class::Lvt | Class::Other | Class::ExtendedPictographic
+    )
 }
 
 // Past scalars of these classes, in the same way.
@@ -90,10 +93,12 @@ fn syllables_and_others_end(profile: Profile, t: &[u8], at: usize) -> usize
     let mut i = at;
     let mut next = at;
     while next < t.len() {
-        let u = scalar_at(profile, t, next);
-        if is_syllable_or_other((u / 8 % 16) as u8) {
+        let Some(u) = scalar_at(profile, t, next) else {
+            return i;
+        };
+        if is_syllable_or_other(u.class()) {
             i = next;
-            next += u % 8;
+            next += u.len();
         } else {
             if byte_at(t, next) < 0x80 {
                 return next;
@@ -104,22 +109,19 @@ fn syllables_and_others_end(profile: Profile, t: &[u8], at: usize) -> usize
     next
 }
 
-// Past clusters that have a width: they are parts of a text. Up to a printable byte behind the first that no mark follows.
+// Past clusters that have a width: they are parts of a text. Up to a printable byte after the first that no mark follows.
 fn clusters_end(profile: Profile, t: &[u8], at: usize) -> usize
     requires { at < length t.now }
     ensures { ClustersTo (profile_of profile) t.now at result }
 {
     let mut p = at;
     let mut u = scalar_at(profile, t, at);
-    while u != 0 {
+    while let Some(_) = u {
         let step = next_cluster(profile, t, BytePlace(p), u);
-        let part = step.part;
-        let width = part.width;
-        if width.0 == 0 {
+        if step.part.width.0 == 0 {
             return p;
         }
-        let end = part.end;
-        p = end.0;
+        p = step.part.end.0;
         u = step.next;
         let printable = is_printable(byte_at(t, p) as u32);
         if printable & (byte_at(t, p + 1) < 0x80) {
@@ -154,44 +156,40 @@ fn text_end(profile: Profile, t: &[u8], at: usize) -> usize
     i
 }
 
-// The span that a sequence is; without one, ESC is Control.
-fn escape_head(q: Sequence) -> SpanHead
-    ensures { result ≡ escape_head q }
+fn head(kind: SpanKind, len: usize) -> SpanHead
+    ensures { result ≡ a_head kind len }
 {
-    match q {
-        Sequence::Missing => SpanHead { kind: 3, len: 1 },
-        Sequence::Sgr(n) => SpanHead { kind: 6, len: n },
-        Sequence::Hyperlink(p, k, n) => SpanHead { kind: 7, len: n },
-        Sequence::LineDrawing(b, n) => SpanHead { kind: 8, len: n },
-        Sequence::Ignored(n) => SpanHead { kind: 9, len: n },
-        Sequence::EraseToEnd(n) => SpanHead { kind: 13, len: n },
+    SpanHead { kind, len }
+}
+
+// The span that a sequence is; without one, ESC is Control.
+#[tactic(auto, unfolding(crate::specs::Reader::escape_head))]
+fn escape_head(found: Option<Sequence>) -> SpanHead
+    ensures { result ≡ escape_head found }
+{
+    match found {
+        None => head(SpanKind::Control, 1),
+        Some(Sequence::Sgr { len }) => head(SpanKind::SgrSequence, len),
+        Some(Sequence::Hyperlink { len, .. }) => head(SpanKind::Hyperlink, len),
+        Some(Sequence::LineDrawing { len, .. }) => head(SpanKind::LineDrawing, len),
+        Some(Sequence::Ignored { len }) => head(SpanKind::Ignore, len),
+        Some(Sequence::EraseToEnd { len }) => head(SpanKind::EraseToEndOfLine, len),
     }
 }
 
 // What the cluster from `at` to `end` is that is no part of a text, where no sequence begins.
+#[tactic(auto, using(crate::proofs::ClusterBytes::head_is), unfolding(crate::proofs::ClusterBytes::head_of))]
 fn head_at(t: &[u8], at: usize, end: usize) -> SpanHead
     requires { HeadReady t.now at end }
     ensures { result ≡ head_bytes (end - at) (get_or t.now at 0) (get_or t.now (at + 1) 0) missing }
 {
-    let n = end - at;
-    let a = byte_at(t, at);
-    if n == 1 {
-        if a == 0x0A {
-            return SpanHead { kind: 12, len: 1 };
-        }
-        if a == 0x09 {
-            return SpanHead { kind: 10, len: 1 };
-        }
-        if (a <= 0x1F) | (a == 0x7F) {
-            return SpanHead { kind: 3, len: 1 };
-        }
-        return SpanHead { kind: 5, len: 1 };
+    match (end - at, byte_at(t, at), byte_at(t, at + 1)) {
+        (1, b'\n', _) => head(SpanKind::Lf, 1),
+        (1, b'\t', _) => head(SpanKind::Tab, 1),
+        (1, 0..=0x1F | 0x7F, _) => head(SpanKind::Control, 1),
+        (2, b'\r', b'\n') => head(SpanKind::CrLf, 2),
+        (n, _, _) => head(SpanKind::Unprintable, n),
     }
-    let b = byte_at(t, at + 1);
-    if (n == 2) & ((a == 0x0D) & (b == 0x0A)) {
-        return SpanHead { kind: 11, len: 2 };
-    }
-    SpanHead { kind: 5, len: n }
 }
 
 // Past the clusters that begin before `stop`, where the byte before it begins one, as the last byte of every sequence does.
@@ -216,41 +214,41 @@ fn run_at(t: &[u8], c: Place) -> usize
     run_end(t, c.at)
 }
 
-fn span_of(kind: usize, at: usize, len: usize, matched: usize) -> Span
-    ensures { result ≡ a_record kind at len matched }
+// A record: the one place where a kind becomes its number.
+fn span_of(kind: SpanKind, at: usize, len: usize, matched: usize) -> Span
+    ensures { result ≡ a_record (number_of_kind kind) at len matched }
 {
     Span {
-        kind: kind,
+        kind: kind as usize,
         place: BytePlace(at),
-        len: len,
-        matched: matched,
+        len,
+        matched,
     }
 }
 
 // The text from `at` to `end`: Text, or Match.
+#[tactic(auto, unfolding(crate::specs::Reader::text_record))]
 fn text_span(at: usize, end: usize, m: Matched) -> Span
     requires { at ≤ end }
     ensures { result ≡ text_record m at (end - at) }
 {
-    if m.kind == 2 {
-        return span_of(2, at, end - at, m.number);
+    match m {
+        Matched::Match(number) => span_of(SpanKind::Match, at, end - at, number),
+        Matched::Before(_) => span_of(SpanKind::Text, at, end - at, 0),
     }
-    span_of(1, at, end - at, 0)
 }
 
-// The span of an ESC, and the place behind what is dropped. The end of the run is looked for here alone, and kept for the next ESC.
+// The span of an ESC, and the place after what is dropped. The end of the run is looked for here alone, and kept for the next ESC.
 fn escape_span(profile: Profile, t: &[u8], c: Place) -> NextSpan
     requires { EscapeSpanReady t.now c }
     ensures { SpecialStep (profile_of profile) t.now c.at result }
 {
-    let at = c.at;
     let run = run_at(t, c);
-    let l = escape_head(sequence_at(t, at, run));
-    let next = skip_to(profile, t, at + 1, at + l.len);
-    let span = span_of(l.kind, at, l.len, 0);
+    let l = escape_head(sequence_at(t, c.at, run));
+    let at = skip_to(profile, t, c.at + 1, c.at + l.len);
     NextSpan {
-        span: span,
-        place: Place { at: next, run: run },
+        span: span_of(l.kind, c.at, l.len, 0),
+        place: Place { at, run },
     }
 }
 
@@ -259,15 +257,10 @@ fn mark_span(profile: Profile, t: &[u8], c: Place, end: usize) -> NextSpan
     requires { MarkSpanReady (profile_of profile) t.now c end }
     ensures { SpecialStep (profile_of profile) t.now c.at result }
 {
-    let at = c.at;
-    let l = head_at(t, at, end);
-    let span = span_of(l.kind, at, l.len, 0);
+    let l = head_at(t, c.at, end);
     NextSpan {
-        span: span,
-        place: Place {
-            at: end,
-            run: c.run,
-        },
+        span: span_of(l.kind, c.at, l.len, 0),
+        place: Place { at: end, ..c },
     }
 }
 
@@ -276,11 +269,10 @@ fn control_span(profile: Profile, t: &[u8], c: Place) -> NextSpan
     requires { ControlSpanReady t.now c }
     ensures { SpecialStep (profile_of profile) t.now c.at result }
 {
-    let at = c.at;
-    if byte_at(t, at) == 0x1B {
+    if byte_at(t, c.at) == 0x1B {
         return escape_span(profile, t, c);
     }
-    mark_span(profile, t, c, at + 1)
+    mark_span(profile, t, c, c.at + 1)
 }
 
 // The span of a damaged byte.
@@ -288,44 +280,30 @@ fn invalid_span(c: Place) -> NextSpan
     requires { c.at < 65536 }
     ensures { result ≡ invalid_at c }
 {
-    let at = c.at;
-    let span = span_of(4, at, 1, 0);
     NextSpan {
-        span: span,
-        place: Place {
-            at: at + 1,
-            run: c.run,
-        },
+        span: span_of(SpanKind::Invalid, c.at, 1, 0),
+        place: Place { at: c.at + 1, ..c },
     }
 }
 
-// The next span of a segment that is match m or none.
+// The next span of a segment, which is a match or stands before one.
 pub(crate) fn next_span(profile: Profile, t: &[u8], c: Place, m: Matched) -> NextSpan
     requires { NextSpanReady t.now c }
     ensures { SpanStep (profile_of profile) t.now m c.at result }
 {
-    let at = c.at;
-    if is_c0_not_cr(byte_at(t, at)) {
+    if is_c0_not_cr(byte_at(t, c.at)) {
         return control_span(profile, t, c);
     }
-    let u = scalar_at(profile, t, at);
-    if u == 0 {
+    let Some(u) = scalar_at(profile, t, c.at) else {
         return invalid_span(c);
+    };
+    let first = next_cluster(profile, t, BytePlace(c.at), Some(u)).part;
+    if first.width.0 == 0 {
+        return mark_span(profile, t, c, first.end.0);
     }
-    let step = next_cluster(profile, t, BytePlace(at), u);
-    let part = step.part;
-    let first = part.end;
-    let width = part.width;
-    if width.0 == 0 {
-        return mark_span(profile, t, c, first.0);
-    }
-    let end = text_end(profile, t, first.0);
-    let span = text_span(at, end, m);
+    let end = text_end(profile, t, first.end.0);
     NextSpan {
-        span: span,
-        place: Place {
-            at: end,
-            run: c.run,
-        },
+        span: text_span(c.at, end, m),
+        place: Place { at: end, ..c },
     }
 }

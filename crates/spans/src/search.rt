@@ -1,17 +1,17 @@
 // Reading with matches: src/search.rs, ESCAPE_SEQUENCE and trim_trailing_newline; src/line.rs, convert_offset.
-ghost use Rattle.std.specs.Prelude.{◌≡◌, ◌+◌, ◌≤◌, ◌<◌, length};
+ghost use Rattle.std.specs.Prelude.{◌≡◌, ◌+◌, ◌≤◌, ◌<◌, length, take};
+ghost use Rattle.std.specs.List.{prefix_len};
 ghost use Rattle.spans.specs.Search.{sequence_byte, trimmed, searched_length, in_order};
-ghost use Rattle.spans.specs.Sequence.Contracts.{Skipped};
-ghost use Rattle.spans.specs.Search.Contracts.{EscapeMatched, EscapeMatchReady, NextEscape, EscapesLength, pair_in_order, FirstOffsets, OffsetReady, OffsetAt};
+ghost use Rattle.spans.specs.Search.Contracts.{EscapeMatched, NextEscape, EscapesLength, pair_in_order, FirstOffsets, OffsetReady, OffsetAt};
 
+use super::sgr::bytes_from;
 use buffer::byte_at;
 
-// A match of ESCAPE_SEQUENCE, or none: zeros.
-#[derive(Clone, Copy)]
+// A match of ESCAPE_SEQUENCE.
+#[derive(Clone, Copy, PartialEq, Eq, Debug)]
 pub struct Escape {
     pub from: usize,
     pub upto: usize,
-    pub found: bool,
 }
 
 // convert_offset between two matches: original_offset, how much of the text searched lies before it, and the next ESCAPE_SEQUENCE match.
@@ -19,135 +19,93 @@ pub struct Escape {
 pub struct Offsets {
     pub origin: usize,
     pub passed: usize,
-    pub next: Escape,
+    pub next: Option<Escape>,
 }
 
-// An offset into the line, and the conversion behind it.
+// An offset into the line, and the conversion after it.
 #[derive(Clone, Copy)]
 pub struct Offset {
     pub value: usize,
     pub offsets: Offsets,
 }
 
+#[tactic(auto, unfolding(crate::specs::Search::sequence_byte))]
 fn is_sequence_byte(b: u8) -> bool
     ensures { result ≡ sequence_byte b }
 {
-    ((0x20 <= b) & (b <= 0x23))
-        | (((0x25 <= b) & (b <= 0x25))
-            | (((0x27 <= b) & (b <= 0x2B))
-                | (((0x30 <= b) & (b <= 0x3B))
-                    | (((0x3F <= b) & (b <= 0x3F)) | ((0x5B <= b) & (b <= 0x5B))))))
+    matches!(
+        b,
+        b' '..=b'#' | b'%' | b'\''..=b'+' | b'0'..=b';' | b'?' | b'['
+    )
 }
 
-// Past the bytes that ESCAPE_SEQUENCE takes between `ESC [` and `m`.
-fn skip_sequence(s: &[u8], at: usize) -> usize
-    ensures { Skipped sequence_byte s.now at result }
+// How many bytes in front ESCAPE_SEQUENCE takes between `ESC [` and `m`.
+fn sequence_len(s: &[u8]) -> usize
+    ensures bytes { result ≡ prefix_len sequence_byte s.now }
+    ensures inside { result ≤ length s.now }
 {
-    let mut i = at;
-    while i < s.len() {
-        if is_sequence_byte(s[i]) {
-            i += 1;
-        } else {
-            return i;
-        }
-    }
-    i
+    s.iter().take_while(|b| is_sequence_byte(**b)).count()
 }
 
-// The length of the ESCAPE_SEQUENCE match at a place, or 0.
-fn escape_match(s: &[u8], at: usize) -> usize
-    requires { EscapeMatchReady s.now at }
-    ensures { EscapeMatched s.now at result }
+// The length of the ESCAPE_SEQUENCE match that bytes begin with.
+fn escape_match(s: &[u8]) -> Option<usize>
+    ensures { EscapeMatched s.now result }
 {
-    if byte_at(s, at) != 0x1B {
-        return 0;
+    let rest = s.strip_prefix(b"\x1B[")?;
+    let n = sequence_len(rest);
+    if (n <= 32) & (byte_at(rest, n) == b'm') {
+        return Some(3 + n);
     }
-    if byte_at(s, at + 1) != b'[' {
-        return 0;
-    }
-    let e = skip_sequence(s, at + 2);
-    let n = e - (at + 2);
-    let f = byte_at(s, e);
-    if (n <= 32) & (f == b'm') {
-        return 3 + n;
-    }
-    0
+    None
 }
 
 // The first ESCAPE_SEQUENCE match from a place on.
-fn next_escape(s: &[u8], at: usize) -> Escape
-    requires { length s.now ≤ 65536 }
+fn next_escape(s: &[u8], at: usize) -> Option<Escape>
     ensures { NextEscape s.now at result }
 {
-    let mut i = at;
-    while i < s.len() {
-        let n = escape_match(s, i);
-        if n != 0 {
-            return Escape {
-                from: i,
-                upto: i + n,
-                found: true,
-            };
+    for from in at..s.len() {
+        if let Some(n) = escape_match(bytes_from(s, from)) {
+            return Some(Escape {
+                from,
+                upto: from + n,
+            });
         }
-        i += 1;
     }
-    Escape {
-        from: 0,
-        upto: 0,
-        found: false,
-    }
+    None
 }
 
 // trim_trailing_newline
-pub(crate) fn trimmed_len(s: &[u8]) -> usize
-    ensures { result ≡ trimmed s.now }
+pub(crate) fn without_newline(s: &[u8]) -> &[u8]
+    ensures { result.now ≡ take (trimmed s.now) s.now }
 {
-    let n = s.len();
-    if n == 0 {
-        return 0;
+    match s.strip_suffix(b"\n") {
+        Some(line) => line.strip_suffix(b"\r").unwrap_or(line),
+        None => s,
     }
-    if s[n - 1] != 0x0A {
-        return n;
-    }
-    if n == 1 {
-        return 0;
-    }
-    if s[n - 2] != 0x0D {
-        return n - 1;
-    }
-    n - 2
 }
 
 // The bytes of all ESCAPE_SEQUENCE matches.
 fn escapes_len(s: &[u8]) -> usize
-    requires { length s.now ≤ 65536 }
     ensures { EscapesLength s.now result }
 {
     let mut at = 0;
-    let mut sum: usize = 0;
-    while at < s.len() {
-        let e = next_escape(s, at);
-        let found = e.found;
-        if found {
-            sum += e.upto - e.from;
-            at = e.upto;
-        } else {
-            return sum;
-        }
+    let mut sum = 0;
+    while let Some(e) = next_escape(s, at) {
+        sum += e.upto - e.from;
+        at = e.upto;
     }
     sum
 }
 
 // The length of the text searched.
 pub(crate) fn searched_len(line: &[u8]) -> usize
-    requires { length line.now ≤ 65536 }
     ensures { result ≡ searched_length line.now }
 {
-    let n = trimmed_len(line);
-    n - escapes_len(&line[..n])
+    let text = without_newline(line);
+    text.len() - escapes_len(text)
 }
 
-// A match from a to b, behind one that ends at e, in a text of `most` bytes.
+// A match from a to b, after one that ends at e, in a text of `most` bytes.
 fn pair_in_order(e: usize, a: usize, b: usize, most: usize) -> bool
     ensures { result ≡ pair_in_order e a b most }
 {
@@ -158,61 +116,52 @@ fn pair_in_order(e: usize, a: usize, b: usize, most: usize) -> bool
 pub(crate) fn in_order(matches: &[usize], most: usize) -> bool
     ensures { result ≡ in_order most 0 matches.now }
 {
-    let mut i = 0;
-    let mut e = 0;
-    while i < matches.len() {
-        if matches.len() - i == 1 {
+    let mut rest = matches;
+    let mut end = 0;
+    while let [from, upto, more @ ..] = rest {
+        if !pair_in_order(end, *from, *upto, most) {
             return false;
         }
-        let a = matches[i];
-        let b = matches[i + 1];
-        if pair_in_order(e, a, b, most) {
-            e = b;
-            i += 2;
-        } else {
-            return false;
+        end = *upto;
+        rest = more;
+    }
+    rest.is_empty()
+}
+
+impl Offsets {
+    // convert_offset's beginning.
+    pub(crate) fn begin(s: &[u8]) -> Offsets
+        ensures { FirstOffsets s.now result }
+    {
+        Offsets {
+            origin: 0,
+            passed: 0,
+            next: next_escape(s, 0),
         }
     }
-    true
-}
 
-// convert_offset's beginning.
-pub(crate) fn first_offsets(s: &[u8]) -> Offsets
-    requires { length s.now ≤ 65536 }
-    ensures { FirstOffsets s.now result }
-{
-    let next = next_escape(s, 0);
-    Offsets {
-        origin: 0,
-        passed: 0,
-        next: next,
-    }
-}
-
-// convert_offset for an offset that is not before the last one.
-pub(crate) fn offset_at(s: &[u8], o: Offsets, x: usize) -> Offset
-    requires { OffsetReady s.now o x }
-    ensures { OffsetAt s.now o x result }
-{
-    let mut c = o;
-    let mut next = o.next;
-    while next.found {
-        if c.origin + (x - c.passed) < next.from {
-            return Offset {
-                value: c.origin + (x - c.passed),
-                offsets: c,
+    // convert_offset for an offset that is not before the last one.
+    pub(crate) fn convert(self, s: &[u8], x: usize) -> Offset
+        requires { OffsetReady s.now self x }
+        ensures { OffsetAt s.now self x result }
+    {
+        let mut o = self;
+        while let Some(e) = o.next {
+            if o.origin + (x - o.passed) < e.from {
+                return Offset {
+                    value: o.origin + (x - o.passed),
+                    offsets: o,
+                };
+            }
+            o = Offsets {
+                origin: e.upto,
+                passed: o.passed + (e.from - o.origin),
+                next: next_escape(s, e.upto),
             };
         }
-        let after = next_escape(s, next.upto);
-        c = Offsets {
-            origin: next.upto,
-            passed: c.passed + (next.from - c.origin),
-            next: after,
-        };
-        next = after;
-    }
-    Offset {
-        value: c.origin + (x - c.passed),
-        offsets: c,
+        Offset {
+            value: o.origin + (x - o.passed),
+            offsets: o,
+        }
     }
 }

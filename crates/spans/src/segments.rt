@@ -1,17 +1,16 @@
 // Line::new and Line::new_search: each match, and each segment before, between and after matches, read by itself.
 ghost use Rattle.std.specs.Prelude.{◌≡◌, length};
+ghost use Rattle.std.specs.Iterator.{YieldsFirst, item_count};
 ghost use Rattle.text.specs.Class.Code.{profile_of};
-ghost use Rattle.spans.specs.Segments.{spent, OutsideReady, InsideReady, Sound, OutsideBegun, Advanced, AdvanceReady, SpentSkipped, NextRecordReady, RecordStep, HasNext, BeginReady, Begun};
+ghost use Rattle.spans.specs.Segments.{spent, OutsideReady, InsideReady, OutsideBegun, Advanced, AdvanceReady, BeginReady, Begun, IsReady, records_left};
 
 use super::Span;
 use super::reader::{Matched, Place, next_span};
-use super::search::{Offsets, first_offsets, offset_at, trimmed_len};
-use buffer::smaller;
-use text::BytePlace;
+use super::search::{Offsets, without_newline};
 use text::class::Profile;
 
 // Where a reading of a line stands: a place in a segment, the segment's end, the match that it is or that follows it, the next number
-// of the match ranges, and the conversion of offsets. `count` spans stand before it.
+// of the match ranges, and the conversion of offsets.
 #[derive(Clone, Copy)]
 pub struct Cursor {
     pub place: Place,
@@ -19,187 +18,126 @@ pub struct Cursor {
     pub matched: Matched,
     pub index: usize,
     pub offsets: Offsets,
-    pub count: usize,
 }
 
-// A record of the span list, and where the reading stands behind it.
+// A line, and the match ranges of its text searched.
 #[derive(Clone, Copy)]
-pub struct NextRecord {
-    pub span: Span,
-    pub cursor: Cursor,
+struct Searched<'a> {
+    line: &'a [u8],
+    matches: &'a [usize],
 }
 
-// The segment from `start` to match `number`, or to the line's end where there is none.
-fn outside(line: &[u8], matches: &[usize], start: usize, number: usize, c: Cursor) -> Cursor
-    requires { OutsideReady line.now matches.now number c }
-    ensures { OutsideBegun line.now matches.now start number c result }
-{
-    let index = c.index;
-    let offsets = c.offsets;
-    if index < matches.len() {
-        let n = trimmed_len(line);
-        let o = offset_at(&line[..n], offsets, matches[index]);
-        let after = o.offsets;
-        return Cursor {
+impl<'a> Searched<'a> {
+    // The segment from `start` to match `number`, or to the line's end where there is none.
+    fn outside(self, start: usize, number: usize, index: usize, offsets: Offsets) -> Cursor
+        requires { OutsideReady self.line.now self.matches.now number index offsets }
+        ensures { OutsideBegun self.entry.line.now self.entry.matches.now start number index result }
+    {
+        let begun = Cursor {
             place: Place { at: start, run: 0 },
-            end: o.value,
-            matched: Matched {
-                kind: 1,
-                number: number,
-            },
-            index: index + 1,
-            offsets: after,
-            count: c.count,
+            end: self.line.len(),
+            matched: Matched::Before(number),
+            index,
+            offsets,
         };
+        if index < self.matches.len() {
+            let o = offsets.convert(without_newline(self.line), self.matches[index]);
+            return Cursor {
+                end: o.value,
+                index: index + 1,
+                offsets: o.offsets,
+                ..begun
+            };
+        }
+        begun
     }
-    Cursor {
-        place: Place { at: start, run: 0 },
-        end: line.len(),
-        matched: Matched {
-            kind: 1,
-            number: number,
-        },
-        index: index,
-        offsets: offsets,
-        count: c.count,
-    }
-}
 
-// Match `number` behind the segment that ends where it begins.
-fn inside(line: &[u8], matches: &[usize], c: Cursor) -> Cursor
-    requires { InsideReady line.now matches.now c }
-    ensures { Advanced line.now matches.now c result }
-{
-    let index = c.index;
-    let offsets = c.offsets;
-    let m = c.matched;
-    let n = trimmed_len(line);
-    let o = offset_at(&line[..n], offsets, matches[index]);
-    let after = o.offsets;
-    Cursor {
-        place: Place { at: c.end, run: 0 },
-        end: o.value,
-        matched: Matched {
-            kind: 2,
-            number: m.number,
-        },
-        index: index + 1,
-        offsets: after,
-        count: c.count,
-    }
-}
-
-// Has the segment no bytes left, and does another follow?
-fn is_spent(line: &[u8], matches: &[usize], c: Cursor) -> bool
-    ensures { result ≡ spent (length line.now) (length matches.now) c }
-{
-    let p = c.place;
-    let m = c.matched;
-    ((c.end <= p.at) | (line.len() <= p.at)) & ((m.kind == 2) | (c.index < matches.len()))
-}
-
-// The segment behind one that has no bytes left.
-fn advance(line: &[u8], matches: &[usize], c: Cursor) -> Cursor
-    requires { AdvanceReady line.now matches.now c }
-    ensures { Advanced line.now matches.now c result }
-{
-    let m = c.matched;
-    if m.kind == 2 {
-        return outside(line, matches, c.end, m.number + 1, c);
-    }
-    inside(line, matches, c)
-}
-
-// The first segment behind this one that has bytes left, if there is one.
-fn skip_spent(line: &[u8], matches: &[usize], c: Cursor) -> Cursor
-    requires { Sound line.now matches.now c }
-    ensures { SpentSkipped line.now matches.now c result }
-{
-    let mut d = c;
-    while is_spent(line, matches, d) {
-        d = advance(line, matches, d);
-    }
-    d
-}
-
-// The first segment from here on that has bytes left, if there is one: mostly this one.
-fn settle(line: &[u8], matches: &[usize], c: Cursor) -> Cursor
-    requires { Sound line.now matches.now c }
-    ensures { SpentSkipped line.now matches.now c result }
-{
-    if is_spent(line, matches, c) {
-        return skip_spent(line, matches, c);
-    }
-    c
-}
-
-// The next record; behind the last span a record of zeros.
-pub(crate) fn next_record(profile: Profile, line: &[u8], matches: &[usize], c: Cursor) -> NextRecord
-    requires { NextRecordReady line.now matches.now c }
-    ensures { RecordStep (profile_of profile) line.now matches.now c result }
-{
-    let d = settle(line, matches, c);
-    let end = smaller(d.end, line.len());
-    let place = d.place;
-    let offsets = d.offsets;
-    let m = d.matched;
-    if place.at < end {
-        let n = next_span(profile, &line[..end], place, m);
-        let span = n.span;
-        let after = n.place;
-        return NextRecord {
-            span: span,
-            cursor: Cursor {
-                place: after,
-                end: d.end,
-                matched: m,
-                index: d.index,
-                offsets: offsets,
-                count: d.count + 1,
-            },
-        };
-    }
-    NextRecord {
-        span: Span {
-            kind: 0,
-            place: BytePlace(0),
-            len: 0,
-            matched: 0,
-        },
-        cursor: d,
-    }
-}
-
-// Has the reading a span before it?
-pub(crate) fn has_next(line: &[u8], matches: &[usize], c: Cursor) -> bool
-    requires { Sound line.now matches.now c }
-    ensures { HasNext line.now matches.now c result }
-{
-    let d = skip_spent(line, matches, c);
-    let end = smaller(d.end, line.len());
-    let place = d.place;
-    place.at < end
-}
-
-// The beginning of a line, where the match ranges pass question 3.
-pub(crate) fn begin(line: &[u8], matches: &[usize]) -> Cursor
-    requires { BeginReady line.now matches.now }
-    ensures { Begun line.now matches.now result }
-{
-    let n = trimmed_len(line);
-    let offsets = first_offsets(&line[..n]);
-    outside(
-        line,
-        matches,
-        0,
-        0,
+    // Match `number` after the segment that ends where it begins.
+    fn inside(self, number: usize, c: Cursor) -> Cursor
+        requires { InsideReady self.line.now self.matches.now number c }
+        ensures { Advanced self.entry.line.now self.entry.matches.now c result }
+    {
+        let o = c
+            .offsets
+            .convert(without_newline(self.line), self.matches[c.index]);
         Cursor {
-            place: Place { at: 0, run: 0 },
-            end: 0,
-            matched: Matched { kind: 2, number: 0 },
-            index: 0,
-            offsets: offsets,
-            count: 0,
-        },
-    )
+            place: Place { at: c.end, run: 0 },
+            end: o.value,
+            matched: Matched::Match(number),
+            index: c.index + 1,
+            offsets: o.offsets,
+        }
+    }
+
+    // Has the segment no bytes left, and does another follow?
+    fn is_spent(self, c: Cursor) -> bool
+        ensures { result ≡ spent (length self.entry.line.now) (length self.entry.matches.now) c }
+    {
+        let at = c.place.at;
+        ((c.end <= at) | (self.line.len() <= at))
+            & (matches!(c.matched, Matched::Match(_)) | (c.index < self.matches.len()))
+    }
+
+    // The segment after one that has no bytes left.
+    fn advance(self, c: Cursor) -> Cursor
+        requires { AdvanceReady self.line.now self.matches.now c }
+        ensures { Advanced self.entry.line.now self.entry.matches.now c result }
+    {
+        match c.matched {
+            Matched::Match(number) => self.outside(c.end, number + 1, c.index, c.offsets),
+            Matched::Before(number) => self.inside(number, c),
+        }
+    }
+}
+
+// The records of a line's spans, one after the other.
+#[derive(Drop)]
+pub(crate) struct Records<'a> {
+    profile: Profile,
+    searched: Searched<'a>,
+    cursor: Cursor,
+}
+
+impl<'a> Records<'a> {
+    // All records of a line, where the match ranges pass question 3.
+    pub(crate) fn begin(profile: Profile, line: &'a [u8], matches: &'a [usize]) -> Records<'a>
+        requires { BeginReady line.now matches.now }
+        ensures { Begun (profile_of profile) line.now matches.now result }
+    {
+        let searched = Searched { line, matches };
+        let offsets = Offsets::begin(without_newline(line));
+        Records {
+            profile,
+            searched,
+            cursor: searched.outside(0, 0, 0, offsets),
+        }
+    }
+}
+
+impl<'a> Iterator for Records<'a> {
+    type Item = Span;
+
+    ghost can_next = { IsReady };
+
+    ghost next_gives = { YieldsFirst records_left };
+
+    ghost remaining = { item_count records_left };
+
+    fn next(&mut self) -> Option<Span> {
+        while self.searched.is_spent(self.cursor) {
+            self.cursor = self.searched.advance(self.cursor);
+        }
+        let end = self.cursor.end.min(self.searched.line.len());
+        if end <= self.cursor.place.at {
+            return None;
+        }
+        let next = next_span(
+            self.profile,
+            &self.searched.line[..end],
+            self.cursor.place,
+            self.cursor.matched,
+        );
+        self.cursor.place = next.place;
+        Some(next.span)
+    }
 }

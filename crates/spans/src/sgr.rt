@@ -1,11 +1,11 @@
-// Style orders: the parameters behind `ESC [`, and what the known ones say (ECMA-48, SGR, as document 01 cuts it).
-ghost use Rattle.std.specs.Prelude.{◌≡◌, true, cond, ◌+◌, ◌<◌, ◌^◌};
-ghost use Rattle.spans.specs.Sgr.{digit, known, meaning_of, coloured, meaning_after};
-ghost use Rattle.spans.specs.Sgr.Contracts.{more, eights, Scanned, NextOrderAt};
+// Style orders: the parameters after `ESC [`, and what the known ones say (ECMA-48, SGR, as document 01 cuts it).
+ghost use Rattle.std.specs.Prelude.{◌≡◌, ◌≤◌, drop, fold, length};
+ghost use Rattle.std.specs.List.{prefix_len};
+ghost use Rattle.std.specs.Iterator.{YieldsFirst, item_count};
+ghost use Rattle.spans.specs.Sgr.{digit, parameters, orders, known, meaning_of, coloured, meaning_after};
+ghost use Rattle.spans.specs.Sgr.Contracts.{more, eights, Scanned, numbers_left, orders_left};
 
-use buffer::byte_at;
-
-#[derive(Clone, Copy)]
+#[derive(Clone, Copy, PartialEq, Eq, Debug)]
 pub enum Color {
     Default,
     Palette(u8),
@@ -13,7 +13,7 @@ pub enum Color {
 }
 
 // What a parameter, or a group of them, says.
-#[derive(Clone, Copy)]
+#[derive(Clone, Copy, PartialEq, Eq, Debug)]
 pub enum Sgr {
     Reset,
     Intensity(u8),
@@ -30,8 +30,8 @@ pub enum Sgr {
     UnderlineColor(Color),
 }
 
-// Which colour a group behind 38, 48 or 58 sets.
-#[derive(Clone, Copy)]
+// Which colour a group after 38, 48 or 58 sets.
+#[derive(Clone, Copy, PartialEq, Eq, Debug)]
 pub enum Target {
     Foreground,
     Background,
@@ -39,7 +39,7 @@ pub enum Target {
 }
 
 // Where a reading stands: between orders, or inside a group with what was read of it.
-#[derive(Clone, Copy)]
+#[derive(Clone, Copy, PartialEq, Eq, Debug)]
 pub enum ColorState {
     Ready,
     WantKind(Target),
@@ -50,7 +50,7 @@ pub enum ColorState {
 }
 
 // What a parameter says after those before it: an order, a part of a group, or nothing known.
-#[derive(Clone, Copy)]
+#[derive(Clone, Copy, PartialEq, Eq, Debug)]
 pub enum Meaning {
     Order(Sgr),
     Group(ColorState),
@@ -58,33 +58,33 @@ pub enum Meaning {
 }
 
 // The length of a run of parameters, and whether there are at most 32, each at most 65,535.
-#[derive(Clone, Copy)]
+#[derive(Clone, Copy, PartialEq, Eq, Debug)]
 pub struct Scan {
     pub len: usize,
     pub fine: bool,
 }
 
-// Where a reading of orders stands: the next parameter's place, and whether there is one.
+// The numbers of a run of parameters, one after the other: the bytes from the next parameter on, or none after the last. A number
+// stays as it is once it has passed 65,535.
 #[derive(Clone, Copy)]
-pub struct Orders {
-    pub at: usize,
-    pub further: bool,
+struct Parameters<'a> {
+    rest: Option<&'a [u8]>,
 }
 
-// The next order and where the reading stands after it, or none.
+// The orders that the parameters from a place on give, up to the first unknown parameter.
 #[derive(Clone, Copy)]
-pub enum NextOrder {
-    Order(Sgr, Orders),
-    End,
+pub struct Orders<'a> {
+    parameters: Parameters<'a>,
 }
 
 fn is_digit(b: u8) -> bool
     ensures { result ≡ digit b }
 {
-    (0x30 <= b) & (b <= 0x39)
+    matches!(b, b'0'..=b'9')
 }
 
 // The number v with one digit more; past 65,535 it stays as it is.
+#[tactic(auto, unfolding(crate::specs::Sgr::Contracts::more))]
 fn with_digit(v: usize, b: u8) -> usize
     ensures { result ≡ more v b }
 {
@@ -92,6 +92,21 @@ fn with_digit(v: usize, b: u8) -> usize
         return v * 10 + (b % 16) as usize;
     }
     v
+}
+
+// The number of the digits in front.
+fn digits_len(s: &[u8]) -> usize
+    ensures digits { result ≡ prefix_len digit s.now }
+    ensures inside { result ≤ length s.now }
+{
+    s.iter().take_while(|b| is_digit(**b)).count()
+}
+
+// The number that digits write.
+fn number(digits: &[u8]) -> usize
+    ensures { result ≡ fold more 0 digits.now }
+{
+    digits.iter().fold(0, |v, b| with_digit(v, *b))
 }
 
 // The parameters that the bytes begin with.
@@ -129,6 +144,7 @@ pub(crate) fn scan_parameters(s: &[u8]) -> Scan
     }
 }
 
+#[tactic(auto, unfolding(crate::specs::Sgr::coloured))]
 fn coloured(t: Target, c: Color) -> Sgr
     ensures { result ≡ coloured t c }
 {
@@ -140,25 +156,21 @@ fn coloured(t: Target, c: Color) -> Sgr
 }
 
 // The sixteen colours of the palette.
+#[tactic(auto, unfolding(crate::specs::Sgr::meaning_of, crate::specs::Sgr::Contracts::eights))]
 fn palette_order(p: usize) -> Meaning
     ensures { result ≡ meaning_of eights p }
 {
-    if (30 <= p) & (p <= 37) {
-        return Meaning::Order(Sgr::Foreground(Color::Palette((p - 30) as u8)));
+    match p {
+        30..=37 => Meaning::Order(Sgr::Foreground(Color::Palette((p - 30) as u8))),
+        40..=47 => Meaning::Order(Sgr::Background(Color::Palette((p - 40) as u8))),
+        90..=97 => Meaning::Order(Sgr::Foreground(Color::Palette((p - 82) as u8))),
+        100..=107 => Meaning::Order(Sgr::Background(Color::Palette((p - 92) as u8))),
+        _ => Meaning::Unknown,
     }
-    if (40 <= p) & (p <= 47) {
-        return Meaning::Order(Sgr::Background(Color::Palette((p - 40) as u8)));
-    }
-    if (90 <= p) & (p <= 97) {
-        return Meaning::Order(Sgr::Foreground(Color::Palette((p - 82) as u8)));
-    }
-    if (100 <= p) & (p <= 107) {
-        return Meaning::Order(Sgr::Background(Color::Palette((p - 92) as u8)));
-    }
-    Meaning::Unknown
 }
 
 // What a parameter says that is in no group.
+#[tactic(auto, unfolding(crate::specs::Sgr::meaning_of, crate::specs::Sgr::known))]
 fn meaning_of(p: usize) -> Meaning
     ensures { result ≡ meaning_of known p }
 {
@@ -197,104 +209,79 @@ fn meaning_of(p: usize) -> Meaning
 }
 
 // What a parameter says after those before it.
+#[tactic(auto, unfolding(crate::specs::Sgr::meaning_after))]
 fn meaning_after(w: ColorState, p: usize) -> Meaning
     ensures { result ≡ meaning_after w p }
 {
-    match w {
-        ColorState::Ready => meaning_of(p),
-        ColorState::WantKind(t) => {
-            if p == 5 {
-                return Meaning::Group(ColorState::WantIndex(t));
-            }
-            if p == 2 {
-                Meaning::Group(ColorState::WantRed(t))
-            } else {
-                Meaning::Unknown
-            }
-        }
-        ColorState::WantIndex(t) => {
-            if p <= 255 {
-                Meaning::Order(coloured(t, Color::Palette(p as u8)))
-            } else {
-                Meaning::Unknown
-            }
-        }
-        ColorState::WantRed(t) => {
-            if p <= 255 {
-                Meaning::Group(ColorState::WantGreen(t, p as u8))
-            } else {
-                Meaning::Unknown
-            }
-        }
-        ColorState::WantGreen(t, r) => {
-            if p <= 255 {
-                Meaning::Group(ColorState::WantBlue(t, r, p as u8))
-            } else {
-                Meaning::Unknown
-            }
-        }
-        ColorState::WantBlue(t, r, g) => {
-            if p <= 255 {
-                Meaning::Order(coloured(t, Color::Rgb(r, g, p as u8)))
-            } else {
-                Meaning::Unknown
-            }
+    match (w, p) {
+        (ColorState::Ready, _) => meaning_of(p),
+        (ColorState::WantKind(t), 5) => Meaning::Group(ColorState::WantIndex(t)),
+        (ColorState::WantKind(t), 2) => Meaning::Group(ColorState::WantRed(t)),
+        (ColorState::WantIndex(t), 0..=255) => Meaning::Order(coloured(t, Color::Palette(p as u8))),
+        (ColorState::WantRed(t), 0..=255) => Meaning::Group(ColorState::WantGreen(t, p as u8)),
+        (ColorState::WantGreen(t, r), 0..=255) => Meaning::Group(ColorState::WantBlue(
+            t, r, p as u8,
+        )),
+        (ColorState::WantBlue(t, r, g), 0..=255) => Meaning::Order(coloured(
+            t,
+            Color::Rgb(r, g, p as u8),
+        )),
+        _ => Meaning::Unknown,
+    }
+}
+
+// The bytes from a place on; none where the bytes end before it.
+pub(crate) fn bytes_from(s: &[u8], at: usize) -> &[u8]
+    ensures { result.now ≡ drop at s.now }
+{
+    s.get(at..).unwrap_or(&[])
+}
+
+impl<'a> Iterator for Parameters<'a> {
+    type Item = usize;
+
+    ghost next_gives = { YieldsFirst numbers_left };
+
+    ghost remaining = { item_count numbers_left };
+
+    fn next(&mut self) -> Option<usize> {
+        let s = self.rest?;
+        let n = digits_len(s);
+        self.rest = s[n..].strip_prefix(b";");
+        Some(number(&s[..n]))
+    }
+}
+
+impl<'a> Orders<'a> {
+    // The orders of the parameters at a place.
+    pub fn at(s: &'a [u8], at: usize) -> Orders<'a>
+        ensures { orders_left result ≡ orders (parameters 0 (drop at s.now)) }
+    {
+        Orders {
+            parameters: Parameters {
+                rest: Some(bytes_from(s, at)),
+            },
         }
     }
 }
 
-// Past the `;` at a place, where a further parameter follows it.
-fn past_separator(at: usize, further: bool) -> usize
-    requires { further ≡ true → at + 1 < 2 ^ 64 }
-    ensures { result ≡ cond further (at + 1) at }
-{
-    if further {
-        return at + 1;
-    }
-    at
-}
+impl<'a> Iterator for Orders<'a> {
+    type Item = Sgr;
 
-// The next order, and where the reading stands after it. The reading is left at an order and at the first unknown parameter, and ends
-// after the last one.
-pub fn next_order(s: &[u8], c: Orders) -> NextOrder
-    ensures { NextOrderAt s.now c result }
-{
-    let mut i = c.at;
-    let mut further = c.further;
-    let mut wait = ColorState::Ready;
-    let mut next = NextOrder::End;
-    'params: while further {
-        let mut v: usize = 0;
-        'digits: loop {
-            let b = byte_at(s, i);
-            if is_digit(b) {
-                v = with_digit(v, b);
-                i += 1;
-            } else {
-                further = b == b';';
-                break 'digits;
+    ghost next_gives = { YieldsFirst orders_left };
+
+    ghost remaining = { item_count orders_left };
+
+    fn next(&mut self) -> Option<Sgr> {
+        let mut wait = ColorState::Ready;
+        'parameters: while let Some(p) = self.parameters.next() {
+            match meaning_after(wait, p) {
+                Meaning::Order(o) => return Some(o),
+                Meaning::Group(w) => wait = w,
+                Meaning::Unknown => break 'parameters,
             }
         }
-        i = past_separator(i, further);
-        let step = meaning_after(wait, v);
-        match step {
-            Meaning::Order(o) => {
-                next = NextOrder::Order(
-                    o,
-                    Orders {
-                        at: i,
-                        further: further,
-                    },
-                );
-                break 'params;
-            }
-            Meaning::Group(w) => {
-                wait = w;
-            }
-            Meaning::Unknown => {
-                break 'params;
-            }
-        }
+        self.parameters.rest = None;
+        None
     }
-    next
 }

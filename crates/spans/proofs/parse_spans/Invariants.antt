@@ -1,9 +1,13 @@
-use Rattle.std.proofs.Common.{◌≡◌, ◌-◌, length}
-use Rattle.spans.proofs.ReadCall.{ParseLoop}
+use Rattle.std.proofs.Common.{◌≡◌, ◌++◌, ◌≤◌, length, take}
+use Rattle.spans.specs.Segments.{IsReady, records_left}
 use Rattle.spans.proofs.parse_spans.Given as goal
 
-abbrev pub invariant-loop-i : goal.invariant-loop-i
-invariant-loop-i l = ParseLoop l.conv l.matches l.fn.start (length l.initial.spans) l.i l.c l.spans × (length l.spans ≡ length l.initial.spans)
+abbrev pub invariant-loop-span : goal.invariant-loop-span
+invariant-loop-span l = record {
+  ready : IsReady l.records;
+  same : take l.count l.spans ++ records_left l.records ≡ records_left l.initial.records;
+  fits : l.count ≤ length l.spans;
+}
 
-abbrev pub decreases-loop-i : goal.decreases-loop-i
-decreases-loop-i l = length l.initial.spans - l.i
+abbrev pub decreases-loop-span : goal.decreases-loop-span
+decreases-loop-span l = length (records_left l.records)

@@ -28,20 +28,20 @@ module _ (P : Profile) (conv places : ℕ) (matches line : List ℕ) where
   abbrev read_by : ℕ → Read
   read_by r = record { number = r; count = counted (length found) r; conv = lent 0 conv (convert P line) r; spans = lent no_record places (records found) r }
 
-  read_by_law : read_call P conv places matches line ≡ read_by (decide read_questions)
+  pub read_law : read_call P conv places matches line ≡ read_by (decide read_questions)
   unfolding read_call
-  read_by_law = refl
+  read_law = refl
 
   pub read_number : (read_call P conv places matches line).number ≡ decide read_questions
-  read_number = ap (λ (x : Read). x.number) read_by_law
+  read_number = ap (λ (x : Read). x.number) read_law
 
   -- accepted
   pub read_accepted : (read_call P conv places matches line).number ≡ 0 → read_call P conv places matches line ≡ record { number = 0; count = length found; conv = convert P line ++ replicate (conv - length (convert P line)) 0; spans = records found ++ replicate (places - length (records found)) no_record }
-  read_accepted e = read_by_law ∙ ap read_by (sym read_number ∙ e) ∙ rw (counted_accepted, lent_accepted {A = ℕ} 0, lent_accepted no_record) refl
+  read_accepted e = read_law ∙ ap read_by (sym read_number ∙ e) ∙ rw (counted_accepted, lent_accepted {A = ℕ} 0, lent_accepted no_record) refl
 
   -- refused
   pub read_refused : (r : ℕ) → (read_call P conv places matches line).number ≡ suc r → read_call P conv places matches line ≡ record { number = suc r; count = 0; conv = replicate conv 0; spans = replicate places no_record }
-  read_refused r e = read_by_law ∙ ap read_by (sym read_number ∙ e) ∙ rw (counted_refused, lent_refused {A = ℕ} 0, lent_refused no_record) refl
+  read_refused r e = read_law ∙ ap read_by (sym read_number ∙ e) ∙ rw (counted_refused, lent_refused {A = ℕ} 0, lent_refused no_record) refl
 
   pub read_passed : (read_call P conv places matches line).number ≡ 0 → Passed P conv matches line
   read_passed e =

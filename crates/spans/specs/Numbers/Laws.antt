@@ -12,20 +12,21 @@ use Rattle.spans.specs.Calls.{Read, no_record}
 use Rattle.spans.specs.Calls.Contracts.{read_as}
 use Rattle.spans.specs.Numbers.{numbers_of, numbers_of_all, places_in, ReadNumbers}
 
-pub push_four : (s s₁ s₂ s₃ s₄ : Sink) (a b c d : ℕ) → s₁ ≡ put s a → s₂ ≡ put s₁ b → s₃ ≡ put s₂ c → s₄ ≡ put s₃ d → s₄ ≡ emit s (a ∷ b ∷ c ∷ d ∷ [])
+-- four pushes are one of four
+pub push_four : (s s₁ s₂ s₃ s₄ : Sink ℕ) (a b c d : ℕ) → s₁ ≡ put s a → s₂ ≡ put s₁ b → s₃ ≡ put s₂ c → s₄ ≡ put s₃ d → s₄ ≡ emit s (a ∷ b ∷ c ∷ d ∷ [])
 unfolding emit
-push_four s s₁ s₂ s₃ s₄ a b c d e f g h = h ∙ ap (λ (k : Sink). put k d) (g ∙ ap (λ (k : Sink). put k c) (f ∙ ap (λ (k : Sink). put k b) e))
+push_four s s₁ s₂ s₃ s₄ a b c d e f g h = h ∙ ap (λ (k : Sink ℕ). put k d) (g ∙ ap (λ (k : Sink ℕ). put k c) (f ∙ ap (λ (k : Sink ℕ). put k b) e))
 
 -- ---- `write_numbers`: a turn, and the end
 
-pub push_turn : (rs : List Record) (i : ℕ) (l l' : List ℕ) (at r : ℕ) {e : Sink} → i < length rs → emit (sink l at) (numbers_of_all (drop i rs)) ≡ e → sink l' r ≡ emit (sink l at) (numbers_of (get_or rs i no_record)) → emit (sink l' r) (numbers_of_all (drop (i + 1) rs)) ≡ e
+pub push_turn : (rs : List Record) (i : ℕ) (l l' : List ℕ) (at r : ℕ) {e : Sink ℕ} → i < length rs → emit (sink l at) (numbers_of_all (drop i rs)) ≡ e → sink l' r ≡ emit (sink l at) (numbers_of (get_or rs i no_record)) → emit (sink l' r) (numbers_of_all (drop (i + 1) rs)) ≡ e
 unfolding numbers_of_all
 push_turn rs i l l' at r h w s =
     let y : Record = get_or rs i no_record in
     let d : drop i rs ≡ y ∷ drop (i + 1) rs = drop-cons rs i no_record h ∙ ap (λ (k : ℕ). y ∷ drop k rs) (sym (add-one i)) in
-    ap (λ (k : Sink). emit k (numbers_of_all (drop (i + 1) rs))) s ∙ sym (emit_append (sink l at) (numbers_of y) (numbers_of_all (drop (i + 1) rs))) ∙ ap (λ (ys : List Record). emit (sink l at) (numbers_of_all ys)) (sym d) ∙ w
+    ap (λ (k : Sink ℕ). emit k (numbers_of_all (drop (i + 1) rs))) s ∙ sym (emit_append (sink l at) (numbers_of y) (numbers_of_all (drop (i + 1) rs))) ∙ ap (λ (ys : List Record). emit (sink l at) (numbers_of_all ys)) (sym d) ∙ w
 
-push_end : (rs : List Record) (i : ℕ) (s : Sink) {e : Sink} → length rs ≤ i → emit s (numbers_of_all (drop i rs)) ≡ e → s ≡ e
+push_end : (rs : List Record) (i : ℕ) (s : Sink ℕ) {e : Sink ℕ} → length rs ≤ i → emit s (numbers_of_all (drop i rs)) ≡ e → s ≡ e
 unfolding numbers_of_all
 push_end rs i s h w = sym (emit_none s) ∙ ap (λ (ys : List Record). emit s (numbers_of_all ys)) (sym (drop_of_length-le rs h)) ∙ w
 
@@ -42,10 +43,10 @@ numbers_take (r ∷ rs) zs (suc k) h =
     let e : 4 * suc k ≡ suc (suc (suc (suc (4 * k)))) = omega arith in
     rw e (ap (λ (l : List ℕ). numbers_of r ++ l) (numbers_take rs zs k (omega arith)))
 
-abbrev list_of : Sink → List ℕ
+abbrev list_of : Sink ℕ → List ℕ
 list_of (sink l n) = l
 
-abbrev count_of : Sink → ℕ
+abbrev count_of : Sink ℕ → ℕ
 count_of (sink l n) = n
 
 pub numbers_end : (before pushed : List ℕ) (rs : List Record) (i n : ℕ) {after : List ℕ} → 4 * length rs ≤ length before → length pushed ≡ length before → length rs ≤ i → emit (sink pushed n) (numbers_of_all (drop i rs)) ≡ emit (sink before 0) (numbers_of_all rs)

@@ -1,31 +1,27 @@
 -- What the contracts of src/search.rt say beyond the definitions.
-use Rattle.std.specs.Prelude.{◌≡◌, ℕ, ◌+◌, ◌-◌, ◌≤◌, ◌<◌, Bool, true, false, cond, ◌&&◌, List, [], ◌∷◌, length, drop, leb, ltb}
+use Rattle.std.specs.Prelude.{◌≡◌, ℕ, ◌+◌, ◌-◌, ◌≤◌, ◌<◌, Bool, cond, ◌&&◌, List, [], ◌∷◌, length, drop, leb, ltb, Option, Some, None, MatchOption, IfSome}
 use Rattle.spans.specs.Search.{EscapeRange, escape_range, escape_match, escapes_from, length_of, offset_from}
 use Rattle.spans.specs.declared.search.Escape.{Escape}
 use Rattle.spans.specs.declared.search.Offsets.{Offsets}
 use Rattle.spans.specs.declared.search.Offset.{Offset}
 
-pub record EscapeMatchReady (s : List ℕ) (at : ℕ) : Type 0 where
-  pub here : at < length s
-  pub small : length s ≤ 65536
-
--- the ESCAPE_SEQUENCE match at a place has r bytes
-pub record EscapeMatched (s : List ℕ) (at r : ℕ) : Type 0 where
-  pub same : r ≡ escape_match (drop at s)
-  pub fits : at + r ≤ length s
+-- the length of the ESCAPE_SEQUENCE match that the bytes begin with
+abbrev pub EscapeMatched : List ℕ → Option ℕ → Type 0
+EscapeMatched s r = MatchOption r (escape_match s ≡ 0) (λ n. (escape_match s ≡ n) × (1 ≤ n) × (n ≤ length s))
 
 -- the matches from a place on
 abbrev pub escapes_at : List ℕ → ℕ → List EscapeRange
 escapes_at s at = escapes_from at 0 (drop at s)
 
-unfoldable pub escapes_of : List ℕ → Escape → List EscapeRange
+unfoldable pub escapes_of : List ℕ → Option Escape → List EscapeRange
 unfolding escapes_from
-escapes_of s e = cond e.found (escape_range e.from e.upto ∷ escapes_at s e.upto) []
+escapes_of s None = []
+escapes_of s (Some e) = escape_range e.from e.upto ∷ escapes_at s e.upto
 
--- the first of some matches, or zeros
-unfoldable pub escape_of : List EscapeRange → Escape
-escape_of [] = record { from = 0; upto = 0; found = false }
-escape_of (r ∷ rs) = record { from = r.from; upto = r.upto; found = true }
+-- the first of some matches
+unfoldable pub escape_of : List EscapeRange → Option Escape
+escape_of [] = None
+escape_of (r ∷ rs) = Some (record { from = r.from; upto = r.upto })
 
 -- a match lies where it was looked for
 pub record EscapeInside (s : List ℕ) (at : ℕ) (e : Escape) : Type 0 where
@@ -33,10 +29,14 @@ pub record EscapeInside (s : List ℕ) (at : ℕ) (e : Escape) : Type 0 where
   pub some : e.from < e.upto
   pub inside : e.upto ≤ length s
 
-pub record NextEscape (s : List ℕ) (at : ℕ) (e : Escape) : Type 0 where
+-- so does the one that was found, if any
+abbrev pub EscapeLies : List ℕ → ℕ → Option Escape → Type 0
+EscapeLies s at r = IfSome r (EscapeInside s at)
+
+pub record NextEscape (s : List ℕ) (at : ℕ) (e : Option Escape) : Type 0 where
   pub exact : e ≡ escape_of (escapes_at s at)
   pub same : escapes_of s e ≡ escapes_at s at
-  pub lies : e.found ≡ true → EscapeInside s at e
+  pub lies : EscapeLies s at e
 
 pub record EscapesLength (s : List ℕ) (r : ℕ) : Type 0 where
   pub same : r ≡ length_of (escapes_from 0 0 s)
@@ -68,7 +68,7 @@ pub record OffsetsFrom (s : List ℕ) (last : ℕ) (o : Offsets) : Type 0 where
   pub same : (x : ℕ) → last ≤ x → offset_on s o x ≡ offset_from 0 x (escapes_from 0 0 s)
   pub passed : o.passed ≤ last
   pub inside : o.origin ≤ length s
-  pub lies : o.next.found ≡ true → EscapeInside s o.origin o.next
+  pub lies : EscapeLies s o.origin o.next
   pub next : o.next ≡ escape_of (escapes_of s o.next)
 
 pub record FirstOffsets (s : List ℕ) (r : Offsets) : Type 0 where

@@ -1,19 +1,15 @@
 -- What the contracts of src/sgr.rt say beyond the definitions.
-use Rattle.std.specs.Prelude.{◌≡◌, ℕ, ◌+◌, ◌*◌, ◌%◌, ◌≤◌, true, false, cond, List, [], ◌∷◌, length, drop, eqb, leb}
-use Rattle.std.proofs.Math.Path.{refl, ap}
-use Rattle.spans.specs.Sgr.{digit, parameters, allowed, Known, eight, meaning_after, orders}
+use Rattle.std.specs.Prelude.{◌≡◌, ℕ, ◌+◌, ◌*◌, ◌%◌, ◌≤◌, cond, List, [], ◌∷◌, length, drop, eqb, leb, Option, Some, None}
+use denote.Ref.{Bor}
+use Rattle.spans.specs.Sgr.{digit, parameters, allowed, Known, eight, orders_from, orders}
 use Rattle.spans.specs.Sequence.{leading, parameter_byte}
 use Rattle.spans.specs.declared.sgr.Color.TheVariants.{Palette}
 use Rattle.spans.specs.declared.sgr.Sgr.{Sgr}
 use Rattle.spans.specs.declared.sgr.Sgr.TheVariants.{Foreground, Background}
 use Rattle.spans.specs.declared.sgr.Scan.{Scan}
-use Rattle.spans.specs.declared.sgr.ColorState.{ColorState}
 use Rattle.spans.specs.declared.sgr.ColorState.TheVariants.{Ready}
-use Rattle.spans.specs.declared.sgr.Meaning.{Meaning}
-use Rattle.spans.specs.declared.sgr.Meaning.TheVariants as meaning
+use Rattle.spans.specs.declared.sgr.Parameters.{Parameters}
 use Rattle.spans.specs.declared.sgr.Orders.{Orders}
-use Rattle.spans.specs.declared.sgr.NextOrder.{NextOrder}
-use Rattle.spans.specs.declared.sgr.NextOrder.TheVariants.{Order, End}
 
 -- ---- parameters
 
@@ -42,55 +38,20 @@ pub record Scanned (s : List ℕ) (r : Scan) : Type 0 where
 unfoldable pub eights : List Known
 eights = eight 30 (λ k. Foreground (Palette k)) ∷ eight 40 (λ k. Background (Palette k)) ∷ eight 90 (λ k. Foreground (Palette (8 + k))) ∷ eight 100 (λ k. Background (Palette (8 + k))) ∷ []
 
--- the orders that a reading has before it
-unfoldable pub parameters_at : List ℕ → Orders → List ℕ
-unfolding parameters
-parameters_at s c = cond c.further (parameters 0 (drop c.at s)) []
+-- ---- parameters and orders one after the other
 
-unfoldable pub orders_at : List ℕ → Orders → List Sgr
-unfolding orders parameters_at
-orders_at s c = orders (parameters_at s c)
+-- the numbers that a reading of parameters has before it
+abbrev pub numbers_of_rest : Option (Bor (List ℕ)) → List ℕ
+numbers_of_rest None = []
+numbers_of_rest (Some s) = numbers 0 s.now
 
--- the orders that `next_order` gives: the first, and those that the reading after it has
-unfoldable pub orders_of : List ℕ → NextOrder → List Sgr
-unfolding orders_at
-orders_of s (Order o c) = o ∷ orders_at s c
-orders_of s End = []
+abbrev pub numbers_left : Parameters → List ℕ
+numbers_left p = numbers_of_rest p.rest
 
--- what a parameter says: an order, after which the reading stands at c; a part of a group, and the reading goes on; or nothing known
-unfoldable pub onward : Meaning → Orders → (ColorState → NextOrder) → NextOrder
-onward (meaning.Order o) c go = Order o c
-onward (meaning.Group w) c go = go w
-onward meaning.Unknown c go = End
+-- the orders that a reading of orders has before it
+abbrev pub orders_left : Orders → List Sgr
+orders_left o = orders_from Ready (numbers_left o.parameters)
 
--- the reading of the bytes at place i, where w waits and v was read of a parameter
-unfoldable pub next_from : ColorState → (v i : ℕ) → List ℕ → NextOrder
-unfolding onward meaning_after more
-next_from w v i [] = onward (meaning_after w v) (record { at = i; further = false }) (λ x. End)
-next_from w v i (b ∷ s) =
-    let same : NextOrder = next_from w (more v b) (i + 1) s in
-    let next : NextOrder = onward (meaning_after w v) (record { at = i + 1; further = true }) (λ x. next_from x 0 (i + 1) s) in
-    cond (digit b) same (cond (eqb b 0x3B) next (onward (meaning_after w v) (record { at = i; further = false }) (λ x. End)))
-
-unfoldable pub next_order : List ℕ → Orders → NextOrder
-unfolding next_from
-next_order s c = cond c.further (next_from Ready 0 c.at (drop c.at s)) End
-
--- the next order: the orders are those that the parameters give, and the reading stands where the definition's does
-pub record NextOrderAt (s : List ℕ) (c : Orders) (r : NextOrder) : Type 0 where
-  pub orders : orders_of s r ≡ orders_at s c
-  pub exact : r ≡ next_order s c
-
-module _ (s : List ℕ) where
-  pub orders_from_law : (p : ℕ) → orders_at s (record { at = p; further = true }) ≡ orders (parameters 0 (drop p s))
-  unfolding orders_at parameters_at
-  orders_from_law p = refl
-
-  module _ (n : NextOrder) where
-    pub orders_next : (o : Sgr) (c : Orders) → n ≡ Order o c → orders_of s n ≡ o ∷ orders_at s c
-    unfolding orders_of
-    orders_next o c e = ap (orders_of s) e
-
-    pub orders_end : n ≡ End → orders_of s n ≡ []
-    unfolding orders_of
-    orders_end e = ap (orders_of s) e
+-- the orders that the bytes from a place on give
+abbrev pub orders_at : List ℕ → ℕ → List Sgr
+orders_at s at = orders (parameters 0 (drop at s))

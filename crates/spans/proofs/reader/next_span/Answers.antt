@@ -7,17 +7,17 @@ control_span-requires c = search control_ready
 pub returns-then-is_c0_not_cr : goal.returns-then-is_c0_not_cr
 returns-then-is_c0_not_cr c = search special_done
 
-pub returns-then-u-eq0 : goal.returns-then-u-eq0
-returns-then-u-eq0 c = search invalid_step
+pub returns-in_default : goal.returns-in_default
+returns-in_default c = invalid_step _ _ _ c.requires _ c.scalar_at.ensures _ _ c.in_default.is c.invalid_span.ensures
 
 pub mark_span-requires : goal.mark_span-requires
-mark_span-requires c = mark_ready _ _ _ c.before.before.before.before.before.before.before.before.before.before.before.before.requires _ c.before.before.before.before.before.before.before.scalar_at-u.ensures c.before.before.before.before.before.before.if-u-eq0.false _ c.before.before.before.before.before.next_cluster-step.ensures _ _ c.before.before.before.before.before.before.before.before.before.before.byte_at.ensures c.before.before.before.before.before.before.before.before.before.is_c0_not_cr.ensures c.before.before.before.before.before.before.before.before.if-is_c0_not_cr.false c.if-width-eq0.true
+mark_span-requires c = mark_ready _ _ _ c.requires _ c.in-Some.ensures _ c.next_cluster.ensures _ _ c.byte_at.ensures c.is_c0_not_cr.ensures c.if-is_c0_not_cr.false c.if-first-eq0.true
 
-pub returns-then-width-eq0 : goal.returns-then-width-eq0
-returns-then-width-eq0 c = search special_done
+pub returns-then-first-eq0 : goal.returns-then-first-eq0
+returns-then-first-eq0 c = search special_done
 
-pub text_span-span-requires : goal.text_span-span-requires
-text_span-span-requires c = search text_up
+pub text_span-requires : goal.text_span-requires
+text_span-requires c = text_up _ _ _ c.requires _ c.in-Some.ensures _ c.next_cluster.ensures c.if-first-eq0.false _ c.text_end-end.ensures
 
 pub returns : goal.returns
-returns c = search text_done
+returns c = text_done _ _ _ c.requires _ c.in-Some.ensures _ c.next_cluster.ensures c.if-first-eq0.false _ c.text_end-end.ensures _ _ c.text_span.ensures

@@ -1,14 +1,11 @@
-use Rattle.spans.proofs.Searching.{match_other, match_alone, match_some, match_none}
+use Rattle.spans.proofs.Searching.{match_unlike, match_some, match_none}
 use Rattle.spans.proofs.search.escape_match.Goals as goal
 
-pub returns-then-byte_at-ne27 : goal.returns-then-byte_at-ne27
-returns-then-byte_at-ne27 c = search match_other
+pub returns-in_err-rest : goal.returns-in_err-rest
+returns-in_err-rest c = rw c.from_residual.ensures (match_unlike _ _ c.strip_prefix.ensures.cases c.in_err-rest.was)
 
-pub returns-then-byte_at-ne91 : goal.returns-then-byte_at-ne91
-returns-then-byte_at-ne91 c = search match_alone
-
-pub returns-then-n-f : goal.returns-then-n-f
-returns-then-n-f c = search match_some
+pub returns-then-n-byte_at : goal.returns-then-n-byte_at
+returns-then-n-byte_at c = match_some _ _ c.strip_prefix.ensures.cases _ c.in_ok-rest.was _ _ c.sequence_len-n.ensures.bytes c.byte_at.ensures c.if-n-byte_at.true
 
 pub returns : goal.returns
-returns c = search match_none
+returns c = match_none _ _ c.strip_prefix.ensures.cases _ c.in_ok-rest.was _ _ c.sequence_len-n.ensures.bytes c.byte_at.ensures c.if-n-byte_at.false

@@ -1,17 +1,11 @@
-use Rattle.spans.proofs.Searching.{order_begins, order_odd, order_more, order_fails, order_ends}
+use Rattle.spans.proofs.Searching.{pair_fails, pair_passes, order_ends}
 use Rattle.spans.proofs.search.in_order.Goals as goal
 
-pub loop-i-init : goal.loop-i-init
-loop-i-init c = search order_begins
+pub returns-then-not-pair_in_order : goal.returns-then-not-pair_in_order
+returns-then-not-pair_in_order c = pair_fails _ _ _ _ c.loop-rest.invariant c.in-len2-up.len_at_least _ c.pair_in_order.ensures c.if-not-pair_in_order.true
 
-pub returns-then-matches-i-eq1 : goal.returns-then-matches-i-eq1
-returns-then-matches-i-eq1 c = search order_odd
-
-pub loop-i-preserved : goal.loop-i-preserved
-loop-i-preserved c = order_more _ _ _ _ c.before.before.before.before.before.before.loop-i.invariant _ c.before.before.before.before.before.loop-i-test.true c.before.before.before.before.if-matches-i-eq1.false c.before.pair_in_order.ensures c.if-pair_in_order.true
-
-pub returns-else-pair_in_order : goal.returns-else-pair_in_order
-returns-else-pair_in_order c = search order_fails
+pub loop-rest-preserved : goal.loop-rest-preserved
+loop-rest-preserved c = pair_passes _ _ _ _ c.loop-rest.invariant c.in-len2-up.len_at_least _ c.pair_in_order.ensures c.if-not-pair_in_order.false
 
 pub returns : goal.returns
-returns c = search order_ends
+returns c = order_ends _ _ _ _ c.loop-rest.invariant c.in_default.len_below _ c.is_empty.ensures

@@ -1,10 +1,9 @@
-use Prim.Native.Nat.{◌-◌}
-use lib.ListN.{length}
-use Rattle.spans.proofs.Searching.{OrderLoop}
+use Rattle.std.proofs.Common.{◌≡◌, length}
+use Rattle.spans.specs.Search.{in_order}
 use Rattle.spans.proofs.search.in_order.Given as goal
 
-abbrev pub invariant-loop-i : goal.invariant-loop-i
-invariant-loop-i l = OrderLoop l.matches l.most l.i l.e
+abbrev pub invariant-loop-rest : goal.invariant-loop-rest
+invariant-loop-rest l = in_order l.most l.end l.rest ≡ in_order l.most 0 l.matches
 
-abbrev pub decreases-loop-i : goal.decreases-loop-i
-decreases-loop-i l = length l.matches - l.i
+abbrev pub decreases-loop-rest : goal.decreases-loop-rest
+decreases-loop-rest l = length l.rest

@@ -1,5 +1,0 @@
-use Rattle.spans.proofs.Searching.{offsets_begin}
-use Rattle.spans.proofs.search.first_offsets.Goals as goal
-
-pub returns : goal.returns
-returns c = search offsets_begin
