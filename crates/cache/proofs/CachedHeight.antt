@@ -6,6 +6,8 @@ use native.Mathlib.Omega.{arith}
 use mathlib.Core.Bool.{true, false, cond}
 use mathlib.Core.List.{List, [], ◌∷◌, ◌++◌}
 use mathlib.Core.Option.{Option, none, some}
+use Rattle.std.proofs.Common.{None, Some}
+use Rattle.std.proofs.Common.{Option as Maybe}
 use lib.ListN.{length, take, replicate}
 use lib.Dec.{eqb, leb}
 use borrow.Author.Tests.{eq-eqb, ne_eqb, eqb-true, eqb-false, le-leb, leb-true}
@@ -27,9 +29,7 @@ use Rattle.cache.specs.Wraps.{Key, key, kept, find, with_wrap}
 use Rattle.cache.specs.Wraps.Contracts.{rows_found, kept_rows}
 use Rattle.cache.specs.Calls.{wrap_for, wraps_after, unless_refused, CachedHeight, cached_height_call}
 use Rattle.cache.specs.Calls.Contracts.{height_request, RememberReady, Remembered}
-use Rattle.cache.specs.Wraps.Laws.{kept_well}
-use Rattle.cache.specs.Wraps.Use.{found_has}
-use Rattle.cache.proofs.CachedRows.{rs, number, answer_of, request, answered_new, known_some, answer_zero, pairs_first}
+use Rattle.cache.proofs.CachedRows.{rs, number, answer_of, request, answered_new, answered_known, answer_zero, pairs_first}
 
 module _ (wraps : List ℕ) (size places width mode : ℕ) (line : List ℕ) where
   abbrev key_of : Key
@@ -82,7 +82,7 @@ module _ (wraps : List ℕ) (size places width mode : ℕ) (line : List ℕ) whe
 
       unwrapped_answer : read_as a cs sps ≡ height_of 1 four
       unwrapped_answer =
-          ap read_of (answer ∙ ap (λ (n : ℕ). answered (request wraps size places 2048 width mode line false n) size places 2048 line) (rw (eq-eqb mode 0 z) refl) ∙ answered_new wraps size places 2048 width mode line false)
+          ap read_of (answer ∙ ap (λ (n : Maybe ℕ). answered (request wraps size places 2048 width mode line false n) size places 2048 line) (rw (eq-eqb mode 0 z) refl) ∙ answered_new wraps size places 2048 width mode line false)
           ∙ rw (one_row_law, number_four 1) refl
 
       unwrapped_wraps : wraps₂ ≡ wraps
@@ -104,8 +104,8 @@ module _ (wraps : List ℕ) (size places width mode : ℕ) (line : List ℕ) whe
           by (suc r) = refl
 
     module _ (z : mode ≢ 0) where
-      asked_for : (n : ℕ) → kept_rows key_of wraps ≡ n → wrapped_as a cs sps l₁ ≡ answered (request wraps size places 2048 width mode line false n) size places 2048 line
-      asked_for n e = answer ∙ ap (λ (m : ℕ). answered (request wraps size places 2048 width mode line false m) size places 2048 line) (rw (ne_eqb mode 0 z) e)
+      asked_for : (n : Maybe ℕ) → kept_rows key_of wraps ≡ n → wrapped_as a cs sps l₁ ≡ answered (request wraps size places 2048 width mode line false n) size places 2048 line
+      asked_for n e = answer ∙ ap (λ (m : Maybe ℕ). answered (request wraps size places 2048 width mode line false m) size places 2048 line) (rw (ne_eqb mode 0 z) e)
 
       wraps_left : (found : Option Head) (r : ℕ) → find key_of (kept wraps) ≡ found → a.number ≡ r → wraps₂ ≡ unless_refused r (wraps_after wraps key_of found (record { count = a.count; numbers = take (2 * a.count) l₁ })) wraps
       wraps_left found r e f = left.left ∙ rw (e, f, ne_eqb mode 0 z) refl
@@ -120,8 +120,7 @@ module _ (wraps : List ℕ) (size places width mode : ℕ) (line : List ℕ) whe
         fitting = cond (leb (2 * length its_rows) 2048) (numbers_of its_rows) []
 
         whole : wrapped_as a cs sps l₁ ≡ its_answer (length its_rows) four fitting
-        unfolding rows_found
-        whole = asked_for 0 (ap rows_found new) ∙ answered_new wraps size places 2048 width mode line false ∙ ap (λ (r : ℕ). its_answer (length its_rows) r fitting) (number_four (length its_rows))
+        whole = asked_for None (ap rows_found new) ∙ answered_new wraps size places 2048 width mode line false ∙ ap (λ (r : ℕ). its_answer (length its_rows) r fitting) (number_four (length its_rows))
 
         four_is : a.number ≡ four
         four_is = ap (λ (x : Wrapped). x.number) whole
@@ -146,8 +145,7 @@ module _ (wraps : List ℕ) (size places width mode : ℕ) (line : List ℕ) whe
       -- a key that is kept
       module _ (h : Head) (old : find key_of (kept wraps) ≡ some h) where
         known : wrapped_as a cs sps l₁ ≡ its_answer h.count four []
-        unfolding rows_found
-        known = asked_for h.count (ap rows_found old) ∙ known_some wraps size places 2048 width mode line false h.count (found_has key_of h (kept_well wraps).within old).0.some ∙ ap (λ (r : ℕ). its_answer h.count r []) (number_four h.count)
+        known = asked_for (Some h.count) (ap rows_found old) ∙ answered_known wraps size places 2048 width mode line false h.count ∙ ap (λ (r : ℕ). its_answer h.count r []) (number_four h.count)
 
         old_height : Left
         unfolding wraps_after wrap_for

@@ -6,10 +6,12 @@ use native.Mathlib.Omega.{arith}
 use mathlib.Core.Bool.{Bool, true, false, cond, not, ◌&&◌, ◌||◌}
 use mathlib.Core.List.{List, [], ◌∷◌, ◌++◌}
 use mathlib.Core.Option.{Option, none, some}
+use Rattle.std.proofs.Common.{None, Some}
+use Rattle.std.proofs.Common.{Option as Maybe}
 use lib.ListN.{length, take, drop, replicate, length-drop}
 use lib.Seq.{take_at, length-take-le}
 use lib.Dec.{eqb, leb}
-use borrow.Author.Tests.{ne_eqb, leb-true}
+use borrow.Author.Tests.{leb-true}
 use Rattle.buffer.specs.Sink.{written}
 use Rattle.text.specs.Tests.{cases}
 use Rattle.text.specs.Width.{profile01}
@@ -52,22 +54,18 @@ module _ (wraps : List ℕ) (size places numbers width mode : ℕ) (line : List 
   answer_of n r xs = record { number = r; count = counted n r; conv = lent 0 size (convert profile01 line) r; spans = lent no_record places (records ss) r; rows = lent 0 numbers xs r }
 
   -- a request of which so many rows are known
-  abbrev pub request : Bool → ℕ → Request
+  abbrev pub request : Bool → Maybe ℕ → Request
   request list n = record { width = width; mode = mode; listed = list; known = n }
 
-  pub answered_new : (list : Bool) → answered (request list 0) size places numbers line ≡ answer_of (length rs) (number list (length rs)) (cond (leb (2 * length rs) numbers) (numbers_of rs) [])
+  pub answered_new : (list : Bool) → answered (request list None) size places numbers line ≡ answer_of (length rs) (number list (length rs)) (cond (leb (2 * length rs) numbers) (numbers_of rs) [])
   unfolding answered row_count
   answered_new list = refl
 
-  answered_known : (list : Bool) (n : ℕ) → answered (request list (suc n)) size places numbers line ≡ answer_of (suc n) (number list (suc n)) []
+  pub answered_known : (list : Bool) (n : ℕ) → answered (request list (Some n)) size places numbers line ≡ answer_of n (number list n) []
   unfolding answered row_count
-  answered_known list n = rw (ne_eqb (suc n) 0 (λ z. omega arith)) refl
+  answered_known list n = refl
 
   -- ---- the rows
-
-  pub known_some : (list : Bool) (n : ℕ) → 1 ≤ n → answered (request list n) size places numbers line ≡ answer_of n (number list n) []
-  known_some list zero h = absurd (omega arith)
-  known_some list (suc n) h = answered_known list n
 
   -- question 6 is the last one
   refused_six : (n : ℕ) → leb (2 * n) numbers ≡ false → (number true n ≢ 0)
@@ -198,12 +196,10 @@ module _ (wraps : List ℕ) (size places numbers width mode : ℕ) (line : List 
       within h e = (found_has k h (kept_well wraps).within e).0
 
       new_answer : find k (kept wraps) ≡ none → wrapped_as a cs sps l₁ ≡ answer_of (length rs) (N (length rs)) (cond (leb (2 * length rs) numbers) (numbers_of rs) [])
-      unfolding rows_found
-      new_answer e = answer ∙ ap (λ (n : ℕ). answered (request true n) size places numbers line) (ap rows_found e) ∙ answered_new true
+      new_answer e = answer ∙ ap (λ (n : Maybe ℕ). answered (request true n) size places numbers line) (ap rows_found e) ∙ answered_new true
 
       old_answer : (h : Head) → find k (kept wraps) ≡ some h → wrapped_as a cs sps l₁ ≡ answer_of h.count (N h.count) []
-      unfolding rows_found
-      old_answer h e = answer ∙ ap (λ (n : ℕ). answered (request true n) size places numbers line) (ap rows_found e) ∙ known_some true h.count (within h e).some
+      old_answer h e = answer ∙ ap (λ (n : Maybe ℕ). answered (request true n) size places numbers line) (ap rows_found e) ∙ answered_known true h.count
 
       kept_long : (h : Head) → find k (kept wraps) ≡ some h → length (kept_numbers wraps h) ≡ 2 * h.count
       kept_long h e = let w = within h e in length-take-le (2 * h.count) (drop (block_at h.block) wraps) (rw length-drop (omega (arith, w.fits, w.block)))

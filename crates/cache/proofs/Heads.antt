@@ -6,14 +6,15 @@ use native.Mathlib.Omega.{arith}
 use native.Mathlib.Numerals.{add-one}
 use mathlib.Core.Bool.{Bool, true, false, cond, not, ◌&&◌, ◌||◌}
 use mathlib.Core.List.{List, [], ◌∷◌}
-use mathlib.Core.Option.{none, some}
+use mathlib.Core.Option.{Option, none, some}
+use Rattle.std.proofs.Common.{None, Some}
 use lib.ListN.{length, drop, get_or, drop_of_length-le}
 use lib.Dec.{eqb, leb, ltb}
 use borrow.Author.Tests.{eq-eqb, ne_eqb, ltb-true, ltb-false}
 use Rattle.text.specs.Tests.{cases}
 use Rattle.cache.specs.declared.wraps.Head.{Head}
 use Rattle.cache.specs.Wraps.{Key, same_key, key_of, heads_in, has_block, well_kept, kept, find}
-use Rattle.cache.specs.Wraps.Contracts.{head_at, Within, InHeads, Kept, index_of, rows_found, kept_rows}
+use Rattle.cache.specs.Wraps.Contracts.{head_at, Within, InHeads, Kept, option_of, rows_found}
 use Rattle.cache.specs.Wraps.Laws.{heads_at, heads_few, heads_end, heads_count, kept_at, kept_well}
 use Rattle.cache.specs.Wraps.Use.{found_has}
 
@@ -51,8 +52,8 @@ module _ (l : List ℕ) where
                 absurd (z (count_at ∙ ap (λ (m : ℕ). get_or l (5 * m + 3) 0) k ∙ heads_end 4 l (omega arith))));
           }
 
-    pub count_end : 4 ≤ n → InHeads l n
-    count_end h = counted (omega (arith, heads_few 4 l))
+    pub count_end : 4 ≤ n → InHeads l 4
+    count_end h = record { size = size; count = omega (arith, c.there, c.few, heads_few 4 l); few = omega arith }
 
 not_not : (b : Bool) → not (not b) ≡ b
 not_not true = refl
@@ -115,64 +116,41 @@ module _ (l : List ℕ) (n : ℕ) (c : InHeads l n) where
     unfolding well_kept
     well_end h = sym (ap (well_kept n) (none_left these n i c.count h)) ∙ same
 
--- where a key stands
-module _ (l : List ℕ) (n : ℕ) (c : Kept l n) (k : Key) (i : ℕ) (same : i + index_of k (drop i (kept l)) ≡ index_of k (kept l)) where
+-- the first of a key
+module _ (l : List ℕ) (n : ℕ) (c : Kept l n) (k : Key) (i : ℕ) (same : find k (drop i (kept l)) ≡ find k (kept l)) where
   module _ (h : Head) (q : h ≡ head_at l i) (b : Bool) (s : b ≡ same_key k (key_of h)) (low : i < n) where
-    next_index : index_of k (drop i (kept l)) ≡ cond (same_key k (key_of h)) 0 (suc (index_of k (drop (i + 1) (kept l))))
-    unfolding index_of
-    next_index = ap (index_of k) (on l (kept l) (kept_at l) n i c.count h q low)
+    next_found : find k (drop i (kept l)) ≡ cond (same_key k (key_of h)) (some h) (find k (drop (i + 1) (kept l)))
+    unfolding find
+    next_found = ap (find k) (on l (kept l) (kept_at l) n i c.count h q low)
 
-    pub index_found : b ≡ true → i ≡ index_of k (kept l)
-    index_found z = let y : index_of k (drop i (kept l)) ≡ 0 = next_index ∙ rw (sym s ∙ z) in omega (arith, same, y)
+    pub find_here : b ≡ true → Some h ≡ option_of (find k (kept l))
+    find_here z = let e : find k (drop i (kept l)) ≡ some h = next_found ∙ rw (sym s ∙ z) refl in ap option_of (sym e ∙ same)
 
-    pub index_turn : b ≡ false → i + 1 + index_of k (drop (i + 1) (kept l)) ≡ index_of k (kept l)
-    index_turn z = let y : index_of k (drop i (kept l)) ≡ suc (index_of k (drop (i + 1) (kept l))) = next_index ∙ rw (sym s ∙ z) in omega (arith, same, y)
+    pub find_turn : b ≡ false → find k (drop (i + 1) (kept l)) ≡ find k (kept l)
+    find_turn z = let e : find k (drop i (kept l)) ≡ find k (drop (i + 1) (kept l)) = next_found ∙ rw (sym s ∙ z) refl in sym e ∙ same
 
-  pub index_end : n ≤ i → i ≡ index_of k (kept l)
-  unfolding index_of
-  index_end h = let y : index_of k (drop i (kept l)) ≡ 0 = ap (index_of k) (none_left (kept l) n i c.count h) in omega (arith, same, y)
+  pub find_end : n ≤ i → None ≡ option_of (find k (kept l))
+  unfolding find
+  find_end h = ap option_of (sym (ap (find k) (none_left (kept l) n i c.count h)) ∙ same)
 
 -- ---- the head found
 
-pub find_there : (k : Key) (hs : List Head) (h : Head) (rest : List Head) → drop (index_of k hs) hs ≡ h ∷ rest → find k hs ≡ some h
-unfolding find index_of
-find_there k [] h rest e = cc
-find_there k (a ∷ hs) h rest e =
-    cases (same_key k (key_of a))
-    (λ q. let f : a ∷ hs ≡ h ∷ rest = rw q at e in rw q (ap some cc))
-    (λ q. let f : drop (index_of k hs) hs ≡ h ∷ rest = rw q at e in rw q (find_there k hs h rest f))
+pub found_some : (o : Option Head) (h : Head) → Some h ≡ option_of o → o ≡ some h
+found_some none h e = cc
+found_some (some g) h e = ap some cc
 
-pub find_none : (k : Key) (hs : List Head) → length hs ≤ index_of k hs → find k hs ≡ none
-unfolding find index_of
-find_none k [] h = refl
-find_none k (a ∷ hs) h =
-    cases (same_key k (key_of a))
-    (λ q. let f = rw q at h in absurd (omega arith))
-    (λ q. let f : suc (length hs) ≤ suc (index_of k hs) = rw q at h in rw q (find_none k hs (omega arith)))
+pub found_none : (o : Option Head) → None ≡ option_of {A = Head} o → o ≡ none
+found_none none e = refl
+found_none (some g) e = cc
 
-module _ (l : List ℕ) (n i : ℕ) (k : Key) (c : Kept l n) (e : i ≡ index_of k (kept l)) where
-  pub found_head : (h : Head) → h ≡ head_at l i → i < n → find k (kept l) ≡ some h
-  found_head h q low = find_there k (kept l) h (drop (i + 1) (kept l)) (rw (← e) (on l (kept l) (kept_at l) n i c.count h q low))
+pub rows_some : (o : Option Head) (h : Head) → Some h ≡ option_of o → Some h.count ≡ rows_found o
+rows_some o h e = sym (ap rows_found (found_some o h e))
 
-  found_all : (h : Head) → h ≡ head_at l i → i < n → Within h × (key_of h ≡ k)
-  found_all h q low = found_has k h (kept_well l).within (found_head h q low)
+pub rows_none : (o : Option Head) → None ≡ option_of {A = Head} o → None ≡ rows_found o
+rows_none o e = sym (ap rows_found (found_none o e))
 
-  pub found_version : (h : Head) → h ≡ head_at l i → i < n → h.version ≡ k.version
-  found_version h q low = ap (λ (x : Key). x.version) (found_all h q low).1
-
-  pub found_within : (h : Head) → h ≡ head_at l i → i < n → Within h
-  found_within h q low = (found_all h q low).0
-
-  pub found_none : n ≤ i → find k (kept l) ≡ none
-  found_none h = find_none k (kept l) (omega (arith, c.count))
-
-  pub rows_found_law : (h : Head) → h ≡ head_at l i → i < n → h.count ≡ kept_rows k l
-  unfolding rows_found
-  rows_found_law h q low = rw (found_head h q low) refl
-
-  pub rows_none : n ≤ i → 0 ≡ kept_rows k l
-  unfolding rows_found
-  rows_none h = rw (found_none h) refl
+pub found_within : (l : List ℕ) (k : Key) (h : Head) → find k (kept l) ≡ some h → Within h
+found_within l k h e = (found_has k h (kept_well l).within e).0
 
 -- ---- how many are kept
 

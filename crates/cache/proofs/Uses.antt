@@ -1,6 +1,5 @@
 -- What a use leaves: the heads written one after the other, and the numbers of a block.
 use mathlib.Core.Path.{◌≡◌, refl, sym, ap, ap₂, ◌∙◌}
-use mathlib.Core.Logic.{◌≢◌}
 use Prim.Native.Nat.{ℕ, zero, suc, ◌+◌, ◌-◌, ◌*◌, ◌≤◌, ◌<◌}
 use native.Mathlib.Omega.{arith}
 use mathlib.Core.Bool.{Bool, true, false, not, ◌&&◌, ◌||◌}
@@ -9,52 +8,46 @@ use mathlib.Core.List.{List, [], ◌∷◌, ◌++◌}
 use lib.ListN.{length, take, drop, replicate, length-take, length-drop, length-append, take-append-drop}
 use lib.Seq.{take_all, length-take-le}
 use lib.Dec.{eqb, leb, ltb}
-use borrow.Author.Tests.{eq-eqb, ne_eqb, leb-true, leb-false, le-leb, lt-leb, lt-ltb, le-ltb, ltb-false}
+use borrow.Author.Tests.{leb-true, leb-false, le-leb, lt-leb, lt-ltb, le-ltb, ltb-false}
 use Rattle.text.specs.Tests.{cases}
-use Rattle.buffer.specs.Sink.{Sink, sink, put, emit, written, Copied}
+use Rattle.buffer.specs.Sink.{Sink, sink, emit, written, Copied}
 use Rattle.buffer.specs.Sink.Laws.{emit_append, emit_room, put_past, fitted}
 use Rattle.text.specs.Calls.Laws.{lent_accepted}
 use Rattle.cache.specs.declared.wraps.Head.{Head}
-use Rattle.cache.specs.Wraps.{Key, key, same_key, head, key_of, kept, find, without, head_numbers, with_heads, after_use, new_block, with_wrap}
-use Rattle.cache.specs.Wraps.Contracts.{head_at, Kept, kept_rows, new_heads, HeadsReady, NewBlock, UseReady, KeepReady, index_of, listed, ListReady}
+use Rattle.cache.specs.Wraps.{Key, same_key, head, key_of, kept, find, without, head_numbers, with_heads, after_use, new_block, with_wrap}
+use Rattle.cache.specs.Wraps.Contracts.{head_at, Kept, new_heads, HeadsReady, NewBlock, KeepReady, listed, ListReady}
 use Rattle.cache.specs.Calls.{wraps_after, unless_refused}
-use Rattle.cache.specs.Calls.Contracts.{rows_request, height_request, RememberReady, Remembered}
+use Rattle.cache.specs.Calls.Contracts.{RememberReady, Remembered}
 use Rattle.cache.specs.Wraps.Laws.{kept_at, heads_written, new_block_law, new_block_low}
-use Rattle.cache.proofs.Heads.{none_left, on, found_head, found_version, found_within}
-
--- ---- one head
-
-pub head_pushed : (s s₁ s₂ s₃ s₄ s₅ : Sink) (h : Head) → s₁ ≡ put s h.version → s₂ ≡ put s₁ h.width → s₃ ≡ put s₂ h.mode → s₄ ≡ put s₃ h.count → s₅ ≡ put s₄ h.block → s₅ ≡ emit s (head_numbers (h ∷ []))
-unfolding emit head_numbers
-head_pushed s s₁ s₂ s₃ s₄ s₅ h e₁ e₂ e₃ e₄ e₅ = e₅ ∙ rw (e₄, e₃, e₂, e₁) refl
+use Rattle.cache.proofs.Heads.{none_left, on, found_within}
 
 -- ---- the others
 
-module _ (k : Key) (h : Head) (b : Bool) (has : b ≡ same_key k (key_of h)) (s : Sink) where
+module _ (k : Key) (h : Head) (b : Bool) (has : b ≡ same_key k (key_of h)) (s : Sink ℕ) where
   pub other_same : b ≡ true → s ≡ emit s (head_numbers (without k (h ∷ [])))
   unfolding without head_numbers emit
   other_same z = rw (sym has ∙ z) refl
 
-  pub other_pushed : (s' : Sink) → b ≡ false → s' ≡ emit s (head_numbers (h ∷ [])) → s' ≡ emit s (head_numbers (without k (h ∷ [])))
+  pub other_pushed : (s' : Sink ℕ) → b ≡ false → s' ≡ emit s (head_numbers (h ∷ [])) → s' ≡ emit s (head_numbers (without k (h ∷ [])))
   unfolding without
   other_pushed s' z e = rw (sym has ∙ z) e
 
 head_numbers_append : (hs gs : List Head) → head_numbers (hs ++ gs) ≡ head_numbers hs ++ head_numbers gs
 unfolding head_numbers
 head_numbers_append [] gs = refl
-head_numbers_append (h ∷ hs) gs = ap (λ (x : List ℕ). h.version ∷ h.width ∷ h.mode ∷ h.count ∷ h.block ∷ x) (head_numbers_append hs gs)
+head_numbers_append (h ∷ hs) gs = ap (λ (x : List ℕ). h.key.version ∷ h.key.width ∷ h.key.mode ∷ h.count ∷ h.block ∷ x) (head_numbers_append hs gs)
 
 without_cons : (k : Key) (h : Head) (hs : List Head) → without k (h ∷ hs) ≡ without k (h ∷ []) ++ without k hs
 unfolding without
 without_cons k h hs = cases (same_key k (key_of h)) (λ e. rw e refl) (λ e. rw e refl)
 
-module _ (l : List ℕ) (n : ℕ) (c : Kept l n) (k : Key) (i : ℕ) {e : Sink} (s : Sink) (work : emit s (head_numbers (without k (drop i (kept l)))) ≡ e) where
-  pub others_turn : (h : Head) → h ≡ head_at l i → i < n → (s' : Sink) → s' ≡ emit s (head_numbers (without k (h ∷ []))) → emit s' (head_numbers (without k (drop (i + 1) (kept l)))) ≡ e
+module _ (l : List ℕ) (n : ℕ) (c : Kept l n) (k : Key) (i : ℕ) {e : Sink ℕ} (s : Sink ℕ) (work : emit s (head_numbers (without k (drop i (kept l)))) ≡ e) where
+  pub others_turn : (h : Head) → h ≡ head_at l i → i < n → (s' : Sink ℕ) → s' ≡ emit s (head_numbers (without k (h ∷ []))) → emit s' (head_numbers (without k (drop (i + 1) (kept l)))) ≡ e
   others_turn h q low s' f =
       let rest : List Head = without k (drop (i + 1) (kept l)) in
       let g : head_numbers (without k (drop i (kept l))) ≡ head_numbers (without k (h ∷ [])) ++ head_numbers rest =
       ap (λ (x : List Head). head_numbers (without k x)) (on l (kept l) (kept_at l) n i c.count h q low) ∙ ap head_numbers (without_cons k h (drop (i + 1) (kept l))) ∙ head_numbers_append (without k (h ∷ [])) rest in
-      ap (λ (x : Sink). emit x (head_numbers rest)) f ∙ sym (emit_append s (head_numbers (without k (h ∷ []))) (head_numbers rest)) ∙ ap (emit s) (sym g) ∙ work
+      ap (λ (x : Sink ℕ). emit x (head_numbers rest)) f ∙ sym (emit_append s (head_numbers (without k (h ∷ []))) (head_numbers rest)) ∙ ap (emit s) (sym g) ∙ work
 
   pub others_end : n ≤ i → s ≡ e
   unfolding without head_numbers emit
@@ -62,7 +55,7 @@ module _ (l : List ℕ) (n : ℕ) (c : Kept l n) (k : Key) (i : ℕ) {e : Sink} 
 
 -- ---- as many as there is room for
 
-list_of : Sink → List ℕ
+list_of : Sink ℕ → List ℕ
 list_of (sink l at) = l
 
 full : (l xs : List ℕ) (at : ℕ) → length l ≤ at → list_of (emit (sink l at) xs) ≡ l
@@ -81,7 +74,7 @@ front l xs l' r e =
     (λ h.
     let m : length a ≡ n = length-take-le n xs (let q = leb-false (length xs) n h in omega arith) in
     let w : length (written l 0 a) ≤ 0 + length a = rw (length-append a (drop (0 + length a) l), length-drop (0 + length a) l) (omega arith) in
-    ap list_of (e ∙ ap (emit (sink l 0)) (sym (take-append-drop n xs)) ∙ emit_append (sink l 0) a (drop n xs) ∙ ap (λ (s : Sink). emit s (drop n xs)) (emit_room l a 0 (omega arith)))
+    ap list_of (e ∙ ap (emit (sink l 0)) (sym (take-append-drop n xs)) ∙ emit_append (sink l 0) a (drop n xs) ∙ ap (λ (s : Sink ℕ). emit s (drop n xs)) (emit_room l a 0 (omega arith)))
     ∙ full (written l 0 a) (drop n xs) (0 + length a) w
     ∙ (let z : 0 + length a ≡ length a = omega arith in ap (λ (m : ℕ). a ++ drop m l) z))
 
@@ -93,15 +86,14 @@ zeros_behind (suc n) (suc m) = let e : suc m - suc n ≡ m - n = omega arith in 
 -- ---- the heads after a use
 
 module _ (l : List ℕ) (used : Head) where
-  pub heads_are : (n : ℕ) (heads heads₁ heads₂ : List ℕ) (at r : ℕ) → HeadsReady heads l n used.version → sink heads₁ at ≡ emit (sink heads 0) (head_numbers (used ∷ []))
-      → sink heads₂ r ≡ emit (sink heads₁ at) (head_numbers (without (key 0 used.width used.mode) (kept l))) → heads₂ ≡ new_heads (kept l) used
+  pub heads_are : (n : ℕ) (heads heads₁ heads₂ : List ℕ) (at r : ℕ) → HeadsReady heads l n → sink heads₁ at ≡ emit (sink heads 0) (head_numbers (used ∷ []))
+      → sink heads₂ r ≡ emit (sink heads₁ at) (head_numbers (without (key_of used) (kept l))) → heads₂ ≡ new_heads (kept l) used
   unfolding head_numbers emit
   heads_are n heads heads₁ heads₂ at r z e f =
       let others : List Head = without (key_of used) (kept l) in
       let ys : List ℕ = head_numbers (used ∷ others) in
-      let v : key 0 used.width used.mode ≡ key_of used = ap (λ (x : ℕ). key x used.width used.mode) (sym z.used.version) in
       let g : sink heads₂ r ≡ emit (sink (replicate 20 0) 0) ys =
-      f ∙ ap (λ (x : Key). emit (sink heads₁ at) (head_numbers (without x (kept l)))) v ∙ ap (λ (s : Sink). emit s (head_numbers others)) (e ∙ ap (λ (x : List ℕ). emit (sink x 0) (head_numbers (used ∷ []))) z.blank) in
+      f ∙ ap (λ (s : Sink ℕ). emit s (head_numbers others)) (e ∙ ap (λ (x : List ℕ). emit (sink x 0) (head_numbers (used ∷ []))) z.blank) in
       front (replicate 20 0) ys heads₂ r g
       ∙ ap (λ (x : List ℕ). x ++ drop (length x) (replicate 20 0)) (heads_written used others)
       ∙ rw (zeros_behind (length (head_numbers (used ∷ take 3 others))) 20) (sym (lent_accepted 0 20 (head_numbers (used ∷ take 3 others))))
@@ -162,17 +154,6 @@ module _ (rows l : List ℕ) (h : Head) where
       c.bytes ∙ ap (written rows 0) (ap₂ (λ (a b : ℕ). take a (drop b l)) m e)
   rows_listed false rows' from to r z e f c = absurd (let y : ◌≡◌ {A = ℕ} 0 1 = cc in omega arith)
 
--- ---- what a call asks
-
-pub requests_rows : (l : List ℕ) (width mode n : ℕ) → n ≡ kept_rows (key 0 width mode) l → record { width = width; mode = mode; listed = true; known = n } ≡ rows_request l width mode
-requests_rows l width mode n e = rw e refl
-
-pub requests_unwrapped : (l : List ℕ) (width mode : ℕ) → mode ≡ 0 → record { width = width; mode = mode; listed = false; known = 0 } ≡ height_request l width mode
-requests_unwrapped l width mode z = rw (eq-eqb mode 0 z) refl
-
-pub requests_height : (l : List ℕ) (width mode n : ℕ) → (mode ≢ 0) → n ≡ kept_rows (key 0 width mode) l → record { width = width; mode = mode; listed = false; known = n } ≡ height_request l width mode
-requests_height l width mode n z e = rw (ne_eqb mode 0 z, e) refl
-
 -- ---- what is remembered of a call
 
 pub and_false : (b : Bool) → (b && false) ≡ false
@@ -193,15 +174,12 @@ module _ (k : Key) (lists : Bool) (number count : ℕ) (l rows : List ℕ) where
     none_refused : number ≡ 0
     none_refused = cases (ltb 0 number) (λ a. absurd (let z : true ≡ false = rw a at used in let y : ◌≡◌ {A = ℕ} 0 1 = cc in omega arith)) (λ a. let b = ltb-false 0 number a in omega arith)
 
-    module _ (ready : RememberReady k lists number count l (length rows)) (n i : ℕ) (c : Kept l n) (at : i ≡ index_of k (kept l)) where
-      pub list_ready : (h : Head) → h ≡ head_at l i → i < n → ListReady rows l h lists
-      list_ready h q low = record { size = ready.size; within = found_within l n i k c at h q low; room = λ y. ready.found h y none_refused (found_head l n i k c at h q low) }
+    module _ (ready : RememberReady k lists number count l (length rows)) where
+      pub list_ready : (h : Head) → find k (kept l) ≡ some h → ListReady rows l h lists
+      list_ready h e = record { size = ready.size; within = found_within l k h e; room = λ y. ready.found h y none_refused e }
 
-      pub use_ready : (h : Head) → k.version ≡ 0 → h ≡ head_at l i → i < n → UseReady l n h.version
-      use_ready h v q low = record { kept = c; version = found_version l n i k c at h q low ∙ v }
-
-      pub keep_ready : KeepReady l n rows count
-      keep_ready = record { kept = c; room = ready.room none_refused }
+      pub keep_ready : (n : ℕ) → Kept l n → KeepReady l n rows count
+      keep_ready n c = record { kept = c; room = ready.room none_refused }
 
     a_use : (eqb k.mode 0 && not lists) ≡ false
     a_use = let z : (ltb 0 number || (eqb k.mode 0 && not lists)) ≡ (eqb k.mode 0 && not lists) = rw (le-ltb 0 number (omega (arith, none_refused))) refl in sym z ∙ used

@@ -6,15 +6,11 @@ use Rattle.std.proofs.Math.Option.{Option, none, some}
 use Rattle.buffer.specs.Sink.{written}
 use Rattle.text.specs.Calls.{lent}
 use Rattle.cache.specs.declared.wraps.Head.{Head}
+pub use Rattle.cache.specs.declared.wraps.Key.{Key}
 pub mod Contracts
 pub mod Laws
 pub mod Blocks
 pub mod Use
-
-pub record Key : Type 0 where
-  pub version : ℕ
-  pub width : ℕ
-  pub mode : ℕ
 
 abbrev pub key : ℕ → ℕ → ℕ → Key
 key v w m = record { version = v; width = w; mode = m }
@@ -23,10 +19,10 @@ abbrev pub same_key : Key → Key → Bool
 same_key a b = eqb a.version b.version && (eqb a.width b.width && eqb a.mode b.mode)
 
 abbrev pub head : Key → ℕ → ℕ → Head
-head k n b = record { version = k.version; width = k.width; mode = k.mode; count = n; block = b }
+head k n b = record { key = k; count = n; block = b }
 
 abbrev pub key_of : Head → Key
-key_of h = key h.version h.width h.mode
+key_of h = h.key
 
 -- ---- what an array holds, whatever its contents
 
@@ -72,7 +68,7 @@ kept_numbers wraps h = take (2 * h.count) (drop (block_at h.block) wraps)
 
 unfoldable pub head_numbers : List Head → List ℕ
 head_numbers [] = []
-head_numbers (h ∷ hs) = h.version ∷ h.width ∷ h.mode ∷ h.count ∷ h.block ∷ head_numbers hs
+head_numbers (h ∷ hs) = h.key.version ∷ h.key.width ∷ h.key.mode ∷ h.count ∷ h.block ∷ head_numbers hs
 
 -- the array with these heads
 unfoldable pub with_heads : List ℕ → List Head → List ℕ

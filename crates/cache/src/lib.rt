@@ -1,15 +1,15 @@
 // Kept wraps: the calls `cached_rows` and `cached_height` (document 02, U6).
 #![tactic(auto)]
 
-ghost use Rattle.std.specs.Prelude.{◌≡◌, length, replicate};
+ghost use Rattle.std.specs.Prelude.{◌≡◌, length};
 ghost use Rattle.text.specs.Width.{profile01};
 ghost use Rattle.cache.specs.Calls.{cached_rows_call, cached_height_call};
 ghost use Rattle.cache.specs.Calls.Contracts.{rows_request, height_request, cached_rows_as, cached_height_as, CachedLineReady, CachedLine};
 
-use rows::{Request, answer_line};
+use rows::{Mode, Request, answer_line};
 use spans::Span;
 use text::Answer;
-use wraps::{kept_rows, remember};
+use wraps::{BLOCK_LEN, Key, kept_rows, remember};
 
 pub mod numbers;
 mod wraps;
@@ -19,12 +19,11 @@ fn rows_request(wraps: &[usize], width: usize, mode: usize) -> Request
     requires { length wraps.now ≡ 8212 }
     ensures { result ≡ rows_request wraps.now width mode }
 {
-    let known = kept_rows(wraps, width, mode);
     Request {
-        width: width,
-        mode: mode,
+        width,
+        mode,
         listed: true,
-        known: known,
+        known: kept_rows(wraps, Key::of(width, mode)),
     }
 }
 
@@ -33,20 +32,18 @@ fn height_request(wraps: &[usize], width: usize, mode: usize) -> Request
     requires { length wraps.now ≡ 8212 }
     ensures { result ≡ height_request wraps.now width mode }
 {
-    if mode == 0 {
-        return Request {
-            width: width,
-            mode: mode,
-            listed: false,
-            known: 0,
-        };
-    }
-    let known = kept_rows(wraps, width, mode);
-    Request {
-        width: width,
-        mode: mode,
+    let request = Request {
+        width,
+        mode,
         listed: false,
-        known: known,
+        known: None,
+    };
+    if mode == Mode::Unwrapped as usize {
+        return request;
+    }
+    Request {
+        known: kept_rows(wraps, Key::of(width, mode)),
+        ..request
     }
 }
 
@@ -83,13 +80,6 @@ pub fn cached_rows(
     cached_line(line, wraps, conv, spans, rows, request)
 }
 
-// No rows listed yet.
-fn no_rows() -> [usize; 2048]
-    ensures { result ≡ replicate 2048 0 }
-{
-    [0usize; 2048]
-}
-
 // The call `cached_height`: as `height`, likewise. The rows are kept, so they are listed, in memory of the call's own.
 pub fn cached_height(
     line: &[u8],
@@ -101,7 +91,7 @@ pub fn cached_height(
 ) -> Answer
     ensures { cached_height_as result conv.new spans.new wraps.new ≡ cached_height_call profile01 wraps.old (length conv.old) (length spans.old) width mode line.now }
 {
-    let mut rows = no_rows();
+    let mut rows = [0usize; BLOCK_LEN];
     let request = height_request(wraps, width, mode);
     cached_line(line, wraps, conv, spans, &mut rows, request)
 }

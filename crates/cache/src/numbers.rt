@@ -19,11 +19,11 @@ pub fn cached_rows_numbers(
 ) -> Answer
     ensures { CachedRowsNumbers (cached_rows_call profile01 wraps.old (length conv.old) (places_in (length numbers.old)) (length rows.old) width mode line.now) (length numbers.old) result conv.new numbers.new rows.new wraps.new }
 {
-    let mut spans = no_spans();
-    let n = places_in(numbers.len());
-    let a = super::cached_rows(line, width, mode, wraps, conv, &mut spans[..n], rows);
-    write_numbers(&spans[..n], numbers);
-    a
+    let mut list = no_spans();
+    let spans = &mut list[..places_in(numbers.len())];
+    let answer = super::cached_rows(line, width, mode, wraps, conv, spans, rows);
+    write_numbers(spans, numbers);
+    answer
 }
 
 pub fn cached_height_numbers(
@@ -36,9 +36,9 @@ pub fn cached_height_numbers(
 ) -> Answer
     ensures { CachedHeightNumbers (cached_height_call profile01 wraps.old (length conv.old) (places_in (length numbers.old)) width mode line.now) (length numbers.old) result conv.new numbers.new wraps.new }
 {
-    let mut spans = no_spans();
-    let n = places_in(numbers.len());
-    let a = super::cached_height(line, width, mode, wraps, conv, &mut spans[..n]);
-    write_numbers(&spans[..n], numbers);
-    a
+    let mut list = no_spans();
+    let spans = &mut list[..places_in(numbers.len())];
+    let answer = super::cached_height(line, width, mode, wraps, conv, spans);
+    write_numbers(spans, numbers);
+    answer
 }

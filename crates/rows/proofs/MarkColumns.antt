@@ -1,13 +1,13 @@
 -- The columns of a text's marks, scalar by scalar.
 use mathlib.Core.Path.{◌≡◌, sym, ap, ◌∙◌}
-use mathlib.Core.Logic.{◌≢◌}
+use Rattle.std.proofs.Common.{Some, None, refl}
 use Prim.Native.Nat.{ℕ, ◌+◌, ◌-◌, ◌*◌, ◌≤◌, ◌<◌, ◌^◌}
 use native.Mathlib.Omega.{arith}
 use mathlib.Core.List.{List, []}
 use lib.ListN.{length, drop}
 use Rattle.text.specs.Utf8.{decode}
 use Rattle.text.specs.Utf8.Code.{first_sequence}
-use Rattle.text.specs.Utf8.Code.Laws.{none_past, none_at, scalar_at_law}
+use Rattle.text.specs.Utf8.Code.Laws.{none_past, ScalarAt, some_at, nothing_at}
 use Rattle.text.specs.declared.utf8.Sequence.{Sequence}
 use Rattle.text.specs.TextParts.{text_at}
 use Rattle.rows.specs.Marks.{mark_columns, drawn_columns, DrawnColumns}
@@ -29,25 +29,25 @@ module _ (text : List ℕ) (p n : ℕ) (k : Counted text p n) where
   pub count_end : length text ≤ p → DrawnColumns text n
   count_end h = count_done (none_past text p h)
 
-  module _ (u : Sequence) (here : p < length text) (read : u ≡ first_sequence (decode (drop p text))) where
-    pub count_stop : u.len ≡ 0 → DrawnColumns text n
-    count_stop z = count_done (none_at text p u here read z)
+  pub count_stop : (here : p < length text) → None ≡ first_sequence (decode (drop p text)) → DrawnColumns text n
+  count_stop here read = count_done (nothing_at text p here _ read refl)
+
+  module _ (u : Sequence) (here : p < length text) (read : Some u ≡ first_sequence (decode (drop p text))) where
+    abbrev a : ScalarAt text p u
+    a = some_at text p here _ read u refl
 
     pub count_room : (m : ℕ) → m ≡ mark_columns u.code → 10 * length text < 2 ^ 64 → n + m < 18446744073709551616
     count_room m e r = omega (arith, k.small, e, mark_small u.code, here)
 
-    module _ (z : u.len ≢ 0) where
-      pub count_fits : 10 * length text < 2 ^ 64 → p + u.len < 18446744073709551616
-      count_fits r = omega (arith, (scalar_at_law text p u here read z).fits)
+    pub count_fits : 10 * length text < 2 ^ 64 → p + u.len < 18446744073709551616
+    count_fits r = omega (arith, a.fits)
 
-      pub count_falls : length text - (p + u.len) < length text - p
-      count_falls = let a = scalar_at_law text p u here read z in omega (arith, a.fits, a.some)
+    pub count_falls : length text - (p + u.len) < length text - p
+    count_falls = omega (arith, a.fits, a.some)
 
-    module _ (z : u.len ≢ 0) (m : ℕ) (e : m ≡ mark_columns u.code) where
-      pub count_turn : Counted text (p + u.len) (n + m)
-      unfolding drawn_columns
-      count_turn =
-          let a = scalar_at_law text p u here read z in
-          let d : drawn_columns (text_at text p) ≡ mark_columns a.scalar.code + drawn_columns (text_at text (p + u.len)) = ap drawn_columns a.run in
-          let c : mark_columns a.scalar.code ≡ m = ap mark_columns a.code ∙ sym e in
-          record { inside = a.fits; work = omega (arith, k.work, d, c); small = omega (arith, k.small, e, mark_small u.code, a.some) }
+    pub count_turn : (m : ℕ) → m ≡ mark_columns u.code → Counted text (p + u.len) (n + m)
+    unfolding drawn_columns
+    count_turn m e =
+        let d : drawn_columns (text_at text p) ≡ mark_columns a.scalar.code + drawn_columns (text_at text (p + u.len)) = ap drawn_columns a.run in
+        let c : mark_columns a.scalar.code ≡ m = ap mark_columns a.code ∙ sym e in
+        record { inside = a.fits; work = omega (arith, k.work, d, c); small = omega (arith, k.small, e, mark_small u.code, a.some) }

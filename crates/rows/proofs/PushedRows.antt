@@ -1,28 +1,24 @@
 -- The ends of the functions that push a row or none.
 use mathlib.Core.Path.{◌≡◌, sym, ap, ◌∙◌}
-use Prim.Native.Nat.{ℕ, ◌+◌, ◌-◌, ◌*◌, ◌/◌, ◌%◌, ◌≤◌, ◌<◌}
+use Prim.Native.Nat.{ℕ, ◌+◌, ◌-◌, ◌%◌, ◌≤◌, ◌<◌, ◌^◌, min}
 use native.Mathlib.Omega.{arith}
-use mathlib.Core.Bool.{Bool, true, false, cond}
+use mathlib.Core.Bool.{Bool, true, false, cond, ◌||◌}
 use mathlib.Core.List.{List, [], ◌∷◌}
 use mathlib.Core.Logic.{◌≢◌}
-use lib.ListN.{length, set}
 use lib.Dec.{leb, ltb, eqb}
-use borrow.Author.Tests.{lt-ltb, le-ltb, eq-eqb, ne_eqb}
-use Rattle.text.specs.Tests.{cases}
+use borrow.Author.Tests.{ltb-true, ltb-false, eq-eqb, ne_eqb}
+use Rattle.text.specs.Tests.{cases, or_false}
 use Rattle.text.specs.declared.Column.{Column}
 use Rattle.rows.specs.Rows.{Row, row, Wrap, wrap, unbroken, tabbed, pushed}
 use Rattle.text.specs.TextParts.{column}
-use Rattle.rows.specs.Wrap.{next_count, counted_row, pair_at, RowList, row_list, with_row, with_rows, on, Room, Stepped, advanced, unbroken_of, last_row_list, LastRow}
+use Rattle.rows.specs.Wrap.{next_count, counted_row, RowList, row_list, with_row, with_rows, on, Room, Stepped, advanced, unbroken_of, last_row_list, LastRow}
 use Rattle.rows.specs.declared.wrap.RowCounts.{RowCounts}
 use Rattle.rows.specs.declared.wrap.WrapState.{WrapState}
 
-pub count_on : (n : ℕ) → n < 0xFFFF_FFFF_FFFF_FFFF → n + 1 ≡ next_count n
+-- one more, as std counts up to the largest usize
+pub count_next : (n m : ℕ) → n < 2 ^ 64 → m ≡ min (n + 1) 0xFFFF_FFFF_FFFF_FFFF → m ≡ next_count n
 unfolding next_count
-count_on n h = rw (lt-ltb n 0xFFFF_FFFF_FFFF_FFFF h)
-
-pub count_full : (n : ℕ) → 0xFFFF_FFFF_FFFF_FFFF ≤ n → n ≡ next_count n
-unfolding next_count
-count_full n h = rw (le-ltb n 0xFFFF_FFFF_FFFF_FFFF h)
+count_next n m h e = cases (ltb n 0xFFFF_FFFF_FFFF_FFFF) (λ f. let k : n < 0xFFFF_FFFF_FFFF_FFFF = ltb-true _ _ f in rw f (omega arith)) (λ f. let k : 0xFFFF_FFFF_FFFF_FFFF ≤ n = ltb-false _ _ f in rw f (omega arith))
 
 next_le : (n : ℕ) → next_count n ≤ n + 1
 unfolding next_count
@@ -34,15 +30,6 @@ pub tally_is : (t : RowCounts) (a b from to : Column) (n : ℕ) → n ≡ next_c
     → record { count = n; first = t.first; last = t.last; start = from; end = to; ended = b } ≡ counted_row t (row a.0 b.0)
 unfolding counted_row
 tally_is t a b from to n e f g = rw (e, f, g)
-
-pub row_written : (l : List ℕ) (t r : RowCounts) (a b : Column) → t.count < length l / 2 → r ≡ counted_row t (row a.0 b.0)
-    → row_list (set (set l (2 * t.count) a.0) (2 * t.count + 1) b.0) r ≡ with_row (row_list l t) (row a.0 b.0)
-unfolding with_row pair_at
-row_written l t r a b h e = rw (lt-ltb t.count (length l / 2) h, e)
-
-pub row_counted : (l : List ℕ) (t r : RowCounts) (a b : Column) → length l / 2 ≤ t.count → r ≡ counted_row t (row a.0 b.0) → row_list l r ≡ with_row (row_list l t) (row a.0 b.0)
-unfolding with_row pair_at
-row_counted l t r a b h e = rw (le-ltb t.count (length l / 2) h, e)
 
 -- ---- a step that pushes nothing, and one that pushes a row
 
@@ -110,16 +97,16 @@ module _ (l : List ℕ) (st : WrapState) (mode : ℕ) where
   last_unwrapped l' r e k = record { same = rw (eq-eqb mode 0 e) k; more = push_more l l' st.tally r (row 0 0xFFFF_FFFF_FFFF_FFFF) k }
 
   module _ (e : mode ≢ 0) where
-    pub last_some : (l' : List ℕ) (r : RowCounts) → st.start.0 < st.position.0 → row_list l' r ≡ with_row (row_list l st.tally) (row st.start.0 st.position.0) → LastRow l st mode l' r
+    pub last_some : (l' : List ℕ) (r : RowCounts) → (ltb st.start.0 st.position.0 || eqb st.tally.count 0) ≡ true → row_list l' r ≡ with_row (row_list l st.tally) (row st.start.0 st.position.0) → LastRow l st mode l' r
     unfolding last_row_list
-    last_some l' r h k = record { same = rw (ne_eqb mode 0 e, lt-ltb st.start.0 st.position.0 h) k; more = push_more l l' st.tally r (row st.start.0 st.position.0) k }
+    last_some l' r h k =
+        record {
+          same = cases (ltb st.start.0 st.position.0) (λ f. rw (ne_eqb mode 0 e, f) k) (λ f. rw (ne_eqb mode 0 e, f, rw f at h) k);
+          more = push_more l l' st.tally r (row st.start.0 st.position.0) k;
+        }
 
-    module _ (h : st.position.0 ≤ st.start.0) where
-      pub last_only : (l' : List ℕ) (r : RowCounts) → st.tally.count ≡ 0 → row_list l' r ≡ with_row (row_list l st.tally) (row st.start.0 st.position.0) → LastRow l st mode l' r
-      unfolding last_row_list
-      last_only l' r z k =
-          record { same = rw (ne_eqb mode 0 e, le-ltb st.start.0 st.position.0 h, eq-eqb st.tally.count 0 z) k; more = push_more l l' st.tally r (row st.start.0 st.position.0) k }
-
-      pub last_none : (st.tally.count ≢ 0) → LastRow l st mode l st.tally
-      unfolding last_row_list
-      last_none z = record { same = rw (ne_eqb mode 0 e, le-ltb st.start.0 st.position.0 h, ne_eqb st.tally.count 0 z); more = omega arith }
+    pub last_none : (ltb st.start.0 st.position.0 || eqb st.tally.count 0) ≡ false → LastRow l st mode l st.tally
+    unfolding last_row_list
+    last_none h =
+        let o = or_false (ltb st.start.0 st.position.0) (eqb st.tally.count 0) h in
+        record { same = rw (ne_eqb mode 0 e, o.0, o.1); more = omega arith }

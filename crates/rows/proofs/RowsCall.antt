@@ -1,90 +1,69 @@
--- The calls `rows` and `height`: what `read` leaves is wrapped, and the number, the count and what is kept are those of the definition.
-use mathlib.Core.Path.{◌≡◌, refl, sym, ap, subst, ◌∙◌}
-use mathlib.Core.Logic.{◌≢◌}
-use Prim.Native.Nat.{ℕ, zero, suc, ◌-◌, ◌*◌, ◌/◌, ◌≤◌, ◌<◌, ◌^◌}
-use native.Mathlib.Omega.{arith}
-use mathlib.Core.Bool.{Bool, true, false, cond, not, ◌&&◌, ◌||◌}
-use mathlib.Core.List.{List, [], ◌++◌, reverse, reverse-reverse}
-use lib.ListN.{length, take, drop, replicate, length-reverse}
-use lib.Dec.{eqb, leb, ltb}
-use borrow.Author.Tests.{eq-eqb, ne_eqb, eqb-true, leb-true, leb-false, le-leb, lt-leb, le-ltb, lt-ltb}
+-- The calls `rows` and `height`: what `read` leaves is wrapped, and what is answered and left is that of the definition.
+use Rattle.std.proofs.Common.{◌≡◌, refl, sym, ap, subst, ◌∙◌, ℕ, suc, ◌-◌, ◌*◌, ◌/◌, ◌≤◌, ◌<◌, Bool, true, false, List, [], ◌++◌, length, take, drop, replicate, leb, ltb, Option, Some, None, Ok, Err, arith, leb-true, leb-false, le-leb}
+use Rattle.std.proofs.lemmas.Bool.{lt-leb}
+use Rattle.std.proofs.lemmas.List.{length-reverse}
+use lib.ListN.{length-take}
+use borrow.Author.Tests.{lt-ltb, le-ltb}
+use mathlib.Core.Bool.{not, ◌&&◌, ◌||◌}
+use mathlib.Core.List.{reverse, reverse-reverse}
 use Rattle.buffer.specs.Sink.{cleared}
-use Rattle.buffer.specs.Sink.Laws.{cleared_none, cleared_all, cleared_behind}
+use Rattle.buffer.specs.Sink.Laws.{cleared_none, cleared_behind}
 use Rattle.text.specs.Tests.{cases, and_T, true_T, is_true}
+use Rattle.text.specs.Calls.Code.{number_of, answer_of}
 use Rattle.text.specs.Width.{profile01}
-use Rattle.text.specs.Class.{Profile}
-use Rattle.text.specs.Class.Code.{profile_of}
-use Rattle.text.specs.Class.Profile01.{profile_is}
 use Rattle.text.specs.Overstrike.{convert}
-use Rattle.text.specs.declared.Answer.{Answer}
+use Rattle.text.specs.declared.refusal.Refusal.{Refusal}
 use Rattle.spans.specs.Spans.{Span, spans, Record, records}
 use Rattle.spans.specs.Spans.Laws.{unmatched_spans}
 use Rattle.spans.specs.Calls.{Read, read_call, no_record}
 use Rattle.spans.specs.Calls.Contracts.{read_as}
 use Rattle.rows.specs.Rows.{Row}
 use Rattle.rows.specs.Calls.{mode_and_width, numbers_of, Wrapped}
-use Rattle.text.specs.TextParts.{column}
+use Rattle.rows.specs.Calls.Contracts.{line_room, row_count, numbers_kept, RowsCounted, wrapped_as, answered}
+use Rattle.rows.specs.Calls.Contracts.Laws.{rows_found, count, pairs, answered_refused, answered_five, answered_six, answered_accepted}
+use Rattle.rows.specs.Calls.Reading as reading
+use Rattle.rows.specs.Modes.{number_of_mode}
 use Rattle.rows.specs.Wrap.{RowList, row_list, with_rows, beginning, SpansRoom, MadeWrap}
-use Rattle.rows.specs.Calls.Contracts.{largest, line_room, wrapping_at, wrapping_of, spans_wrapped, row_count, numbers_kept, decided, outcome_of, answer_of, wrapped_as, answered}
-use Rattle.rows.specs.Calls.Contracts.Laws.{rows_found, count, pairs, listable, nothing, answered_refused, answered_five, answered_six, answered_accepted}
 use Rattle.rows.specs.Wrap.Laws.{rows_written, written_count, written_numbers, numbers_of_length}
 use Rattle.rows.specs.declared.Request.{Request}
-use Rattle.rows.specs.declared.Outcome.{Outcome}
+use Rattle.rows.specs.declared.modes.Mode.{Mode}
 use Rattle.rows.specs.declared.wrap.RowCounts.{RowCounts}
-use Rattle.rows.specs.declared.wrap.WrapState.{WrapState}
-use Rattle.rows.specs.declared.wrap.Wrapping.{Wrapping}
-use Rattle.rows.specs.Calls.Reading as reading
-use Rattle.rows.specs.Calls.Reading.{line_room_law}
 
--- ---- the covered functions
+pub number_some : (e : Refusal) → (r : ℕ) × (number_of e ≡ suc r)
+number_some Refusal.LineTooLong = (0, refl)
+number_some Refusal.ConvTooShort = (1, refl)
+number_some Refusal.MatchesNotInOrder = (2, refl)
+number_some Refusal.SpansTooFew = (3, refl)
+number_some Refusal.OutOfRange = (4, refl)
+number_some Refusal.RowsTooFew = (5, refl)
+number_some Refusal.WindowEmpty = (6, refl)
+number_some Refusal.ClusterWiderThanWindow = (7, refl)
+number_some Refusal.OutputTooShort = (8, refl)
+number_some Refusal.ListMalformed = (9, refl)
+number_some Refusal.TextPassesLastColumn = (10, refl)
+number_some Refusal.BodyTooLong = (11, refl)
+number_some Refusal.CellsMalformed = (15, refl)
+number_some Refusal.ReportTooShort = (16, refl)
+number_some Refusal.NoSuchReader = (17, refl)
 
-pub wrapping_is : (width mode conv n : ℕ) → n ≡ line_room conv → record { profile = record { version = 0 }; width = column width; mode = mode; len = n } ≡ wrapping_at width mode conv
-wrapping_is width mode conv n e = ap (λ (k : ℕ). record { profile = record { version = 0 }; width = column width; mode = mode; len = k }) e
+-- ---- a call that `read` refuses
 
-module _ (q : Request) (rows numbers : ℕ) where
-  pub kept_fit : q.known ≡ 0 → rows ≤ numbers / 2 → 2 * rows ≡ numbers_kept q rows numbers
-  unfolding numbers_kept
-  kept_fit z h = rw (eq-eqb q.known 0 z, le-leb rows (numbers / 2) h) refl
+module _ (q : Request) (size places numbers : ℕ) (line : List ℕ) (e : Refusal) (cs : List ℕ) (rs : List Record) where
+  -- what is left of a refused call
+  abbrev cleared_all : (l : List ℕ) → Wrapped
+  cleared_all l = wrapped_as (answer_of (Err e)) (replicate (length cs) 0) (replicate (length rs) no_record) (replicate (length l) 0)
 
-  pub kept_none : q.known ≡ 0 → numbers / 2 < rows → 0 ≡ numbers_kept q rows numbers
-  unfolding numbers_kept
-  kept_none z h = rw (eq-eqb q.known 0 z, lt-leb rows (numbers / 2) h) refl
+  abbrev refused_read : List ℕ → List Record → Type 0
+  refused_read cs' rs' = read_as (answer_of (Err e)) cs' rs' ≡ read_call profile01 size places [] line
 
-  pub kept_known : (q.known ≢ 0) → 0 ≡ numbers_kept q rows numbers
-  unfolding numbers_kept
-  kept_known z = rw (ne_eqb q.known 0 z) refl
+  pub line_refused : (cs' : List ℕ) (rs' : List Record) → refused_read cs' rs' → length cs ≡ size → length rs ≡ places → (l : List ℕ) → length l ≡ numbers → cleared_all l ≡ answered q size places numbers line
+  line_refused cs' rs' read c d l k =
+      let r = number_some e in
+      rw (c, d, k, r.1) (sym (answered_refused q size places numbers line r.0 (sym (ap (λ (x : Read). x.number) read) ∙ r.1)))
 
-  module _ (number k n : ℕ) (n_is : n ≡ row_count q rows) (e : k ≡ decided q number n numbers) where
-    pub outcome_accepted : (m : ℕ) → k ≡ 0 → m ≡ numbers_kept q rows numbers → record { number = 0; count = n; kept = largest; numbers = m } ≡ outcome_of q (decided q number (row_count q rows) numbers) rows numbers
-    unfolding outcome_of
-    outcome_accepted m z f = rw (eq-eqb (decided q number (row_count q rows) numbers) 0 (ap (λ (x : ℕ). decided q number x numbers) (sym n_is) ∙ sym e ∙ z), f, n_is)
+-- ---- a call that `read` accepts
 
-    pub outcome_refused : (k ≢ 0) → record { number = k; count = 0; kept = 0; numbers = 0 } ≡ outcome_of q (decided q number (row_count q rows) numbers) rows numbers
-    unfolding outcome_of
-    outcome_refused z =
-        let d : decided q number (row_count q rows) numbers ≡ k = ap (λ (x : ℕ). decided q number x numbers) (sym n_is) ∙ sym e in
-        rw (ne_eqb (decided q number (row_count q rows) numbers) 0 (λ f. z (sym d ∙ f)), d)
-
--- the outcome of a number
-outcome_zero : (q : Request) (rows numbers : ℕ) → outcome_of q 0 rows numbers ≡ record { number = 0; count = row_count q rows; kept = largest; numbers = numbers_kept q rows numbers }
-unfolding outcome_of
-outcome_zero q rows numbers = refl
-
-outcome_some : (q : Request) (n rows numbers : ℕ) → outcome_of q (suc n) rows numbers ≡ record { number = suc n; count = 0; kept = 0; numbers = 0 }
-unfolding outcome_of
-outcome_some q n rows numbers = rw (ne_eqb (suc n) 0 (λ z. omega arith))
-
--- question 6, asked by halves
-half : (b : Bool) (n numbers : ℕ) → ◌≡◌ {A = ℕ} (cond (b && ltb (numbers / 2) n) 6 0) (cond (not b || leb (2 * n) numbers) 0 6)
-half false n numbers = refl
-half true n numbers =
-    cases (leb (2 * n) numbers)
-    (λ e. rw (e, le-ltb (numbers / 2) n (omega (arith, leb-true (2 * n) numbers e))))
-    (λ e. rw (e, lt-ltb (numbers / 2) n (omega (arith, leb-false (2 * n) numbers e))))
-
--- ---- what `read` leaves is wrapped
-
-module _ (size places : ℕ) (line found : List ℕ) (a : Answer) (cs : List ℕ) (rs : List Record) (none : found ≡ []) (read : read_as a cs rs ≡ read_call profile01 size places found line) where
+module _ (size places : ℕ) (line : List ℕ) (n : ℕ) (cs : List ℕ) (rs : List Record) (read : read_as (answer_of (Ok n)) cs rs ≡ read_call profile01 size places [] line) where
   abbrev s : List ℕ
   s = convert profile01 line
 
@@ -94,139 +73,108 @@ module _ (size places : ℕ) (line found : List ℕ) (a : Answer) (cs : List ℕ
   abbrev call : Read
   call = read_call profile01 size places [] line
 
-  read_is : read_as a cs rs ≡ call
-  read_is = read ∙ ap (λ (m : List ℕ). read_call profile01 size places m line) none
+  number_is : call.number ≡ 0
+  number_is = reading.number_is size places [] line (answer_of (Ok n)) cs rs read
 
-  number_is : call.number ≡ a.number
-  number_is = reading.number_is size places [] line a cs rs read_is
+  abbrev after : List ℕ
+  after = reading.after size places [] line (answer_of (Ok n)) cs rs read refl
 
-  module _ (q : Request) (w : Wrapping) (w_is : w ≡ wrapping_of q size) (t : WrapState) (t_is : t ≡ beginning 0 0) where
-    module _ (n : ℕ) (n_is : n ≡ spans_wrapped q a.count) where
-      -- what `make_wrap` asks
-      pub call_room : length cs ≡ size → SpansRoom rs cs w.len t n
-      unfolding spans_wrapped
-      call_room l =
-          let c = reading.count_in size places [] line a cs rs read_is a.number refl in
-          let h = line_room_law cs w.len (ap (λ (x : Wrapping). x.len) w_is ∙ ap line_room (sym l)) in
-          let m : n ≤ a.count = cases (eqb q.known 0) (λ e. omega (arith, rw e at n_is)) (λ e. omega (arith, rw e at n_is)) in
-          rw t_is (record { there = omega (arith, c.0); few = omega (arith, c.1); short = h.0; fits = h.1; low = omega arith; near = omega arith; more = omega arith })
+  pub spans_there : n ≤ length rs
+  spans_there = (reading.count_in size places [] line (answer_of (Ok n)) cs rs read 0 refl).0
 
-      module _ (l l' : List ℕ) (tally : RowCounts) (made : MadeWrap (profile_of w.profile) w.width.0 w.mode (take w.len cs) (take n rs) l t l' tally)
-          (o : Outcome) (o_is : o ≡ outcome_of q (decided q a.number (row_count q tally.count) (length l)) tally.count (length l))
-          (cs_length : length cs ≡ size) (rs_length : length rs ≡ places) (l_length : length l' ≡ length l) (cs_room : size < 2 ^ 64) (rs_room : places < 2 ^ 64) where
+  -- the line and the spans that are wrapped
+  abbrev pub the_line : List ℕ
+  the_line = take (line_room (length cs)) cs
+
+  pub spans_room : SpansRoom (take n rs) the_line (beginning 0 0)
+  spans_room =
+      let c = reading.count_in size places [] line (answer_of (Ok n)) cs rs read 0 refl in
+      record { few = rw length-take (omega (arith, c.1)); short = rw length-take (omega arith); low = omega arith; near = omega arith; more = omega arith }
+
+  module _ (cs_length : length cs ≡ size) where
+    pub line_is : the_line ≡ s ++ after
+    line_is = rw cs_length (reading.line_part size places [] line (answer_of (Ok n)) cs rs read refl)
+
+    pub spans_are : take n rs ≡ records ss
+    spans_are = rw (unmatched_spans profile01 s) at (reading.spans_part size places [] line (answer_of (Ok n)) cs rs read refl)
+
+    module _ (q : Request) (numbers : ℕ) where
+      -- question 5
+      pub five : mode_and_width q.mode q.width ≡ false → (l : List ℕ) → length rs ≡ places → length l ≡ numbers → cleared_all q size places numbers line Refusal.OutOfRange cs rs l ≡ answered q size places numbers line
+      five e l d k = rw (cs_length, d, k) (sym (answered_five q size places numbers line number_is e))
+
+      module _ (asked : mode_and_width q.mode q.width ≡ true) (mode : Mode) (mode_is : number_of_mode mode ≡ q.mode) (l l' : List ℕ) (l_length : length l ≡ numbers) (l'_length : length l' ≡ numbers) where
         abbrev wrapped : List Row
-        wrapped = rows_found q size places (length l) line
+        wrapped = rows_found q size places numbers line
 
         abbrev none_yet : RowList
         none_yet = row_list l (beginning 0 0).tally
 
-        -- wrapped, unless the rows are known
-        module _ (fine : a.number ≡ 0) (asked : mode_and_width q.mode q.width ≡ true) (new : q.known ≡ 0) where
-          mode_low : q.mode ≤ 4
-          mode_low = leb-true q.mode 4 (is_true (leb q.mode 4) (and_T (leb q.mode 4) (leb q.width 65535) (true_T asked)).0)
+        mode_low : q.mode ≤ 4
+        mode_low = leb-true q.mode 4 (is_true (leb q.mode 4) (and_T (leb q.mode 4) (leb q.width 65535) (true_T asked)).0)
 
-          abbrev after : List ℕ
-          after = reading.after size places [] line a cs rs read_is fine
+        -- what was counted, and what is kept of the row list
+        record Listed (k : ℕ) : Type 0 where
+          count_is : k ≡ count q size places numbers line
+          kept : cleared 0 (numbers_kept q k numbers) l' ≡ pairs q size places numbers line ++ replicate (numbers - length (pairs q size places numbers line)) 0
 
-          all_spans : n ≡ a.count
-          unfolding spans_wrapped
-          all_spans = n_is ∙ rw (eq-eqb q.known 0 new)
+        nothing_kept : cleared 0 0 l' ≡ replicate (numbers - 0) 0
+        nothing_kept = let z : numbers - 0 ≡ numbers = omega arith in rw z (cleared_none 0 l' numbers l'_length)
 
-          made_is : MadeWrap profile01 q.width q.mode (s ++ after) (records ss) l (beginning 0 0) l' tally
-          made_is =
-              let m = subst (λ (P : Profile). MadeWrap P w.width.0 w.mode (take w.len cs) (take n rs) l t l' tally) (profile_is w.profile) made in
-              rw (← unmatched_spans profile01 s, ← reading.line_part size places [] line a cs rs read_is fine, ← reading.spans_part size places [] line a cs rs read_is fine, ← t_is, ← all_spans) (rw w_is at m)
+        module _ (new : q.known ≡ None) (t : RowCounts) (made : MadeWrap profile01 q.width (number_of_mode mode) the_line (take n rs) l (beginning 0 0) l' t) where
+          rows_are : row_list l' t ≡ with_rows none_yet (reverse wrapped)
+          rows_are =
+              let m = rw (line_is, spans_are, mode_is) at made in
+              m.same ∙ rows_written profile01 q.width (s ++ after) l 0 0 ss q.mode mode_low (rw (unmatched_spans profile01 s) at (reading.held_in size places [] line (answer_of (Ok n)) cs rs read refl))
 
-          rows_are : row_list l' tally ≡ with_rows none_yet (reverse wrapped)
-          rows_are = made_is.same ∙ rows_written profile01 q.width (s ++ after) l 0 0 ss q.mode mode_low (rw (unmatched_spans profile01 s) at (reading.held_in size places [] line a cs rs read_is fine))
+          few_rows : (with_rows none_yet (reverse wrapped)).tally.count < 0xFFFF_FFFF_FFFF_FFFF
+          few_rows = rw (ap (λ (k : RowList). k.tally.count) rows_are) at made.more
 
-          few_rows : (with_rows none_yet (reverse wrapped)).tally.count < largest
-          few_rows = rw (ap (λ (k : RowList). k.tally.count) rows_are) at made_is.more
-
-          rows_count : tally.count ≡ length wrapped
+          rows_count : t.count ≡ length wrapped
           rows_count = ap (λ (k : RowList). k.tally.count) rows_are ∙ written_count none_yet refl (reverse wrapped) few_rows ∙ length-reverse wrapped
 
-          rows_numbers : 2 * length wrapped ≤ length l → l' ≡ numbers_of wrapped ++ drop (2 * length (reverse wrapped)) l
+          rows_numbers : 2 * length wrapped ≤ numbers → l' ≡ numbers_of wrapped ++ drop (2 * length (reverse wrapped)) l
           rows_numbers h =
-              ap (λ (k : RowList). k.numbers) rows_are ∙ written_numbers l (beginning 0 0).tally refl (reverse wrapped) (rw (length-reverse wrapped) h) few_rows
+              ap (λ (k : RowList). k.numbers) rows_are ∙ written_numbers l (beginning 0 0).tally refl (reverse wrapped) (rw (length-reverse wrapped, l_length) h) few_rows
               ∙ ap (λ (x : List Row). numbers_of x ++ drop (2 * length (reverse wrapped)) l) (reverse-reverse wrapped)
 
-        module _ (fine : a.number ≡ 0) (asked : mode_and_width q.mode q.width ≡ true) where
-          count_is : row_count q tally.count ≡ count q size places (length l) line
+          listed_new : Listed t.count
           unfolding row_count
-          count_is = cases (eqb q.known 0) (λ e. rw e (rows_count fine asked (eqb-true q.known 0 e))) (λ e. rw e refl)
+          listed_new =
+              record {
+                count_is = rw new rows_count;
+                kept =
+                    cases (leb (2 * length wrapped) numbers)
+                    (λ f. rw (new, f, rows_count, le-leb (length wrapped) (numbers / 2) (omega (arith, leb-true (2 * length wrapped) numbers f)))
+                    (cleared_behind 0 l' (numbers_of wrapped) (drop (2 * length (reverse wrapped)) l) numbers (2 * length wrapped) (rows_numbers (leb-true (2 * length wrapped) numbers f)) (numbers_of_length wrapped) l'_length))
+                    (λ f. rw (new, f, rows_count, lt-leb (length wrapped) (numbers / 2) (omega (arith, leb-false (2 * length wrapped) numbers f))) nothing_kept);
+              }
 
-          nothing_kept : cleared 0 0 l' ≡ replicate (length l - 0) 0
-          nothing_kept = let z : length l - 0 ≡ length l = omega arith in rw z (cleared_none 0 l' (length l) l_length)
+        listed_at : (o : Option ℕ) → q.known ≡ o → (k : ℕ) → RowsCounted profile01 q.width (number_of_mode mode) the_line (take n rs) o l l' k → Listed k
+        unfolding row_count
+        listed_at None e k c = subst Listed c.2 (listed_new e c.0 c.1)
+        listed_at (Some m) e k c = record { count_is = rw e c; kept = rw e nothing_kept }
 
-          -- what is kept of the row list
-          pairs_kept : cleared 0 (numbers_kept q tally.count (length l)) l' ≡ pairs q size places (length l) line ++ replicate (length l - length (pairs q size places (length l) line)) 0
-          unfolding numbers_kept
-          pairs_kept =
-              cases (eqb q.known 0)
-              (λ e. let c = rows_count fine asked (eqb-true q.known 0 e) in
-              cases (leb (2 * length wrapped) (length l))
-              (λ f. rw (e, f, c, le-leb (length wrapped) (length l / 2) (omega (arith, leb-true (2 * length wrapped) (length l) f)))
-              (cleared_behind 0 l' (numbers_of wrapped) (drop (2 * length (reverse wrapped)) l) (length l) (2 * length wrapped) (rows_numbers fine asked (eqb-true q.known 0 e) (leb-true (2 * length wrapped) (length l) f)) (numbers_of_length wrapped) l_length))
-              (λ f. rw (e, f, c, lt-leb (length wrapped) (length l / 2) (omega (arith, leb-false (2 * length wrapped) (length l) f))) nothing_kept))
-              (λ e. rw e nothing_kept)
+        -- question 6
+        half : (b : Bool) (k m : ℕ) → k ≡ m → (not b || leb (2 * m) numbers) ≡ not (b && ltb (length l' / 2) k)
+        half false k m e = refl
+        half true k m e =
+            rw (e, l'_length)
+            (cases (leb (2 * m) numbers)
+            (λ f. let h : ltb (numbers / 2) m ≡ false = le-ltb _ _ (omega (arith, leb-true (2 * m) numbers f)) in rw (f, h) refl)
+            (λ f. let h : ltb (numbers / 2) m ≡ true = lt-ltb _ _ (omega (arith, leb-false (2 * m) numbers f)) in rw (f, h) refl))
 
-        outcome_at : (m : ℕ) → decided q a.number (row_count q tally.count) (length l) ≡ m → o ≡ outcome_of q m tally.count (length l)
-        outcome_at m e = o_is ∙ ap (λ (k : ℕ). outcome_of q k tally.count (length l)) e
+        module _ (k : ℕ) (c : RowsCounted profile01 q.width (number_of_mode mode) the_line (take n rs) q.known l l' k) where
+          counted : Listed k
+          counted = listed_at q.known refl k c
 
-        abbrev leaves : Outcome → Wrapped
-        leaves o = wrapped_as (answer_of o) (cleared 0 o.kept cs) (cleared no_record o.kept rs) (cleared 0 o.numbers l')
+          pub six : (q.listed && ltb (length l' / 2) k) ≡ true → length rs ≡ places → cleared_all q size places numbers line Refusal.RowsTooFew cs rs l' ≡ answered q size places numbers line
+          six e d = rw (cs_length, d, l'_length) (sym (answered_six q size places numbers line number_is asked (half q.listed k _ counted.count_is ∙ ap not e)))
 
-        abbrev Done : Type 0
-        Done = leaves o ≡ answered q size places (length l) line
-
-        refused : (m : ℕ) → decided q a.number (row_count q tally.count) (length l) ≡ suc m → answered q size places (length l) line ≡ nothing q size places (length l) line (suc m) → Done
-        refused m e f =
-            let c = cleared_none 0 cs size cs_length in
-            let d = cleared_none no_record rs places rs_length in
-            let k = cleared_none 0 l' (length l) l_length in
-            ap leaves (outcome_at (suc m) e ∙ outcome_some q m tally.count (length l)) ∙ rw (c, d, k) (sym f)
-
-        -- questions 5 and 6 of a line that `read` accepts
-        module _ (fine : a.number ≡ 0) where
-          decided_fine : decided q a.number (row_count q tally.count) (length l) ≡ cond (mode_and_width q.mode q.width) (cond (q.listed && ltb (length l / 2) (row_count q tally.count)) 6 0) 5
-          unfolding decided
-          decided_fine = rw fine
-
-          five : mode_and_width q.mode q.width ≡ false → Done
-          five e = refused 4 (decided_fine ∙ rw e) (answered_five q size places (length l) line (number_is ∙ fine) e)
-
-          module _ (asked : mode_and_width q.mode q.width ≡ true) where
-            abbrev can_list : Bool
-            can_list = listable q size places (length l) line
-
-            decided_asked : decided q a.number (row_count q tally.count) (length l) ≡ cond can_list 0 6
-            decided_asked = decided_fine ∙ rw (asked, count_is fine asked) (half q.listed (count q size places (length l) line) (length l))
-
-            six : can_list ≡ false → Done
-            six e = refused 5 (decided_asked ∙ rw e) (answered_six q size places (length l) line (number_is ∙ fine) asked e)
-
-            fits : can_list ≡ true → Done
-            fits e =
-                let c : cleared 0 largest cs ≡ call.conv = cleared_all 0 cs largest (omega arith) ∙ ap (λ (x : Read). x.conv) read_is in
-                let d : cleared no_record largest rs ≡ call.spans = cleared_all no_record rs largest (omega arith) ∙ ap (λ (x : Read). x.spans) read_is in
-                ap leaves (outcome_at 0 (decided_asked ∙ rw e) ∙ outcome_zero q tally.count (length l))
-                ∙ rw (c, d, count_is fine asked, pairs_kept fine asked) (sym (answered_accepted q size places (length l) line (number_is ∙ fine) asked e))
-
-          asked_or_five : Done
-          asked_or_five = cases (mode_and_width q.mode q.width) (λ e. cases (can_list e) (fits e) (six e)) five
-
-        by_number : (m : ℕ) → a.number ≡ m → Done
-        unfolding decided
-        by_number zero e = asked_or_five e
-        by_number (suc r) e = refused r (rw (e, lt-ltb 0 (suc r) (omega arith))) (answered_refused q size places (length l) line r (number_is ∙ e))
-
-        -- what the call leaves once what is not kept is cleared
-        pub called : Done
-        called = by_number a.number refl
-
--- the same of lists that hold just that
-pub called_cleared : (x : Wrapped) (o : Outcome) (cs : List ℕ) (rs : List Record) (l : List ℕ) → wrapped_as (answer_of o) (cleared 0 o.kept cs) (cleared no_record o.kept rs) (cleared 0 o.numbers l) ≡ x
-    → (a : Answer) (cs' : List ℕ) (rs' : List Record) (l' : List ℕ) → a ≡ answer_of o → cs' ≡ cleared 0 o.kept cs → rs' ≡ cleared no_record o.kept rs → l' ≡ cleared 0 o.numbers l
-    → wrapped_as a cs' rs' l' ≡ x
-called_cleared x o cs rs l done a cs' rs' l' e f g h = rw (e, f, g, h) done
+          pub accepted : (q.listed && ltb (length l' / 2) k) ≡ false → wrapped_as (answer_of (Ok k)) cs rs (cleared 0 (numbers_kept q k (length l')) l') ≡ answered q size places numbers line
+          accepted e =
+              let c = ap (λ (x : Read). x.conv) read in
+              let d = ap (λ (x : Read). x.spans) read in
+              let f = ap (λ (m : ℕ). cleared 0 (numbers_kept q k m) l') l'_length ∙ counted.kept in
+              rw (f, c, d) (ap (λ (m : ℕ). wrapped_as (answer_of (Ok m)) call.conv call.spans (pairs q size places numbers line ++ replicate (numbers - length (pairs q size places numbers line)) 0)) counted.count_is)
+              ∙ sym (answered_accepted q size places numbers line number_is asked (half q.listed k _ counted.count_is ∙ ap not e))

@@ -5,17 +5,17 @@ use native.Mathlib.Nat.{add-zero, add_assoc}
 use native.Mathlib.Omega.{arith}
 use mathlib.Core.Bool.{Bool, ◌&&◌, false, not, true}
 use mathlib.Core.List.{List, []}
-use mathlib.Core.Logic.{◌≢◌}
+use Rattle.std.proofs.Common.{Some, None}
 use lib.ListN.{length, drop, get_or}
 use lib.Dec.{eqb, leb, leb→le, eqb→eq}
 use borrow.Author.Tests.{le-leb}
 use Rattle.text.specs.Tests.{and_T, true_T, is_true}
 use Rattle.text.specs.Utf8.{decode}
-use Rattle.text.specs.Class.{Profile, whitespace}
+use Rattle.text.specs.Class.{Profile}
 use Rattle.text.specs.Width.{width_of}
 use Rattle.text.specs.Utf8.Code.{size, first_sequence, sequence_of}
 use Rattle.text.specs.Class.Code.{profile_of}
-use Rattle.text.specs.Utf8.Code.Laws.{scalar_at_law, none_at, none_past, size_nil, size_cons}
+use Rattle.text.specs.Utf8.Code.Laws.{ScalarAt, some_at, nothing_at, none_past, size_nil, size_cons}
 use Rattle.text.specs.Width.Laws.{width_nil, width_cons, width_two}
 use Rattle.text.specs.declared.BytePlace.{BytePlace}
 use Rattle.text.specs.declared.Column.{Column}
@@ -24,17 +24,9 @@ use Rattle.text.specs.declared.utf8.Sequence.{Sequence}
 use Rattle.text.specs.declared.class.Profile as code
 use Rattle.rows.specs.Words.Laws.{belongs, still_of, still_none, still_on, still_ends, still_hyphen, still_turns}
 use Rattle.rows.specs.Words.Contracts.{byte_belongs, WordAt}
-use Rattle.text.specs.Utf8.Code.FirstSequence.{ascii_first}
+use Rattle.text.specs.Utf8.Code.FirstSequence.{ascii_some}
 use Rattle.text.specs.Class.Ranges.{printable_no_space, space_is}
 use Rattle.text.specs.Class.Document01.{printable_width}
-
-pub sep_is : (v : ℕ) (b sep : Bool) → b ≡ whitespace v → sep ≡ true → b ≡ belongs sep v
-unfolding belongs
-sep_is v b sep e h = rw h e
-
-pub word_is : (v : ℕ) (b sep : Bool) → b ≡ whitespace v → sep ≡ false → (not b && not (eqb v 0x2D)) ≡ belongs sep v
-unfolding belongs
-word_is v b sep e h = rw (h, e)
 
 -- a byte of one column
 record Narrow (sep : Bool) (b : ℕ) : Type 0 where
@@ -78,28 +70,36 @@ module _ (P : Profile) (s : List ℕ) (at p : BytePlace) (w : Column) (sep : Boo
   pub word_ends : length s ≤ p.0 → WordAt P s at.0 (record { end = p; width = w })
   word_ends h = word_stops (rw (none_past s p.0 h) (still_none sep))
 
-  module _ (u : Sequence) (here : p.0 < length s) (read : u ≡ first_sequence (decode (drop p.0 s))) where
-    pub word_damaged : u.len ≡ 0 → WordAt P s at.0 (record { end = p; width = w })
-    word_damaged z = word_stops (rw (none_at s p.0 u here read z) (still_none sep))
+  pub word_damaged : (here : p.0 < length s) → None ≡ first_sequence (decode (drop p.0 s)) → WordAt P s at.0 (record { end = p; width = w })
+  word_damaged here read = word_stops (rw (nothing_at s p.0 here _ read refl) (still_none sep))
 
-    module _ (z : u.len ≢ 0) (b : Bool) (e : b ≡ belongs sep u.code) (f : b ≡ false) where
-      pub word_apart : sep ≡ true → WordAt P s at.0 (record { end = p; width = w })
-      word_apart t =
-          let a = scalar_at_law s p.0 u here read z in
-          word_stops (rw (a.run, t) (still_ends a.scalar (text_at s (p.0 + u.len)) (rw a.code (rw t at (sym e ∙ f)))))
+  module _ (u : Sequence) (here : p.0 < length s) (read : Some u ≡ first_sequence (decode (drop p.0 s))) (b : Bool) (e : b ≡ belongs sep u.code) (f : b ≡ false) where
+    abbrev a : ScalarAt s p.0 u
+    a = some_at s p.0 here _ read u refl
 
-      pub word_turns : sep ≡ false → (u.code ≡ 0x2D → ⊥) → WordLoop P s at p w true
-      word_turns t h =
-          let a = scalar_at_law s p.0 u here read z in
-          let q : still_of true (text_at s p.0) ≡ still_of sep (text_at s p.0) = rw (a.run, t) (sym (still_turns a.scalar (text_at s (p.0 + u.len)) (rw a.code (rw t at (sym e ∙ f))) (λ y. h (sym a.code ∙ y)))) in
-          record { inside = k.inside; from = k.from; end = rw q k.end; width = rw q k.width; small = k.small }
+    pub word_apart : sep ≡ true → WordAt P s at.0 (record { end = p; width = w })
+    word_apart t = word_stops (rw (a.run, t) (still_ends a.scalar (text_at s (p.0 + u.len)) (rw a.code (rw t at (sym e ∙ f)))))
+
+    pub word_turns : sep ≡ false → (u.code ≡ 0x2D → ⊥) → WordLoop P s at p w true
+    word_turns t h =
+        let q : still_of true (text_at s p.0) ≡ still_of sep (text_at s p.0) = rw (a.run, t) (sym (still_turns a.scalar (text_at s (p.0 + u.len)) (rw a.code (rw t at (sym e ∙ f))) (λ y. h (sym a.code ∙ y)))) in
+        record { inside = k.inside; from = k.from; end = rw q k.end; width = rw q k.width; small = k.small }
 
 module _ (f : code.Profile) (s : List ℕ) (at p : BytePlace) (w : Column) (sep : Bool) (u : Sequence) (k : WordLoop (profile_of f) s at p w sep) (here : p.0 < length s)
-    (read : u ≡ first_sequence (decode (drop p.0 s))) where
-  pub word_on : (b : Bool) (x : ℕ) → (u.len ≢ 0) → b ≡ belongs sep u.code → b ≡ true → x ≡ (profile_of f).width u.code
+    (read : Some u ≡ first_sequence (decode (drop p.0 s))) where
+  abbrev there : ScalarAt s p.0 u
+  there = some_at s p.0 here _ read u refl
+
+  pub scalar_fits : p.0 + u.len ≤ length s
+  scalar_fits = there.fits
+
+  pub scalar_some : 1 ≤ u.len
+  scalar_some = there.some
+
+  pub word_on : (b : Bool) (x : ℕ) → b ≡ belongs sep u.code → b ≡ true → x ≡ (profile_of f).width u.code
       → WordLoop (profile_of f) s at (place (p.0 + u.len)) (column (w.0 + x)) sep
-  word_on b x z e t v =
-      let a = scalar_at_law s p.0 u here read z in
+  word_on b x e t v =
+      let a = there in
       let q = still_on a.scalar (text_at s (p.0 + u.len)) sep (rw a.code (sym e ∙ t)) in
       record {
         inside = a.fits;
@@ -110,10 +110,10 @@ module _ (f : code.Profile) (s : List ℕ) (at p : BytePlace) (w : Column) (sep 
       }
 
   -- the word ends in a `-`
-  pub word_hyphen : sep ≡ false → u.code ≡ 0x2D → (u.len ≢ 0) → WordAt (profile_of f) s at.0 (record { end = place (p.0 + u.len); width = column (w.0 + 1) })
+  pub word_hyphen : sep ≡ false → u.code ≡ 0x2D → WordAt (profile_of f) s at.0 (record { end = place (p.0 + u.len); width = column (w.0 + 1) })
   unfolding still_of
-  word_hyphen t h z =
-      let a = scalar_at_law s p.0 u here read z in
+  word_hyphen t h =
+      let a = there in
       let q = still_hyphen a.scalar (text_at s (p.0 + u.len)) (a.code ∙ h) in
       let v : (profile_of f).width a.scalar.code ≡ 1 = rw (a.code ∙ h) (sym (printable_width f 0x2D true refl refl)) in
       record {
@@ -127,4 +127,4 @@ pub byte_on : (f : code.Profile) (s : List ℕ) (at p : BytePlace) (w : Column) 
     → b ≡ get_or s p.0 0 → r ≡ byte_belongs sep b → r ≡ true → WordLoop (profile_of f) s at (place (p.0 + 1)) (column (w.0 + 1)) sep
 byte_on f s at p w sep b r k here e h t =
     let n = narrow sep b (sym h ∙ t) in
-    word_on f s at p w sep (sequence_of b 1) k here (ascii_first s p.0 b here e (omega (arith, n.high))) true 1 (λ z. absurd (omega arith)) (sym n.fits) refl (printable_width f b true (sym (rw (le-leb 0x20 b n.low, le-leb b 0x7E n.high) refl)) refl)
+    word_on f s at p w sep (sequence_of b 1) k here (ascii_some s p.0 b here e (omega (arith, n.high))) true 1 (sym n.fits) refl (printable_width f b true (sym (rw (le-leb 0x20 b n.low, le-leb b 0x7E n.high) refl)) refl)

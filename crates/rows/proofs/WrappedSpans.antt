@@ -1,18 +1,20 @@
 -- One span, by its kind; all spans, one after the other.
-use mathlib.Core.Path.{◌≡◌, refl, sym, ap, ap₂, ◌∙◌}
-use mathlib.Core.Logic.{◌≢◌}
-use Prim.Native.Nat.{ℕ, ◌+◌, ◌-◌, ◌*◌, ◌≤◌, ◌<◌}
+use mathlib.Core.Path.{◌≡◌, refl, sym, ap, ◌∙◌}
+use mathlib.Core.Logic.{◌≢◌, ◌⊎◌, inl, inr}
+use Prim.Native.Nat.{ℕ, ◌+◌, ◌*◌, ◌≤◌, ◌<◌}
 use native.Mathlib.Numerals.{add-one}
 use native.Mathlib.Omega.{arith}
 use mathlib.Core.Bool.{true, false, ◌||◌}
 use mathlib.Core.List.{List, [], ◌∷◌}
 use lib.ListN.{length, drop, take, get_or, length-drop, length-take, drop_of_length-le}
-use lib.Seq.{take_all, take-nil, length-take-le, drop-cons, get_or-take}
+use lib.Seq.{drop-cons}
 use lib.Dec.{eqb}
 use borrow.Author.Tests.{eq-eqb, ne_eqb, eqb-false}
 use Rattle.text.specs.Tests.{cases}
 use Rattle.text.specs.Class.{Profile}
 use Rattle.spans.specs.Spans.{Record}
+use Rattle.spans.specs.Spans.Kinds.{number_of_kind, NamesNoKind}
+use Rattle.spans.specs.declared.kind.SpanKind.{SpanKind}
 use Rattle.spans.specs.Spans.ContentLaw.{text_in}
 use Rattle.spans.specs.Calls.{no_record}
 use Rattle.rows.specs.Rows.{Wrap, tabbed}
@@ -25,16 +27,6 @@ use Rattle.rows.proofs.WrappedTexts.{renamed, on_id, turn, done}
 
 -- ---- the bytes of a record
 
-module _ (line : List ℕ) (at len : ℕ) where
-  pub text_past : length line ≤ at → take 0 line ≡ take len (drop at line)
-  text_past h = sym (ap (take len) (drop_of_length-le line h) ∙ take-nil len)
-
-  pub text_rest : length line - at ≤ len → take (length line - at) (drop at line) ≡ take len (drop at line)
-  text_rest h = take_all (length line - at) (drop at line) (rw length-drop (omega arith)) ∙ sym (take_all len (drop at line) (rw length-drop h))
-
-  pub text_part : take (at + len - at) (drop at line) ≡ take len (drop at line)
-  text_part = let e : at + len - at ≡ len = omega arith in ap (λ (n : ℕ). take n (drop at line)) e
-
 -- ---- one span
 
 either : (n a : ℕ) → a ≤ n → n ≤ a + 1 → (eqb n a || eqb n (a + 1)) ≡ true
@@ -43,14 +35,41 @@ either n a h k = cases (eqb n a) (λ t. rw t) (λ t. rw (t, eq-eqb n (a + 1) (om
 neither : (n a : ℕ) → (n ≢ a) → (n ≢ a + 1) → (eqb n a || eqb n (a + 1)) ≡ false
 neither n a h k = rw (ne_eqb n a h, ne_eqb n (a + 1) k)
 
-module _ (P : Profile) (width mode : ℕ) (buffer : List ℕ) (len : ℕ) (r : Record) (l : List ℕ) (t : WrapState) (there : SpanRoom buffer len t) where
-  abbrev line : List ℕ
-  line = take len buffer
+-- a kind of which no row is made
+record Silent (n : ℕ) : Type 0 where
+  text : n ≢ 1
+  matched : n ≢ 2
+  control : n ≢ 3
+  invalid : n ≢ 4
+  unprintable : n ≢ 5
+  tab : n ≢ 10
+
+high : (n : ℕ) → 6 ≤ n → (n ≢ 10) → Silent n
+high n h t = record { text = λ z. omega arith; matched = λ z. omega arith; control = λ z. omega arith; invalid = λ z. omega arith; unprintable = λ z. omega arith; tab = t }
+
+silent : (k : SpanKind) (n : ℕ) → number_of_kind k ≡ n → (k ≡ SpanKind.Text → ⊥) → (k ≡ SpanKind.Match → ⊥) → (k ≡ SpanKind.Control → ⊥) → (k ≡ SpanKind.Invalid → ⊥) → (k ≡ SpanKind.Unprintable → ⊥) → (k ≡ SpanKind.Tab → ⊥) → Silent n
+silent SpanKind.Text n q a b c d e f = absurd (a refl)
+silent SpanKind.Match n q a b c d e f = absurd (b refl)
+silent SpanKind.Control n q a b c d e f = absurd (c refl)
+silent SpanKind.Invalid n q a b c d e f = absurd (d refl)
+silent SpanKind.Unprintable n q a b c d e f = absurd (e refl)
+silent SpanKind.SgrSequence n q a b c d e f = high n (omega arith) (λ z. omega arith)
+silent SpanKind.Hyperlink n q a b c d e f = high n (omega arith) (λ z. omega arith)
+silent SpanKind.LineDrawing n q a b c d e f = high n (omega arith) (λ z. omega arith)
+silent SpanKind.Ignore n q a b c d e f = high n (omega arith) (λ z. omega arith)
+silent SpanKind.Tab n q a b c d e f = absurd (f refl)
+silent SpanKind.CrLf n q a b c d e f = high n (omega arith) (λ z. omega arith)
+silent SpanKind.Lf n q a b c d e f = high n (omega arith) (λ z. omega arith)
+silent SpanKind.EraseToEndOfLine n q a b c d e f = high n (omega arith) (λ z. omega arith)
+
+module _ (P : Profile) (width mode : ℕ) (line : List ℕ) (r : Record) (l : List ℕ) (t : WrapState) (there : SpanRoom line t) where
+  abbrev len : ℕ
+  len = length line
 
   pub span_unwrapped : mode ≡ 0 → Stepped l t (span_of P width mode line r) (10 * len + 8) (2 * len + 1) l t
   unfolding span_of
   span_unwrapped e =
-      record { same = sym (on_id (span_of P width mode line r) (wrap_rows l t) (λ w. rw (eq-eqb mode 0 e))); low = there.room.low; near = omega arith; more = omega arith }
+      record { same = sym (on_id (span_of P width mode line r) (wrap_rows l t) (λ w. rw (eq-eqb mode 0 e))); low = there.low; near = omega arith; more = omega arith }
 
   module _ (e : mode ≢ 0) where
     by_kind : (f : Wrap → Wrap) (n m : ℕ) (l' : List ℕ) (t' : WrapState) → ((w : Wrap) → f w ≡ record_in P (count_of mode) width (word_mode mode) line r w) → n ≤ 10 * len + 8 → m ≤ 2 * len + 1
@@ -62,7 +81,7 @@ module _ (P : Profile) (width mode : ℕ) (buffer : List ℕ) (len : ℕ) (r : R
         → Stepped l t (text_of P width (word_mode mode) (text_at text 0)) (2 * length text) (2 * length text) l' t' → Stepped l t (span_of P width mode line r) (10 * len + 8) (2 * len + 1) l' t'
     unfolding record_in text_of text_in
     span_text_law text l' t' q h k s =
-        let n : length text ≤ len = rw (q, length-take, length-drop, length-take) (omega arith) in
+        let n : length text ≤ len = rw (q, length-take, length-drop) (omega arith) in
         by_kind (text_of P width (word_mode mode) (text_at text 0)) (2 * length text) (2 * length text) l' t' (λ w. rw (either r.kind 1 h k, q)) (omega arith) (omega arith) s
 
     pub span_mark : (l' : List ℕ) (t' : WrapState) → 3 ≤ r.kind → r.kind ≤ 4 → Stepped l t (unbroken_of width 4) 4 1 l' t' → Stepped l t (span_of P width mode line r) (10 * len + 8) (2 * len + 1) l' t'
@@ -73,18 +92,55 @@ module _ (P : Profile) (width mode : ℕ) (buffer : List ℕ) (len : ℕ) (r : R
         → Stepped l t (unbroken_of width (count_of mode (text_at text 0))) (10 * length text + 8) 1 l' t' → Stepped l t (span_of P width mode line r) (10 * len + 8) (2 * len + 1) l' t'
     unfolding record_in unbroken_of text_in
     span_unprintable text l' t' q k s =
-        let n : length text ≤ len = rw (q, length-take, length-drop, length-take) (omega arith) in
+        let n : length text ≤ len = rw (q, length-take, length-drop) (omega arith) in
         by_kind (unbroken_of width (count_of mode (text_at text 0))) (10 * length text + 8) 1 l' t' (λ w. rw (k, q)) (omega arith) (omega arith) s
 
     pub span_tab : (l' : List ℕ) (t' : WrapState) → r.kind ≡ 10 → Stepped l t (tabbed width) 8 1 l' t' → Stepped l t (span_of P width mode line r) (10 * len + 8) (2 * len + 1) l' t'
     unfolding record_in
     span_tab l' t' k s = by_kind (tabbed width) 8 1 l' t' (λ w. rw k) (omega arith) (omega arith) s
 
-    pub span_none : (r.kind ≢ 1) → (r.kind ≢ 2) → (r.kind ≢ 3) → (r.kind ≢ 4) → (r.kind ≢ 5) → (r.kind ≢ 10) → Stepped l t (span_of P width mode line r) (10 * len + 8) (2 * len + 1) l t
+    span_none : Silent r.kind → Stepped l t (span_of P width mode line r) (10 * len + 8) (2 * len + 1) l t
     unfolding record_in
-    span_none a b c d x y =
-        by_kind (λ w. w) 0 0 l t (λ w. rw (ne_eqb r.kind 1 a, ne_eqb r.kind 2 b, ne_eqb r.kind 3 c, ne_eqb r.kind 4 d, ne_eqb r.kind 5 x, ne_eqb r.kind 10 y)) (omega arith) (omega arith)
-        (record { same = sym (on_id (λ w. w) (wrap_rows l t) (λ w. refl)); low = there.room.low; near = omega arith; more = omega arith })
+    span_none n =
+        by_kind (λ w. w) 0 0 l t (λ w. rw (ne_eqb r.kind 1 n.text, ne_eqb r.kind 2 n.matched, ne_eqb r.kind 3 n.control, ne_eqb r.kind 4 n.invalid, ne_eqb r.kind 5 n.unprintable, ne_eqb r.kind 10 n.tab)) (omega arith) (omega arith)
+        (record { same = sym (on_id (λ w. w) (wrap_rows l t) (λ w. refl)); low = there.low; near = omega arith; more = omega arith })
+
+    -- the same by a kind's name
+    module _ (k : SpanKind) (named : number_of_kind k ≡ r.kind) where
+      pub in_text : (text l' : List ℕ) (t' : WrapState) → text ≡ take r.len (drop r.place.0 line) → (k ≡ SpanKind.Text) ⊎ (k ≡ SpanKind.Match)
+          → Stepped l t (text_of P width (word_mode mode) (text_at text 0)) (2 * length text) (2 * length text) l' t' → Stepped l t (span_of P width mode line r) (10 * len + 8) (2 * len + 1) l' t'
+      in_text text l' t' q o s =
+          let h : (1 ≤ r.kind) × (r.kind ≤ 2) = elim o [ inl e ↦ (let n = rw e at named in (omega arith, omega arith)) | inr e ↦ (let n = rw e at named in (omega arith, omega arith)) ] in
+          span_text_law text l' t' q h.0 h.1 s
+
+      pub in_mark : (l' : List ℕ) (t' : WrapState) → (k ≡ SpanKind.Control) ⊎ (k ≡ SpanKind.Invalid) → Stepped l t (unbroken_of width 4) 4 1 l' t'
+          → Stepped l t (span_of P width mode line r) (10 * len + 8) (2 * len + 1) l' t'
+      in_mark l' t' o s =
+          let h : (3 ≤ r.kind) × (r.kind ≤ 4) = elim o [ inl e ↦ (let n = rw e at named in (omega arith, omega arith)) | inr e ↦ (let n = rw e at named in (omega arith, omega arith)) ] in
+          span_mark l' t' h.0 h.1 s
+
+      pub in_unprintable : (text l' : List ℕ) (t' : WrapState) → text ≡ take r.len (drop r.place.0 line) → k ≡ SpanKind.Unprintable
+          → Stepped l t (unbroken_of width (count_of mode (text_at text 0))) (10 * length text + 8) 1 l' t' → Stepped l t (span_of P width mode line r) (10 * len + 8) (2 * len + 1) l' t'
+      in_unprintable text l' t' q e s = let n = rw e at named in span_unprintable text l' t' q (omega arith) s
+
+      pub in_tab : (l' : List ℕ) (t' : WrapState) → k ≡ SpanKind.Tab → Stepped l t (tabbed width) 8 1 l' t' → Stepped l t (span_of P width mode line r) (10 * len + 8) (2 * len + 1) l' t'
+      in_tab l' t' e s = let n = rw e at named in span_tab l' t' (omega arith) s
+
+      pub in_others : (k ≡ SpanKind.Text → ⊥) → (k ≡ SpanKind.Match → ⊥) → (k ≡ SpanKind.Control → ⊥) → (k ≡ SpanKind.Invalid → ⊥) → (k ≡ SpanKind.Unprintable → ⊥) → (k ≡ SpanKind.Tab → ⊥)
+          → Stepped l t (span_of P width mode line r) (10 * len + 8) (2 * len + 1) l t
+      in_others a b c d e f = span_none (silent k r.kind named a b c d e f)
+
+    pub in_none : NamesNoKind r.kind → Stepped l t (span_of P width mode line r) (10 * len + 8) (2 * len + 1) l t
+    in_none h =
+        span_none
+        (record {
+          text = λ z. (let g : 13 < r.kind = h (omega arith) in omega arith);
+          matched = λ z. (let g : 13 < r.kind = h (omega arith) in omega arith);
+          control = λ z. (let g : 13 < r.kind = h (omega arith) in omega arith);
+          invalid = λ z. (let g : 13 < r.kind = h (omega arith) in omega arith);
+          unprintable = λ z. (let g : 13 < r.kind = h (omega arith) in omega arith);
+          tab = λ z. (let g : 13 < r.kind = h (omega arith) in omega arith);
+        })
 
 -- ---- all spans
 
@@ -111,47 +167,42 @@ module _ (P : Profile) (width mode : ℕ) (line : List ℕ) where
   unfolding spans_of
   spans_of_none xs e t = rw e
 
--- the loop over the first n spans
-pub record Spanning (P : Profile) (width mode : ℕ) (line : List ℕ) (spans : List Record) (n : ℕ) (l₀ : List ℕ) (t₀ : WrapState) (i : ℕ) (l : List ℕ) (t : WrapState) : Type 0 where
-  pub inside : i ≤ n
-  pub work : on (spans_of P width mode line (drop i (take n spans))) (wrap_rows l t) ≡ on (spans_of P width mode line (take n spans)) (wrap_rows l₀ t₀)
+-- the loop over the spans
+pub record Spanning (P : Profile) (width mode : ℕ) (line : List ℕ) (spans : List Record) (l₀ : List ℕ) (t₀ : WrapState) (i : ℕ) (l : List ℕ) (t : WrapState) : Type 0 where
+  pub inside : i ≤ length spans
+  pub work : on (spans_of P width mode line (drop i spans)) (wrap_rows l t) ≡ on (spans_of P width mode line spans) (wrap_rows l₀ t₀)
   pub low : t.start.0 ≤ t.position.0
   pub near : t.position.0 ≤ t₀.position.0 + 327688 * i
   pub more : t.tally.count ≤ t₀.tally.count + 65537 * i
 
-module _ (P : Profile) (width mode : ℕ) (buffer : List ℕ) (len : ℕ) (spans : List Record) (n : ℕ) (l₀ : List ℕ) (t₀ : WrapState) (room : SpansRoom spans buffer len t₀ n) where
-  abbrev the_line : List ℕ
-  the_line = take len buffer
-
-  pub spans_begin : Spanning P width mode the_line spans n l₀ t₀ 0 l₀ t₀
+module _ (P : Profile) (width mode : ℕ) (line : List ℕ) (spans : List Record) (l₀ : List ℕ) (t₀ : WrapState) (room : SpansRoom spans line t₀) where
+  pub spans_begin : Spanning P width mode line spans l₀ t₀ 0 l₀ t₀
   spans_begin = record { inside = omega arith; work = refl; low = room.low; near = omega arith; more = omega arith }
 
-  module _ (i : ℕ) (l : List ℕ) (t : WrapState) (s : Spanning P width mode the_line spans n l₀ t₀ i l t) where
-    pub turn_room : i < n → SpanRoom buffer len t
-    turn_room h = record { fits = room.fits; room = record { low = s.low; room = omega (arith, s.near, room.near, room.few, room.short) } }
+  module _ (i : ℕ) (l : List ℕ) (t : WrapState) (s : Spanning P width mode line spans l₀ t₀ i l t) where
+    pub turn_room : i < length spans → SpanRoom line t
+    turn_room h = record { low = s.low; room = omega (arith, s.near, room.near, room.few, room.short) }
 
-    next_span : i < n → drop i (take n spans) ≡ get_or spans i no_record ∷ drop (i + 1) (take n spans)
-    next_span h =
-        let k : length (take n spans) ≡ n = length-take-le n spans room.there in
-        drop-cons (take n spans) i no_record (omega arith) ∙ ap₂ (λ (x : Record) (m : ℕ). x ∷ drop m (take n spans)) (get_or-take n spans i no_record h) (sym (add-one i))
+    next_span : i < length spans → drop i spans ≡ get_or spans i no_record ∷ drop (i + 1) spans
+    next_span h = rw add-one (drop-cons spans i no_record h)
 
-    pub spans_turn : (l' : List ℕ) (t' : WrapState) → i < n
-        → Stepped l t (span_of P width mode the_line (get_or spans i no_record)) (10 * len + 8) (2 * len + 1) l' t'
-        → Spanning P width mode the_line spans n l₀ t₀ (i + 1) l' t'
+    pub spans_turn : (l' : List ℕ) (t' : WrapState) → i < length spans
+        → Stepped l t (span_of P width mode line (get_or spans i no_record)) (10 * length line + 8) (2 * length line + 1) l' t'
+        → Spanning P width mode line spans l₀ t₀ (i + 1) l' t'
     spans_turn l' t' h k =
         record {
           inside = omega arith;
-          work = turn (spans_of P width mode the_line (drop i (take n spans))) (wrap_rows l t) s.work (span_of P width mode the_line (get_or spans i no_record)) (spans_of P width mode the_line (drop (i + 1) (take n spans))) (wrap_rows l' t')
-              (spans_of_more P width mode the_line (drop i (take n spans)) (drop (i + 1) (take n spans)) (get_or spans i no_record) (next_span h)) (spans_of_over P width mode the_line (drop (i + 1) (take n spans))) k.same;
+          work = turn (spans_of P width mode line (drop i spans)) (wrap_rows l t) s.work (span_of P width mode line (get_or spans i no_record)) (spans_of P width mode line (drop (i + 1) spans)) (wrap_rows l' t')
+              (spans_of_more P width mode line (drop i spans) (drop (i + 1) spans) (get_or spans i no_record) (next_span h)) (spans_of_over P width mode line (drop (i + 1) spans)) k.same;
           low = k.low;
           near = omega (arith, k.near, s.near, room.short);
           more = omega (arith, k.more, s.more, room.short);
         }
 
-    pub spans_end : (l' : List ℕ) (r : RowCounts) → i ≡ n → LastRow l t mode l' r → MadeWrap P width mode the_line (take n spans) l₀ t₀ l' r
+    pub spans_end : (l' : List ℕ) (r : RowCounts) → i ≡ length spans → LastRow l t mode l' r → MadeWrap P width mode line spans l₀ t₀ l' r
     spans_end l' r e k =
-        let z : drop i (take n spans) ≡ [] = drop_of_length-le (take n spans) {i = i} (rw (length-take-le n spans room.there) (omega arith)) in
+        let z : drop i spans ≡ [] = drop_of_length-le spans {i = i} (omega arith) in
         record {
-          same = k.same ∙ ap (last_row_list mode) (done (spans_of P width mode the_line (drop i (take n spans))) (wrap_rows l t) s.work (spans_of_none P width mode the_line (drop i (take n spans)) z));
+          same = k.same ∙ ap (last_row_list mode) (done (spans_of P width mode line (drop i spans)) (wrap_rows l t) s.work (spans_of_none P width mode line (drop i spans) z));
           more = omega (arith, k.more, s.more, room.more, room.few);
         }

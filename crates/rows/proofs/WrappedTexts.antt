@@ -2,12 +2,13 @@
 use mathlib.Core.Path.{◌≡◌, refl, sym, ap, ◌∙◌}
 use Prim.Native.Nat.{ℕ, ◌+◌, ◌-◌, ◌*◌, ◌≤◌, ◌<◌}
 use native.Mathlib.Omega.{arith}
-use mathlib.Core.Bool.{Bool, true, false, ◌||◌}
+use mathlib.Core.Bool.{Bool, true, false, not}
 use mathlib.Core.List.{List, [], ◌∷◌, ◌++◌}
 use mathlib.Core.Logic.{◌≢◌}
 use lib.ListN.{length, drop, take, length-take}
-use lib.Dec.{eqb, leb}
-use borrow.Author.Tests.{lt-ltb, le-ltb}
+use lib.Dec.{leb, ltb}
+use Rattle.text.specs.Tests.{cases, true_T, is_false}
+use Rattle.std.proofs.Common.{T_not}
 use Rattle.text.specs.Each.{All, all_cons}
 use Rattle.text.specs.Utf8.{Scalar}
 use Rattle.text.specs.Utf8.Valid.{Valid}
@@ -26,9 +27,13 @@ use Rattle.text.specs.declared.TextPart.{TextPart}
 use Rattle.text.specs.declared.segmentation.ClusterStep.{ClusterStep}
 use Rattle.text.specs.TextParts.{place, column, text_at}
 use Rattle.text.specs.TextParts.Laws.{first_there, behind_part}
-use Rattle.text.specs.Scalar.{packed_at}
-use Rattle.text.specs.Scalar.Laws.{packed_inside, packed_none, first_some}
+use Rattle.text.specs.Scalar.{packed_at, scalar_here}
+use Rattle.text.specs.Scalar.Laws.{packed_inside, first_some, none_text, no_scalar, scalar_there}
+use Rattle.text.specs.declared.scalar.Scalar as code
+use Rattle.std.proofs.Common.{is_some}
+use Rattle.std.proofs.Common.{Option as Maybe}
 use Rattle.rows.specs.Marks.{drawn_columns}
+use Rattle.rows.specs.Modes.{counts_drawn}
 use Rattle.rows.specs.Words.{Word, words}
 use Rattle.rows.specs.Words.Laws.{first_word, rest_words, first_word_all, first_word_some, words_first}
 use Rattle.rows.specs.Rows.{Row, Wrap, wrap, pushed, unbroken, by_clusters, by_words, long_word, one_word, split_text}
@@ -108,15 +113,15 @@ module _ (P : Profile) (width : ℕ) where
   unfolding clusters_of by_clusters unbroken_of
   clusters_more s rest n e v t = rw v (ap (by_clusters P width t) e)
 
-pub record Breaking (P : Profile) (width : ℕ) (text l₀ : List ℕ) (t₀ : WrapState) (p : BytePlace) (u : ℕ) (l : List ℕ) (t : WrapState) : Type 0 where
+pub record Breaking (P : Profile) (width : ℕ) (text l₀ : List ℕ) (t₀ : WrapState) (p : BytePlace) (u : Maybe code.Scalar) (l : List ℕ) (t : WrapState) : Type 0 where
   pub so : Stepping (clusters_of P width) text l₀ t₀ p l t
   pub more : t.tally.count ≤ t₀.tally.count + p.0
-  pub scalar : u ≡ packed_at P text p.0
+  pub scalar : u ≡ scalar_here P text p.0
 
-pub break_begin : (P : Profile) (width n : ℕ) (text l : List ℕ) (t : WrapState) (u : ℕ) → u ≡ packed_at P text 0 → Room t n → Breaking P width text l t (place 0) u l t
+pub break_begin : (P : Profile) (width n : ℕ) (text l : List ℕ) (t : WrapState) (u : Maybe code.Scalar) → u ≡ scalar_here P text 0 → Room t n → Breaking P width text l t (place 0) u l t
 break_begin P width n text l t u e r = record { so = record { inside = omega arith; long = refl; work = refl; low = r.low; near = omega arith }; more = omega arith; scalar = e }
 
-module _ (P : Profile) (width : ℕ) (text l₀ : List ℕ) (t₀ : WrapState) (p : BytePlace) (u : ℕ) (l : List ℕ) (t : WrapState) (b : Breaking P width text l₀ t₀ p u l t) where
+module _ (P : Profile) (width : ℕ) (text l₀ : List ℕ) (t₀ : WrapState) (p : BytePlace) (u : Maybe code.Scalar) (l : List ℕ) (t : WrapState) (b : Breaking P width text l₀ t₀ p u l t) where
   abbrev now_text : List Scalar
   now_text = text_at text p.0
 
@@ -129,20 +134,23 @@ module _ (P : Profile) (width : ℕ) (text l₀ : List ℕ) (t₀ : WrapState) (
         more = omega (arith, b.more, b.so.inside);
       }
 
-  pub break_end : u ≡ 0 → Stepped l₀ t₀ (clusters_of P width (text_at text 0)) (2 * length text) (length text) l t
-  break_end z = break_done (packed_none P text p.0 u b.scalar z)
+  pub break_end : is_some u ≡ false → Stepped l₀ t₀ (clusters_of P width (text_at text 0)) (2 * length text) (length text) l t
+  break_end z = break_done (none_text P text p.0 u b.scalar (no_scalar u z))
 
-  pub break_ready : (u ≢ 0) → NextClusterReady P text p.0 u
-  break_ready z = record { inside = packed_inside P text p.0 u b.scalar z; scalar = b.scalar }
+  break_some : is_some u ≡ true → (packed_at P text p.0 ≢ 0)
+  break_some = scalar_there P text p.0 u b.scalar
+
+  pub break_ready : is_some u ≡ true → NextClusterReady P text p.0 u
+  break_ready z = record { inside = packed_inside P text p.0 (packed_at P text p.0) refl (break_some z); scalar = b.scalar }
 
   module _ (g : ClusterStep) (c : NextCluster P text p.0 g) where
-    break_further : (u ≢ 0) → p.0 < g.part.end.0
-    break_further z = omega (arith, c.part.end, first_some P text p.0 u b.scalar z)
+    break_further : is_some u ≡ true → p.0 < g.part.end.0
+    break_further z = omega (arith, c.part.end, first_some P text p.0 (packed_at P text p.0) refl (break_some z))
 
-    pub break_less : (u ≢ 0) → length text - g.part.end.0 < length text - p.0
+    pub break_less : is_some u ≡ true → length text - g.part.end.0 < length text - p.0
     break_less z = let h = break_further z in omega (arith, h, c.part.inside)
 
-    pub break_turn : (l' : List ℕ) (t' : WrapState) → (u ≢ 0) → Stepped l t (unbroken_of width g.part.width.0) g.part.width.0 1 l' t' → length l' ≡ length l
+    pub break_turn : (l' : List ℕ) (t' : WrapState) → is_some u ≡ true → Stepped l t (unbroken_of width g.part.width.0) g.part.width.0 1 l' t' → length l' ≡ length l
         → Breaking P width text l₀ t₀ g.part.end g.next l' t'
     break_turn l' t' z s k =
         let m = c.part in
@@ -163,7 +171,7 @@ module _ (P : Profile) (width : ℕ) (text l₀ : List ℕ) (t₀ : WrapState) (
         }
 
 pub break_none : (P : Profile) (width n : ℕ) (text l : List ℕ) (t : WrapState) → Room t n → length text ≡ 0 → Stepped l t (clusters_of P width (text_at text 0)) (2 * length text) (length text) l t
-break_none P width n text l t r h = break_done P width text l t (place 0) (packed_at P text 0) l t (break_begin P width n text l t (packed_at P text 0) refl r) (none_past text 0 (omega arith))
+break_none P width n text l t r h = break_done P width text l t (place 0) (scalar_here P text 0) l t (break_begin P width n text l t (scalar_here P text 0) refl r) (none_past text 0 (omega arith))
 
 -- ---- a word
 
@@ -311,21 +319,26 @@ module _ (P : Profile) (width : ℕ) (text l₀ : List ℕ) (t₀ : WrapState) (
 
 -- ---- by the mode
 
-module _ (P : Profile) (width mode : ℕ) (s : List Scalar) (l l' : List ℕ) (t t' : WrapState) (n m : ℕ) where
-  pub text_words : (eqb mode 2 || eqb mode 4) ≡ true → Stepped l t (words_of P width s) n (2 * m) l' t' → Stepped l t (text_of P width (word_mode mode) s) n (2 * m) l' t'
-  unfolding text_of split_text words_of word_mode
-  text_words e k = renamed l l' t t' (words_of P width s) (text_of P width (word_mode mode) s) n (2 * m) n (2 * m) (λ w. rw e) (omega arith) (omega arith) k
+module _ (P : Profile) (width mode : ℕ) (s : List Scalar) (l l' : List ℕ) (t t' : WrapState) (n m : ℕ) (b : Bool) (test : b ≡ word_mode mode) where
+  pub text_words : b ≡ true → Stepped l t (words_of P width s) n (2 * m) l' t' → Stepped l t (text_of P width (word_mode mode) s) n (2 * m) l' t'
+  unfolding text_of split_text words_of
+  text_words e k = renamed l l' t t' (words_of P width s) (text_of P width (word_mode mode) s) n (2 * m) n (2 * m) (λ w. rw (sym test ∙ e)) (omega arith) (omega arith) k
 
-  pub text_clusters : (eqb mode 2 || eqb mode 4) ≡ false → Stepped l t (clusters_of P width s) n m l' t' → Stepped l t (text_of P width (word_mode mode) s) n (2 * m) l' t'
-  unfolding text_of split_text clusters_of word_mode
-  text_clusters e k = renamed l l' t t' (clusters_of P width s) (text_of P width (word_mode mode) s) n m n (2 * m) (λ w. rw e) (omega arith) (omega arith) k
+  pub text_clusters : b ≡ false → Stepped l t (clusters_of P width s) n m l' t' → Stepped l t (text_of P width (word_mode mode) s) n (2 * m) l' t'
+  unfolding text_of split_text clusters_of
+  text_clusters e k = renamed l l' t t' (clusters_of P width s) (text_of P width (word_mode mode) s) n m n (2 * m) (λ w. rw (sym test ∙ e)) (omega arith) (omega arith) k
 
 -- an Unprintable span
-module _ (width mode : ℕ) (s : List Scalar) (l l' : List ℕ) (t t' : WrapState) (n : ℕ) where
-  pub unprintable_eight : mode < 3 → Stepped l t (unbroken_of width 8) 8 1 l' t' → Stepped l t (unbroken_of width (count_of mode s)) (n + 8) 1 l' t'
-  unfolding count_of
-  unprintable_eight h k = renamed l l' t t' (unbroken_of width 8) (unbroken_of width (count_of mode s)) 8 1 (n + 8) 1 (λ w. rw (lt-ltb mode 3 h)) (omega arith) (omega arith) k
+module _ (width mode : ℕ) (s : List Scalar) (l l' : List ℕ) (t t' : WrapState) (n : ℕ) (b : Bool) (test : b ≡ counts_drawn mode) where
+  counted_by : b ≡ true → ltb mode 3 ≡ false
+  counted_by e = is_false (ltb mode 3) (T_not (ltb mode 3) (true_T (sym test ∙ e)))
 
-  pub unprintable_drawn : (c : ℕ) → 3 ≤ mode → c ≡ drawn_columns s → c ≤ n → Stepped l t (unbroken_of width c) c 1 l' t' → Stepped l t (unbroken_of width (count_of mode s)) (n + 8) 1 l' t'
+  pub unprintable_eight : b ≡ false → Stepped l t (unbroken_of width 8) 8 1 l' t' → Stepped l t (unbroken_of width (count_of mode s)) (n + 8) 1 l' t'
   unfolding count_of
-  unprintable_drawn c h e b k = renamed l l' t t' (unbroken_of width c) (unbroken_of width (count_of mode s)) c 1 (n + 8) 1 (λ w. rw (le-ltb mode 3 h, e)) (omega arith) (omega arith) k
+  unprintable_eight e k =
+      let f : ltb mode 3 ≡ true = cases (ltb mode 3) (λ h. h) (λ h. absurd (let z : true ≡ false = sym (ap not h) ∙ sym test ∙ e in cc)) in
+      renamed l l' t t' (unbroken_of width 8) (unbroken_of width (count_of mode s)) 8 1 (n + 8) 1 (λ w. rw f) (omega arith) (omega arith) k
+
+  pub unprintable_drawn : (c : ℕ) → b ≡ true → c ≡ drawn_columns s → c ≤ n → Stepped l t (unbroken_of width c) c 1 l' t' → Stepped l t (unbroken_of width (count_of mode s)) (n + 8) 1 l' t'
+  unfolding count_of
+  unprintable_drawn c e f g k = renamed l l' t t' (unbroken_of width c) (unbroken_of width (count_of mode s)) c 1 (n + 8) 1 (λ w. rw (counted_by e, f)) (omega arith) (omega arith) k

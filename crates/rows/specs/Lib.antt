@@ -3,6 +3,7 @@ pub mod Marks
 pub mod Rows
 pub mod Calls
 pub mod Wrap
+pub mod Modes
 pub mod Numbers
 pub mod Narrowest
 pub mod Widths

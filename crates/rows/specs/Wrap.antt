@@ -125,10 +125,9 @@ pub record Stepped (l : List ℕ) (t : WrapState) (f : Wrap → Wrap) (n m : ℕ
 
 -- ---- spans
 
--- room for a span of a line of len bytes, which a buffer holds
-pub record SpanRoom (buffer : List ℕ) (len : ℕ) (t : WrapState) : Type 0 where
-  pub fits : len ≤ length buffer
-  pub room : Room t (10 * len + 8)
+-- room for a span of a line
+abbrev pub SpanRoom : List ℕ → WrapState → Type 0
+SpanRoom line t = Room t (10 * length line + 8)
 
 -- what a record of the line does, an Unprintable span counting `count`
 unfoldable pub record_in : Profile → (List Scalar → ℕ) → ℕ → Bool → List ℕ → Record → Wrap → Wrap
@@ -188,12 +187,10 @@ beginning first last =
       tally = record { count = 0; first = first; last = last; start = column 0; end = column 0; ended = column 0 };
     }
 
--- the first n spans of a converted line, few enough that all columns and rows fit a usize
-pub record SpansRoom (spans : List Record) (buffer : List ℕ) (len : ℕ) (t : WrapState) (n : ℕ) : Type 0 where
-  pub there : n ≤ length spans
-  pub few : n ≤ 32768
-  pub short : len ≤ 32768
-  pub fits : len ≤ length buffer
+-- the spans of a converted line, few enough that all columns and rows fit a usize
+pub record SpansRoom (spans : List Record) (line : List ℕ) (t : WrapState) : Type 0 where
+  pub few : length spans ≤ 32768
+  pub short : length line ≤ 32768
   pub low : t.start.0 ≤ t.position.0
   pub near : t.position.0 ≤ 4294967296
   pub more : t.tally.count ≤ 4294967296

@@ -6,16 +6,15 @@ use text::Column;
 use text::utf8::decode;
 
 // Of a scalar's mark: `<U+`, four digits or more, `>`.
+#[tactic(auto, unfolding(crate::specs::Marks::mark_columns))]
 pub fn mark_columns(code: u32) -> Column
     ensures { result.0 ≡ mark_columns code }
 {
-    if code < 0x10000 {
-        return Column(8);
+    match code {
+        0..0x1_0000 => Column(8),
+        0x1_0000..0x10_0000 => Column(9),
+        _ => Column(10),
     }
-    if code < 0x100000 {
-        return Column(9);
-    }
-    Column(10)
 }
 
 // Of an Unprintable span: a mark for each scalar of its text.
@@ -26,13 +25,11 @@ pub(crate) fn drawn_columns(text: &[u8]) -> Column
     let mut columns = Column(0);
     let mut p = 0;
     while p < text.len() {
-        let u = decode(text, p);
-        if u.len == 0 {
+        let Some(scalar) = decode(text, p) else {
             return columns;
-        }
-        let mark = mark_columns(u.code);
-        columns = Column(columns.0 + mark.0);
-        p += u.len;
+        };
+        columns = Column(columns.0 + mark_columns(scalar.code).0);
+        p += scalar.len;
     }
     columns
 }

@@ -20,11 +20,11 @@ pub fn rows_numbers(
 ) -> Answer
     ensures { RowsNumbers (rows_call profile01 (length conv.old) (places_in (length numbers.old)) (length rows.old) width mode line.now) (length numbers.old) result conv.new numbers.new rows.new }
 {
-    let mut spans = no_spans();
-    let n = places_in(numbers.len());
-    let a = super::rows(line, width, mode, conv, &mut spans[..n], rows);
-    write_numbers(&spans[..n], numbers);
-    a
+    let mut list = no_spans();
+    let spans = &mut list[..places_in(numbers.len())];
+    let answer = super::rows(line, width, mode, conv, spans, rows);
+    write_numbers(spans, numbers);
+    answer
 }
 
 pub fn height_numbers(
@@ -36,11 +36,11 @@ pub fn height_numbers(
 ) -> Answer
     ensures { ReadNumbers (height_call profile01 (length conv.old) (places_in (length numbers.old)) width mode line.now) (length numbers.old) result conv.new numbers.new }
 {
-    let mut spans = no_spans();
-    let n = places_in(numbers.len());
-    let a = super::height(line, width, mode, conv, &mut spans[..n]);
-    write_numbers(&spans[..n], numbers);
-    a
+    let mut list = no_spans();
+    let spans = &mut list[..places_in(numbers.len())];
+    let answer = super::height(line, width, mode, conv, spans);
+    write_numbers(spans, numbers);
+    answer
 }
 
 pub fn narrowest_numbers(
@@ -53,9 +53,9 @@ pub fn narrowest_numbers(
 ) -> WidthAnswer
     ensures { NarrowestNumbers (narrowest_call profile01 (length conv.old) (places_in (length numbers.old)) mode wanted greatest line.now) (length numbers.old) result conv.new numbers.new }
 {
-    let mut spans = no_spans();
-    let n = places_in(numbers.len());
-    let a = super::narrowest(line, mode, wanted, greatest, conv, &mut spans[..n]);
-    write_numbers(&spans[..n], numbers);
-    a
+    let mut list = no_spans();
+    let spans = &mut list[..places_in(numbers.len())];
+    let answer = super::narrowest(line, mode, wanted, greatest, conv, spans);
+    write_numbers(spans, numbers);
+    answer
 }

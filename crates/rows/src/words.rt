@@ -1,23 +1,28 @@
 // Words of a text: src/line.rs, SplitWords.
-ghost use Rattle.std.specs.Prelude.{◌≡◌, ◌<◌, length};
+ghost use Rattle.std.specs.Prelude.{◌≡◌, ◌+◌, ◌<◌, ◌^◌, length};
 ghost use Rattle.text.specs.Class.Code.{profile_of};
 ghost use Rattle.rows.specs.Words.Laws.{belongs};
-ghost use Rattle.rows.specs.Words.Contracts.{byte_belongs, WordAt};
+ghost use Rattle.rows.specs.Words.Contracts.{byte_belongs, longer, WordAt};
 
 use text::class::{Profile, is_whitespace};
 use text::utf8::decode;
 use text::width::width;
 use text::{BytePlace, Column, TextPart};
 
+// A word ends with it.
+const HYPHEN: u8 = b'-';
+
 // Is x a scalar of a separator, or else of a word before a `-`?
+#[tactic(auto, unfolding(crate::specs::Words::Laws::belongs))]
 fn belongs(sep: bool, x: u32) -> bool
     ensures { result ≡ belongs sep x }
 {
     let space = is_whitespace(x);
     if sep {
-        return space;
+        space
+    } else {
+        !space & (x != HYPHEN as u32)
     }
-    !space & !(x == 0x2D)
 }
 
 // Is it a byte that belongs, of one column: a space, or else one of 21 to 7E but for `-`?
@@ -25,9 +30,22 @@ fn byte_belongs(sep: bool, b: u8) -> bool
     ensures { result ≡ byte_belongs sep b }
 {
     if sep {
-        return b == 0x20;
+        b == b' '
+    } else {
+        ((b'!' <= b) & (b <= b'~')) & (b != HYPHEN)
     }
-    ((0x21 <= b) & (b <= 0x7E)) & (b != 0x2D)
+}
+
+// The part with one scalar more.
+fn longer(part: TextPart, len: usize, width: usize) -> TextPart
+    requires end { part.end.0 + len < 2 ^ 64 }
+    requires width { part.width.0 + width < 2 ^ 64 }
+    ensures { result ≡ longer part len width }
+{
+    TextPart {
+        end: BytePlace(part.end.0 + len),
+        width: Column(part.width.0 + width),
+    }
 }
 
 // The word at a place with its separator.
@@ -35,35 +53,31 @@ pub(crate) fn next_word(profile: Profile, text: &[u8], at: BytePlace) -> TextPar
     requires { at.0 < length text.now }
     ensures { WordAt (profile_of profile) text.now at.0 result }
 {
-    let mut p = at;
-    let mut w = Column(0);
+    let mut part = TextPart {
+        end: at,
+        width: Column(0),
+    };
     let mut sep = false;
-    while p.0 < text.len() {
-        let i = p.0;
+    while part.end.0 < text.len() {
+        let i = part.end.0;
         if byte_belongs(sep, text[i]) {
-            w = Column(w.0 + 1);
-            p = BytePlace(i + 1);
-        } else {
-            let u = decode(text, i);
-            if u.len == 0 {
-                return TextPart { end: p, width: w };
-            }
-            if belongs(sep, u.code) {
-                w = Column(w.0 + width(profile, u.code));
-                p = BytePlace(i + u.len);
-            } else {
-                if sep {
-                    return TextPart { end: p, width: w };
-                }
-                if u.code == 0x2D {
-                    return TextPart {
-                        end: BytePlace(i + u.len),
-                        width: Column(w.0 + 1),
-                    };
-                }
-                sep = true;
-            }
+            part = longer(part, 1, 1);
+            continue;
         }
+        let Some(scalar) = decode(text, i) else {
+            return part;
+        };
+        if belongs(sep, scalar.code) {
+            part = longer(part, scalar.len, width(profile, scalar.code));
+            continue;
+        }
+        if sep {
+            return part;
+        }
+        if scalar.code == HYPHEN as u32 {
+            return longer(part, scalar.len, 1);
+        }
+        sep = true;
     }
-    TextPart { end: p, width: w }
+    part
 }

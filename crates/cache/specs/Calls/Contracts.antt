@@ -1,5 +1,5 @@
 -- What the contracts of the calls say beyond the definitions.
-use Rattle.std.specs.Prelude.{◌≡◌, ℕ, ◌*◌, ◌≤◌, Bool, true, false, cond, not, ◌&&◌, List, length, take, eqb}
+use Rattle.std.specs.Prelude.{◌≡◌, ℕ, ◌*◌, ◌≤◌, Bool, true, false, cond, not, ◌&&◌, List, length, take, eqb, None}
 use Rattle.std.proofs.Math.Option.{some}
 use Rattle.text.specs.declared.Answer.{Answer}
 use Rattle.spans.specs.Spans.{Record}
@@ -17,7 +17,7 @@ abbrev pub rows_request : List ℕ → ℕ → ℕ → Request
 rows_request wraps width mode = record { width = width; mode = mode; listed = true; known = kept_rows (key 0 width mode) wraps }
 
 abbrev pub height_request : List ℕ → ℕ → ℕ → Request
-height_request wraps width mode = record { width = width; mode = mode; listed = false; known = cond (eqb mode 0) 0 (kept_rows (key 0 width mode) wraps) }
+height_request wraps width mode = record { width = width; mode = mode; listed = false; known = cond (eqb mode 0) None (kept_rows (key 0 width mode) wraps) }
 
 abbrev pub cached_rows_as : Answer → List ℕ → List Record → List ℕ → List ℕ → CachedRows
 cached_rows_as a conv spans rows wraps = record { answer = wrapped_as a conv spans rows; wraps = wraps }

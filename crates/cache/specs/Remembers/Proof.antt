@@ -1,6 +1,6 @@
 -- What kept wraps remember: the proof.
 use Prim.Native.Nat.{ℕ, zero, suc, ◌*◌, ◌≤◌, ◌<◌}
-use Rattle.std.proofs.Common.{arith, sym, ◌∙◌}
+use Rattle.std.proofs.Common.{arith, sym, subst, ◌∙◌}
 use Rattle.std.specs.Prelude.{cond, ◌&&◌, ◌≡◌, take, eqb, leb}
 use mathlib.Core.List.{List, [], ◌∷◌, map}
 use Rattle.std.proofs.Math.Option.{Option, none, some}
@@ -80,8 +80,8 @@ module _ (P : Profile) (line : List ℕ) where
     invariant_found : (k : Key) (h : Head) → find k (kept wraps) ≡ some h → Invariant (after_use wraps (kept wraps) h) (k ∷ us)
     invariant_found k h e =
         let w = found_has k h (kept_well wraps).within e in
-        let f : find (key_of h) (kept wraps) ≡ some h = rw w.1 e in
-        rw w.1 at (invariant_heads wraps h g.size w.0 (free_found wraps (key_of h) (one (key_of h)) h f) (all_cons (found_has k h g.right e).0 (part_behind (key_of h) g.right)))
+        let f : find (key_of h) (kept wraps) ≡ some h = ap (λ (x : Key). find x (kept wraps)) w.1 ∙ e in
+        subst (λ (x : Key). Invariant (after_use wraps (kept wraps) h) (x ∷ us)) w.1 (invariant_heads wraps h g.size w.0 (free_found wraps (key_of h) (one (key_of h)) h f) (all_cons (found_has k h g.right e).0 (part_behind (key_of h) g.right)))
 
     -- another one comes there
     invariant_new : (k : Key) → find k (kept wraps) ≡ none → length (rows_at k) ≤ 1024

@@ -1,9 +1,10 @@
 -- What the contracts say of the heads by their numbers.
-use Rattle.std.specs.Prelude.{◌≡◌, ℕ, suc, ◌+◌, ◌*◌, ◌≤◌, ◌<◌, Bool, true, false, cond, List, [], ◌∷◌, length, take, replicate, get_or}
+use Rattle.std.specs.Prelude.{◌≡◌, ℕ, ◌+◌, ◌*◌, ◌≤◌, ◌<◌, Bool, true, false, List, ◌∷◌, length, take, replicate, get_or, None, Some}
+use Rattle.std.specs.Prelude.{Option as Maybe}
 use Rattle.std.proofs.Math.Option.{Option, none, some}
 use Rattle.buffer.specs.Sink.{written}
 use Rattle.text.specs.Calls.{lent}
-use Rattle.cache.specs.Wraps.{Key, key, same_key, head, key_of, heads_in, kept, find, without, kept_numbers, head_numbers, new_block}
+use Rattle.cache.specs.Wraps.{Key, key, head, key_of, heads_in, kept, find, without, kept_numbers, head_numbers, new_block}
 use Rattle.cache.specs.declared.wraps.Head.{Head}
 
 -- the head that the five numbers from 5 i on are
@@ -28,17 +29,17 @@ pub record Kept (l : List ℕ) (n : ℕ) : Type 0 where
   pub count : n ≡ length (kept l)
   pub few : n ≤ 4
 
--- where the first head of a key stands, or else how many there are
-unfoldable pub index_of : Key → List Head → ℕ
-index_of k [] = 0
-index_of k (h ∷ hs) = let further : ℕ = suc (index_of k hs) in cond (same_key k (key_of h)) 0 further
+-- as the code has it
+abbrev pub option_of : {A : Type 0} → Option A → Maybe A
+option_of none = None
+option_of (some x) = Some x
 
-unfoldable pub rows_found : Option Head → ℕ
-rows_found none = 0
-rows_found (some h) = h.count
+-- how many rows are kept for a key
+abbrev pub rows_found : Option Head → Maybe ℕ
+rows_found none = None
+rows_found (some h) = Some h.count
 
--- how many rows are kept for a key; 0 where none are
-abbrev pub kept_rows : Key → List ℕ → ℕ
+abbrev pub kept_rows : Key → List ℕ → Maybe ℕ
 kept_rows k l = rows_found (find k (kept l))
 
 -- the numbers of the heads after a use
@@ -49,13 +50,9 @@ pub record HeadAtReady (l : List ℕ) (i : ℕ) : Type 0 where
   pub size : length l ≡ 8212
   pub low : i < 4
 
-pub record UseReady (l : List ℕ) (n v : ℕ) : Type 0 where
-  pub kept : Kept l n
-  pub version : v ≡ 0
-
-pub record HeadsReady (heads l : List ℕ) (n v : ℕ) : Type 0 where
+pub record HeadsReady (heads l : List ℕ) (n : ℕ) : Type 0 where
   pub blank : heads ≡ replicate 20 0
-  pub used : UseReady l n v
+  pub kept : Kept l n
 
 pub record NewBlock (l : List ℕ) (b : ℕ) : Type 0 where
   pub is : b ≡ new_block (kept l)

@@ -1,8 +1,7 @@
 -- What `read` leaves, for those who go on with the spans: the converted line at the front of the buffer, and a record for each span.
-use Rattle.std.specs.Prelude.{◌≡◌, ℕ, zero, suc, ◌+◌, ◌-◌, ◌≤◌, List, ◌++◌, length, take, replicate, leb}
-use Rattle.std.proofs.Common.{sym, ap, ◌∙◌, arith, length-append, take_at, leb-true, leb-false}
+use Rattle.std.specs.Prelude.{◌≡◌, ℕ, zero, suc, ◌+◌, ◌-◌, ◌≤◌, List, ◌++◌, length, take, replicate}
+use Rattle.std.proofs.Common.{sym, ap, ◌∙◌, arith, length-append, take_at}
 use Rattle.std.proofs.Math.Seq.{take-append-add}
-use Rattle.text.specs.Tests.{cases}
 use Rattle.text.specs.Each.{All}
 use Rattle.text.specs.Width.{profile01}
 use Rattle.text.specs.Overstrike.{convert}
@@ -41,7 +40,7 @@ module _ (size places : ℕ) (matches line : List ℕ) (a : Answer) (cs : List �
     line_fits : length s ≤ line_room size
     line_fits =
         let y = read_passed profile01 size places matches line (number_is ∙ fine) in
-        cases (leb size 32768) (λ f. rw f (omega (arith, y.room, convert_size profile01 line))) (λ f. rw f (omega (arith, y.short, convert_size profile01 line)))
+        omega (arith, y.room, y.short, convert_size profile01 line)
 
     -- what stands behind the line
     abbrev pub after : List ℕ
@@ -75,5 +74,4 @@ module _ (size places : ℕ) (matches line : List ℕ) (a : Answer) (cs : List �
 
 -- the room for a line in a buffer is in the buffer, and small
 pub line_room_law : (cs : List ℕ) (len : ℕ) → len ≡ line_room (length cs) → (len ≤ 32768) × (len ≤ length cs)
-line_room_law cs len e =
-    cases (leb (length cs) 32768) (λ g. let h = rw g at e in let k = leb-true (length cs) 32768 g in (omega arith, omega arith)) (λ g. let h = rw g at e in let k = leb-false (length cs) 32768 g in (omega arith, omega arith))
+line_room_law cs len e = (omega arith, omega arith)

@@ -1,15 +1,11 @@
-use native.Mathlib.Omega.{arith}
-use Rattle.cache.proofs.Heads.{index_found, index_turn, index_end}
+use Rattle.cache.proofs.Heads.{find_here, find_turn, find_end}
 use Rattle.cache.proofs.wraps.find.Goals as goal
 
-pub loop-i-init : goal.loop-i-init
-loop-i-init c = omega arith
-
-pub returns-then-has_key : goal.returns-then-has_key
-returns-then-has_key c = search index_found
+pub returns-then-eq : goal.returns-then-eq
+returns-then-eq c = search find_here
 
 pub loop-i-preserved : goal.loop-i-preserved
-loop-i-preserved c = search index_turn
+loop-i-preserved c = search find_turn
 
 pub returns : goal.returns
-returns c = search index_end
+returns c = search find_end

@@ -1,11 +1,6 @@
+use Rattle.std.proofs.Common.{◌≡◌, drop}
 use Rattle.cache.specs.Wraps.{heads_in, has_block}
-use Prim.Native.Nat.{◌-◌}
-use mathlib.Core.Path.{◌≡◌}
-use lib.ListN.{drop}
 use Rattle.cache.proofs.wraps.is_free.Given as goal
 
 abbrev pub invariant-loop-i : goal.invariant-loop-i
 invariant-loop-i l = has_block l.block (drop l.i (heads_in 4 l.wraps)) ≡ has_block l.block (drop l.from (heads_in 4 l.wraps))
-
-abbrev pub decreases-loop-i : goal.decreases-loop-i
-decreases-loop-i l = l.n - l.i

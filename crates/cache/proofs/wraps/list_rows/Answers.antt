@@ -4,8 +4,8 @@ use Rattle.cache.proofs.wraps.list_rows.Goals as goal
 pub returns-then-not-list : goal.returns-then-not-list
 returns-then-not-list c = search rows_unlisted
 
-pub copy_numbers-requires : goal.copy_numbers-requires
-copy_numbers-requires c = search rows_fit
+pub copy-requires : goal.copy-requires
+copy-requires c = search rows_fit
 
 pub returns : goal.returns
 returns c = search rows_listed

@@ -1,5 +1,4 @@
-use Rattle.std.proofs.Common.{rules}
-use mathlib.Core.Path.{refl}
+use Rattle.std.proofs.Common.{refl, rules}
 use Rattle.cache.proofs.Uses.{others_turn, others_end}
 use Rattle.cache.proofs.wraps.push_others.Goals as goal
 

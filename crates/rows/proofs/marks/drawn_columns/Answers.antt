@@ -4,20 +4,20 @@ use Rattle.rows.proofs.marks.drawn_columns.Goals as goal
 pub loop-p-init : goal.loop-p-init
 loop-p-init c = search count_begin
 
-pub returns-then-u-eq0 : goal.returns-then-u-eq0
-returns-then-u-eq0 c = search count_stop
+pub returns-in_default : goal.returns-in_default
+returns-in_default c = count_stop _ _ _ c.loop-p.invariant c.loop-p-test.true c.in_default.ensures
 
 pub overflow_add-columns : goal.overflow_add-columns
-overflow_add-columns c = record { fits = search count_room }
+overflow_add-columns c = record { fits = count_room _ _ _ c.loop-p.invariant _ c.loop-p-test.true c.in-Some.ensures _ c.mark_columns.ensures c.requires }
 
 pub overflow_add-p : goal.overflow_add-p
-overflow_add-p c = record { fits = search count_fits }
+overflow_add-p c = record { fits = count_fits _ _ _ c.loop-p.invariant _ c.loop-p-test.true c.in-Some.ensures c.requires }
 
 pub loop-p-smaller : goal.loop-p-smaller
-loop-p-smaller c = search count_falls
+loop-p-smaller c = count_falls _ _ _ c.loop-p.invariant _ c.loop-p-test.true c.in-Some.ensures
 
 pub loop-p-preserved : goal.loop-p-preserved
-loop-p-preserved c = search count_turn
+loop-p-preserved c = count_turn _ _ _ c.loop-p.invariant _ c.loop-p-test.true c.in-Some.ensures _ c.mark_columns.ensures
 
 pub returns : goal.returns
 returns c = search count_end

@@ -1,44 +1,50 @@
-use native.Mathlib.Omega.{arith}
-use Rattle.text.specs.Utf8.Code.Laws.{scalar_at_law}
+use Rattle.std.proofs.Common.{arith}
 use Rattle.text.specs.Width.Laws.{width_two}
-use Rattle.rows.proofs.WordLoop.{word_begins, byte_on, word_damaged, word_on, word_apart, word_hyphen, word_turns, word_ends}
+use Rattle.rows.proofs.WordLoop.{word_begins, byte_on, word_damaged, scalar_fits, scalar_some, word_on, word_apart, word_hyphen, word_turns, word_ends}
 use Rattle.rows.proofs.words.next_word.Goals as goal
 
-pub loop-p-init : goal.loop-p-init
-loop-p-init c = search word_begins
+pub loop-part-init : goal.loop-part-init
+loop-part-init c = search word_begins
 
-pub loop-p-preserved-then-byte_belongs : goal.loop-p-preserved-then-byte_belongs
-loop-p-preserved-then-byte_belongs c = search byte_on
+pub longer-part-requires-clause-width : goal.longer-part-requires-clause-width
+longer-part-requires-clause-width c = omega (arith, c.loop-part.invariant.small)
 
-pub returns-then-u-eq0 : goal.returns-then-u-eq0
-returns-then-u-eq0 c = search word_damaged
+pub loop-part-preserved-then-byte_belongs : goal.loop-part-preserved-then-byte_belongs
+loop-part-preserved-then-byte_belongs c = rw c.longer-part.ensures (search byte_on)
 
-pub overflow_add-w-then-belongs : goal.overflow_add-w-then-belongs
-overflow_add-w-then-belongs c = omega (arith, width_two _ _ _ c.before.width.ensures)
+pub returns-in_default : goal.returns-in_default
+returns-in_default c = word_damaged _ _ _ _ _ _ c.loop-part.invariant c.loop-part-test.true c.in_default.ensures
 
-pub overflow_add-p-then-belongs : goal.overflow_add-p-then-belongs
-overflow_add-p-then-belongs c = omega (arith, (scalar_at_law _ _ _ c.before.before.before.before.before.before.before.before.before.before.before.loop-p-test.true c.before.before.before.before.before.before.before.decode-u.ensures c.before.before.before.before.before.if-u-eq0.false).fits)
+pub longer-part-requires-then-belongs-clause-end : goal.longer-part-requires-then-belongs-clause-end
+longer-part-requires-then-belongs-clause-end c = omega (arith, scalar_fits _ _ _ _ _ _ _ c.loop-part.invariant c.loop-part-test.true c.in-Some.ensures)
 
-pub loop-p-smaller-then-belongs : goal.loop-p-smaller-then-belongs
-loop-p-smaller-then-belongs c = omega (arith, (scalar_at_law _ _ _ c.before.before.before.before.before.before.before.before.before.before.before.loop-p-test.true c.before.before.before.before.before.before.before.decode-u.ensures c.before.before.before.before.before.if-u-eq0.false).fits, (scalar_at_law _ _ _ c.before.before.before.before.before.before.before.before.before.before.before.loop-p-test.true c.before.before.before.before.before.before.before.decode-u.ensures c.before.before.before.before.before.if-u-eq0.false).some)
+pub longer-part-requires-then-belongs-clause-width : goal.longer-part-requires-then-belongs-clause-width
+longer-part-requires-then-belongs-clause-width c = omega (arith, c.loop-part.invariant.small, width_two _ _ _ c.width.ensures)
 
-pub loop-p-preserved-then-belongs : goal.loop-p-preserved-then-belongs
-loop-p-preserved-then-belongs c = search word_on
+pub loop-part-smaller-then-belongs : goal.loop-part-smaller-then-belongs
+loop-part-smaller-then-belongs c =
+    let i = c.loop-part.invariant in
+    rw c.longer-part-then-belongs.ensures (omega (arith, scalar_fits _ _ _ _ _ _ _ i c.loop-part-test.true c.in-Some.ensures, scalar_some _ _ _ _ _ _ _ i c.loop-part-test.true c.in-Some.ensures))
+
+pub loop-part-preserved-then-belongs : goal.loop-part-preserved-then-belongs
+loop-part-preserved-then-belongs c =
+    rw c.longer-part-then-belongs.ensures (word_on _ _ _ _ _ _ _ c.loop-part.invariant c.loop-part-test.true c.in-Some.ensures _ _ c.belongs.ensures c.if-belongs.true c.width.ensures)
 
 pub returns-then-sep : goal.returns-then-sep
-returns-then-sep c = search word_apart
+returns-then-sep c = word_apart _ _ _ _ _ _ c.loop-part.invariant _ c.loop-part-test.true c.in-Some.ensures _ c.belongs.ensures c.if-belongs.false c.if-sep.true
 
-pub overflow_add-result : goal.overflow_add-result
-overflow_add-result c = omega (arith, (scalar_at_law _ _ _ c.before.before.before.before.before.before.before.before.before.before.before.before.loop-p-test.true c.before.before.before.before.before.before.before.before.decode-u.ensures c.before.before.before.before.before.before.if-u-eq0.false).fits)
+pub longer-requires-clause-end : goal.longer-requires-clause-end
+longer-requires-clause-end c = omega (arith, scalar_fits _ _ _ _ _ _ _ c.loop-part.invariant c.loop-part-test.true c.in-Some.ensures)
 
-pub returns-then-u-eq45 : goal.returns-then-u-eq45
-returns-then-u-eq45 c = search word_hyphen
+pub longer-requires-clause-width : goal.longer-requires-clause-width
+longer-requires-clause-width c = omega (arith, c.loop-part.invariant.small)
 
-pub loop-p-smaller : goal.loop-p-smaller
-loop-p-smaller c = rw c.before.before.if-sep.false (omega arith)
+pub returns-then-scalar : goal.returns-then-scalar
+returns-then-scalar c = rw c.longer.ensures (word_hyphen _ _ _ _ _ _ _ c.loop-part.invariant c.loop-part-test.true c.in-Some.ensures c.if-sep.false (omega arith))
 
-pub loop-p-preserved : goal.loop-p-preserved
-loop-p-preserved c = word_turns _ _ _ _ _ _ c.before.before.before.before.before.before.before.before.before.before.before.before.before.loop-p.invariant _ c.before.before.before.before.before.before.before.before.before.before.before.loop-p-test.true c.before.before.before.before.before.before.before.decode-u.ensures c.before.before.before.before.before.if-u-eq0.false _ c.before.before.before.before.belongs.ensures c.before.before.before.if-belongs.false c.before.before.if-sep.false c.if-u-eq45.false
+pub loop-part-preserved : goal.loop-part-preserved
+loop-part-preserved c =
+    word_turns _ _ _ _ _ _ c.loop-part.invariant _ c.loop-part-test.true c.in-Some.ensures _ c.belongs.ensures c.if-belongs.false c.if-sep.false (λ z. c.if-scalar.false (omega arith))
 
 pub returns : goal.returns
-returns c = search word_ends
+returns c = word_ends _ _ _ _ _ _ c.loop-part.invariant c.loop-part-test.false

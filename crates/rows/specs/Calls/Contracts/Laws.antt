@@ -1,7 +1,8 @@
 -- What a call leaves, by what `read` without matches answers; and that it is what `rows` or `height` leaves.
-use Rattle.std.specs.Prelude.{◌≡◌, ℕ, zero, suc, ◌-◌, ◌*◌, Bool, true, false, cond, not, ◌&&◌, ◌||◌, List, [], ◌∷◌, ◌++◌, length, replicate, eqb, leb}
+use Rattle.std.specs.Prelude.{◌≡◌, ℕ, zero, suc, ◌-◌, ◌*◌, Bool, true, false, cond, not, ◌&&◌, ◌||◌, List, [], ◌∷◌, ◌++◌, length, replicate, leb, None}
+use Rattle.std.specs.Option.{is_none}
 use Rattle.std.proofs.Math.Path.{refl}
-use Rattle.std.proofs.Common.{sym, ap, ap₂, ◌∙◌, eq-eqb, leb-true, leb-false}
+use Rattle.std.proofs.Common.{sym, ap, ap₂, ◌∙◌, leb-true, leb-false}
 use Rattle.text.specs.Tests.{cases}
 use Rattle.text.specs.Width.{profile01}
 use Rattle.text.specs.Overstrike.{convert}
@@ -13,7 +14,7 @@ use Rattle.spans.specs.Calls.Laws.{unmatched_accepted}
 use Rattle.rows.specs.Rows.{Row, rows}
 use Rattle.rows.specs.Calls.{mode_of, mode_and_width, numbers_of, Wrapped, rows_call, height_call}
 use Rattle.rows.specs.Calls.Laws.{first, refusing, accepting, height_refused, height_five, height_accepted, rows_refused, rows_five, rows_six, rows_accepted}
-use Rattle.rows.specs.Calls.Contracts.{row_count, answered}
+use Rattle.rows.specs.Calls.Contracts.{row_count, refused, answered}
 use Rattle.rows.specs.Numbers.{read_of}
 use Rattle.rows.specs.declared.Request.{Request}
 
@@ -28,7 +29,7 @@ module _ (q : Request) (size places numbers : ℕ) (line : List ℕ) where
   count = row_count q (length rows_found)
 
   abbrev pub pairs : List ℕ
-  pairs = cond (eqb q.known 0 && leb (2 * length rows_found) numbers) (numbers_of rows_found) []
+  pairs = cond (is_none q.known && leb (2 * length rows_found) numbers) (numbers_of rows_found) []
 
   abbrev call : Read
   call = read_call profile01 size places [] line
@@ -47,7 +48,7 @@ module _ (q : Request) (size places numbers : ℕ) (line : List ℕ) where
   answered_by = refl
 
   abbrev pub nothing : ℕ → Wrapped
-  nothing n = record { number = n; count = 0; conv = replicate size 0; spans = replicate places no_record; rows = replicate numbers 0 }
+  nothing n = refused n size places numbers
 
   by_none : (r : ℕ) → by (suc r) ≡ nothing (suc r)
   by_none r = simp (lent_refused, counted_refused)
@@ -72,7 +73,7 @@ module _ (q : Request) (size places numbers : ℕ) (line : List ℕ) where
 
   -- ---- it is what the calls leave
 
-  module _ (new : q.known ≡ 0) where
+  module _ (new : q.known ≡ None) where
     count_is : count ≡ length rows_found
     unfolding row_count
     count_is = rw new
@@ -86,7 +87,7 @@ module _ (q : Request) (size places numbers : ℕ) (line : List ℕ) where
       rows_at zero e =
           cases (mode_and_width q.mode q.width)
           (λ a. cases (leb (2 * length rows_found) numbers)
-          (λ b. answered_accepted e a (listable_is ∙ b) ∙ rw (count_is, eq-eqb q.known 0 new, b) (sym (rows_accepted profile01 size places line q.width q.mode numbers e a (leb-true _ _ b))))
+          (λ b. answered_accepted e a (listable_is ∙ b) ∙ rw (count_is, new, b) (sym (rows_accepted profile01 size places line q.width q.mode numbers e a (leb-true _ _ b))))
           (λ b. answered_six e a (listable_is ∙ b) ∙ sym (rows_six profile01 size places line q.width q.mode numbers e a (leb-false _ _ b))))
           (λ a. answered_five e a ∙ sym (rows_five profile01 size places line q.width q.mode numbers e a))
 
