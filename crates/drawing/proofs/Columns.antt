@@ -1,13 +1,14 @@
 -- Printable bytes: what clipping leaves of them is a part of them.
-use mathlib.Core.Path.{◌≡◌, sym, ap, ap₂, ◌∙◌}
-use Prim.Native.Nat.{ℕ, suc, ◌+◌, ◌-◌, ◌≤◌, ◌<◌}
-use native.Mathlib.Numerals.{add-one}
+use mathlib.Core.Path.{◌≡◌, refl, sym, ap, ap₂, ◌∙◌}
+use Prim.Native.Nat.{ℕ, suc, ◌+◌, ◌-◌, ◌≤◌}
 use native.Mathlib.Omega.{arith}
-use mathlib.Core.Bool.{Bool, true, false, ◌||◌, true≢false}
+use Rattle.std.specs.List.{list_all}
+use Rattle.drawing.specs.declared.clip.Clip.{Clip}
+use mathlib.Core.Bool.{◌&&◌, Bool, true, ◌||◌}
 use mathlib.Core.List.{List, [], ◌∷◌, append-nil}
 use mathlib.Core.Option.{some}
-use lib.ListN.{length, take, drop, get_or, drop_of_length-le}
-use lib.Seq.{take-nil, take_all, drop-cons}
+use lib.ListN.{length, take, drop, drop_of_length-le}
+use lib.Seq.{take-nil, take_all}
 use lib.Dec.{leb, ltb}
 use borrow.Author.Tests.{leb-true, leb-false, ltb-true, ltb-false, le-ltb}
 use Rattle.buffer.specs.Numbers.Laws.{smaller_left, smaller_right, smaller_order}
@@ -32,22 +33,15 @@ use Rattle.text.specs.declared.Column.{Column}
 use Rattle.text.specs.declared.class.Profile as code
 use Rattle.text.specs.Cluster.Laws.{clusters_nil}
 use Rattle.drawing.specs.Clip.{clip_end, clip_start, clip}
-use Rattle.drawing.specs.Clip.Contracts.{ColumnsClip, bytes_in, text_in, clip_text, clip_of, Clipped}
+use Rattle.drawing.specs.Clip.Contracts.{ColumnsClip, bytes_in, text_in, clip_text, part_of, ClipIs}
 
 -- ---- the loop
 
-module _ (s : List ℕ) (i b : ℕ) (r : Bool) (e : b ≡ get_or s i 0) (p : r ≡ printable b) (h : i < length s) (k : all_printable (drop i s) ≡ all_printable s) where
-  pub printable_on : r ≡ true → all_printable (drop (i + 1) s) ≡ all_printable s
-  unfolding all_printable
-  printable_on t = let q : printable (get_or s i 0) ≡ true = rw e at (sym p ∙ t) in rw add-one (rw (drop-cons s i 0 h, q) at k)
-
-  pub printable_off : r ≡ false → false ≡ all_printable s
-  unfolding all_printable
-  printable_off t = let q : printable (get_or s i 0) ≡ false = rw e at (sym p ∙ t) in rw (drop-cons s i 0 h, q) at k
-
-pub printable_end : (s : List ℕ) (i : ℕ) → length s ≤ i → all_printable (drop i s) ≡ all_printable s → true ≡ all_printable s
+-- every byte is printable
+pub all_printable_is : (s : List ℕ) → list_all printable s ≡ all_printable s
 unfolding all_printable
-printable_end s i h k = rw (drop_of_length-le s h) at k
+all_printable_is [] = refl
+all_printable_is (b ∷ s) = ap (λ (x : Bool). printable b && x) (all_printable_is s)
 
 -- ---- their text
 
@@ -112,9 +106,9 @@ module _ (f : code.Profile) where
       rw (t, o) (ap (λ (l : List ℕ). some (asciis l)) (sym (take_all width s n))))
 
   pub columns_clipped : (offset width : ℕ) (start end : BytePlace) (s : List ℕ) → ColumnsClip s offset width → PlaceOf s offset start → PlaceOf s (offset + width) end
-      → Clipped s (clip P offset width (text_at s 0)) (record { before = record { 0 = 0 }; start = start; end = end; behind = record { 0 = 0 }; torn = false })
-  unfolding clip_text clip_of
-  columns_clipped offset width from to s ready at upto =
+      → (c : Clip) → c ≡ part_of start end → ClipIs s (clip P offset width (text_at s 0)) c
+  unfolding clip_text
+  columns_clipped offset width from to s ready at upto c e =
       let start : ℕ = from.0 in
       let end : ℕ = to.0 in
       let p = at.number in
@@ -123,8 +117,8 @@ module _ (f : code.Profile) where
       let b : bytes_in s start end ≡ take width (drop offset s) = part_cut s offset start p width end q in
       let r : text_in s start end ≡ asciis (take width (drop offset s)) = ap (λ (l : List ℕ). run_of (decode l)) b ∙ run_printable (part_printable width offset s h) in
       let o : start ≤ offset = smaller_left offset (length s) start p in
+      rw e
       record {
-        fits = record { ordered = smaller_order offset (length s) start p (offset + width) end (omega arith) q; inside = smaller_right (offset + width) (length s) end q; valid = ap bytes_of r ∙ asciis_bytes (take width (drop offset s)) ∙ sym b; before = omega arith; behind = omega arith };
+        fits = record { ordered = smaller_order offset (length s) start p (offset + width) end (omega arith) q; inside = smaller_right (offset + width) (length s) end q; valid = ap bytes_of r ∙ asciis_bytes (take width (drop offset s)) ∙ sym b; before = omega arith; after = omega arith };
         same = rw (run_printable h) (clip_printable offset width s h ∙ ap some (sym (append-nil (text_in s start end) ∙ r)));
-        empty = λ t. absurd (true≢false (sym t));
       }

@@ -1,276 +1,264 @@
--- The calls `draw_window` and `draw_row`: what `read` leaves is drawn, and the number, the count and what is kept are those of the definition.
-use mathlib.Core.Path.{◌≡◌, refl, sym, ap, ◌∙◌}
-use mathlib.Core.Logic.{◌≢◌}
-use Prim.Native.Nat.{ℕ, zero, suc, ◌+◌, ◌-◌, ◌*◌, ◌≤◌, ◌<◌, ◌^◌}
-use native.Mathlib.Nat.{mul-le-mul_right}
-use native.Mathlib.Omega.{arith}
-use mathlib.Core.Bool.{Bool, true, false, cond, not, ◌&&◌, ◌||◌}
-use mathlib.Core.List.{List, ◌++◌}
-use lib.ListN.{length, take, drop, replicate}
-use lib.Dec.{eqb, leb, ltb, leb→le}
-use borrow.Author.Tests.{eq-eqb, ne_eqb, leb-true, leb-false, le-leb, lt-leb, le-ltb, lt-ltb}
+-- The calls `draw_window` and `draw_row`: what `read` leaves is drawn, and what the call answers and leaves is that of the definition.
+use Rattle.std.proofs.Common.{◌≡◌, refl, sym, ap, ◌∙◌, ℕ, suc, ◌+◌, ◌-◌, ◌≤◌, ◌<◌, Bool, true, false, cond, List, ◌++◌, length, take, drop, replicate, eqb, leb, ltb, Ok, Err, arith}
+use Rattle.std.proofs.Math.Option.{Option}
+use mathlib.Core.Bool.{not, ◌&&◌, ◌||◌, and-false, or-true}
+use mathlib.Core.Logic.{◌≢◌, ◌⊎◌, inl, inr}
+use lib.ListN.{length-take}
+use borrow.Author.Tests.{le-leb, lt-leb, leb-true, leb-false, lt-ltb, ltb-true, ltb-false, ne_eqb, eqb-true, eqb-false}
 use Rattle.buffer.specs.Sink.{cleared}
-use Rattle.buffer.specs.Sink.Laws.{fitted, overfull, cleared_none, cleared_all, cleared_behind}
-use Rattle.text.specs.Tests.{cases, and_T, true_T, is_true}
+use Rattle.buffer.specs.Sink.Laws.{fitted, overfull, cleared_behind}
+use Rattle.text.specs.Tests.{cases, and_T, true_T, is_true, or_false}
 use Rattle.text.specs.Calls.{Question, decide}
+use Rattle.text.specs.Calls.Code.{number_of, answer_of}
 use Rattle.text.specs.Width.{profile01}
-use Rattle.text.specs.declared.Answer.{Answer}
-use Rattle.text.specs.declared.Column.{Column}
+use Rattle.text.specs.declared.refusal.Refusal.{Refusal}
 use Rattle.spans.specs.Spans.{Span, Record, records}
-use Rattle.spans.specs.Spans.RecordSpans.{HasContents, spans_in_none, spans_in_records}
+use Rattle.spans.specs.Spans.RecordSpans.{HasContents, spans_in, spans_in_records}
 use Rattle.spans.specs.Calls.{Read, no_record, read_call}
 use Rattle.spans.specs.Calls.Contracts.{read_as}
-use Rattle.rows.specs.Calls.Contracts.{line_room}
-use Rattle.rows.specs.declared.wrap.RowCounts.{RowCounts}
 use Rattle.rows.specs.Calls.{mode_and_width}
+use Rattle.rows.specs.Calls.Contracts.{line_room}
 use Rattle.rows.specs.Calls.Reading as reading
+use Rattle.rows.specs.Modes.{number_of_mode}
+use Rattle.rows.specs.declared.modes.Mode.{Mode}
 use Rattle.drawing.specs.Change.{Change, encode}
 use Rattle.drawing.specs.Change as change
 use Rattle.drawing.specs.Calls as calls
 use Rattle.drawing.specs.Calls.{drawing, window_questions, row_questions}
 use Rattle.drawing.specs.Calls.Laws.{further, drawing_unknown, drawing_unread, drawing_refused, drawing_accepted, none_torn, window_torn, row_torn}
-use Rattle.drawing.specs.Rendering.{largest, current_of}
-use Rattle.drawing.specs.Requests.{window_request, row_request, asked_of, InLimits, drawable_of, bounds_of, window_rendering, rows_rendering, first_spans, RenderWrappedRoom, changes_of, Drew, decided, outcome_of, answer_of, drawn_as, Called}
-use Rattle.drawing.specs.declared.Request.{Request}
-use Rattle.drawing.specs.declared.Outcome.{Outcome}
+use Rattle.drawing.specs.Requests.{asked_of, InWindow, InRows, DrawRoom, changes_of, Drew, part_call, drawn_as}
+use Rattle.drawing.specs.Rendering.{reader_number}
+use Rattle.drawing.specs.declared.reader.Reader.{Reader}
+use Rattle.drawing.specs.declared.reader.Reader.TheVariants.{Bench, Crew}
+use Rattle.drawing.specs.declared.Part.{Part}
+use Rattle.drawing.specs.declared.Part.TheVariants.{Window, Rows}
 use Rattle.drawing.specs.declared.state.Drawn.{Drawn}
-use Rattle.drawing.specs.declared.write.Window.{Window}
 
--- ---- the covered functions
+number_some : (e : Refusal) → (r : ℕ) × (number_of e ≡ suc r)
+number_some Refusal.LineTooLong = (0, refl)
+number_some Refusal.ConvTooShort = (1, refl)
+number_some Refusal.MatchesNotInOrder = (2, refl)
+number_some Refusal.SpansTooFew = (3, refl)
+number_some Refusal.OutOfRange = (4, refl)
+number_some Refusal.RowsTooFew = (5, refl)
+number_some Refusal.WindowEmpty = (6, refl)
+number_some Refusal.ClusterWiderThanWindow = (7, refl)
+number_some Refusal.OutputTooShort = (8, refl)
+number_some Refusal.ListMalformed = (9, refl)
+number_some Refusal.TextPassesLastColumn = (10, refl)
+number_some Refusal.BodyTooLong = (11, refl)
+number_some Refusal.CellsMalformed = (15, refl)
+number_some Refusal.ReportTooShort = (16, refl)
+number_some Refusal.NoSuchReader = (17, refl)
 
-pub start_fits : (a b : ℕ) → (leb a 1048576 && leb b 1048576) ≡ true → a + 1 < 2 ^ 64
-start_fits a b e = omega (arith, leb-true a 1048576 (is_true (leb a 1048576) (and_T (leb a 1048576) (leb b 1048576) (true_T e)).0))
+-- ---- questions 5 and 7
 
-pub bounds_is : (y : RowCounts) (start end : Column) → end ≡ cond (ltb y.last y.count) y.end y.ended → start ≡ cond (ltb y.first y.count) y.start end → record { profile = record { version = 0 }; start = start; end = end } ≡ bounds_of y
-bounds_is y start end e f = rw (f, e)
+either : (a b : Bool) → (a || b) ≡ true → (a ≡ true) ⊎ (b ≡ true)
+either true b h = inl refl
+either false b h = inr h
 
-pub window_is : (q : Request) (len n : ℕ) → n ≡ cond (ltb 0 q.start) (q.start + 1) 0
-    → record { window = record { profile = record { version = 0 }; start = record { 0 = n }; end = record { 0 = q.end } }; current = q.current; len = len; arrow = ltb 0 q.start; wrapped = false; room = false; crew = eqb q.reader 1 } ≡ window_rendering q len
-unfolding window_rendering
-window_is q len n e = rw e
+neither : (a b : Bool) → (a || b) ≡ false → (a ≡ false) × (b ≡ false)
+neither a b h = or_false a b h
 
-pub area_fits : (q : Request) → InLimits q → q.width * q.count < 2 ^ 64
-area_fits q h =
-    let a : q.width * q.count ≤ 65535 * q.count = mul-le-mul_right q.count h.width in
-    omega (arith, a, h.count)
+module _ (start end : ℕ) where
+  near : (ltb 1048576 start || ltb 1048576 end) ≡ false → (start ≤ 1048576) × (end ≤ 1048576)
+  near h = let x = neither (ltb 1048576 start) (ltb 1048576 end) h in (ltb-false 1048576 start x.0, ltb-false 1048576 end x.1)
 
-pub rows_is : (q : Request) (y : RowCounts) (len : ℕ) (w : Window) (room : Column) → w ≡ bounds_of y → room.0 ≡ w.end.0 - w.start.0
-    → record { window = w; current = q.current; len = len; arrow = false; wrapped = true; room = ltb room.0 (q.width * q.count); crew = eqb q.reader 1 } ≡ rows_rendering q y len
-unfolding rows_rendering
-rows_is q y len w room e f = rw (f, e)
+  in_range : (ltb 1048576 start || ltb 1048576 end) ≡ false → (leb start 1048576 && leb end 1048576) ≡ true
+  in_range h = let x = near h in rw (le-leb start 1048576 x.0, le-leb end 1048576 x.1) refl
 
-module _ (q : Request) (read : ℕ) (d : Drawn) (room a k : ℕ) (f : a ≡ asked_of q) (e : k ≡ decided q.reader a read d room) where
-  abbrev told : ℕ
-  told = decided q.reader (asked_of q) read d room
+  pub window_far : (ltb 1048576 start || ltb 1048576 end) ≡ true → number_of Refusal.OutOfRange ≡ asked_of (Window start end)
+  unfolding asked_of
+  window_far h = far (either (ltb 1048576 start) (ltb 1048576 end) h)
+    where
+      far : (ltb 1048576 start ≡ true) ⊎ (ltb 1048576 end ≡ true) → ◌≡◌ {A = ℕ} 5 (cond (leb start 1048576 && leb end 1048576) (cond (eqb start 0 || leb (start + 1) end) 0 7) 5)
+      far (inl e) = rw (lt-leb start 1048576 (ltb-true 1048576 start e)) refl
+      far (inr e) = rw (lt-leb end 1048576 (ltb-true 1048576 end e), and-false) refl
 
-  told_is : k ≡ told
-  told_is = e ∙ ap (λ (n : ℕ). decided q.reader n read d room) f
+  pub window_none : (ltb 1048576 start || ltb 1048576 end) ≡ false → (ltb 0 start && leb end start) ≡ true → number_of Refusal.WindowEmpty ≡ asked_of (Window start end)
+  unfolding asked_of
+  window_none h k =
+      let x = and_T (ltb 0 start) (leb end start) (true_T k) in
+      let low : 0 < start = ltb-true 0 start (is_true (ltb 0 start) x.0) in
+      let less : end ≤ start = leb-true end start (is_true (leb end start) x.1) in
+      rw (in_range h, ne_eqb start 0 (λ e. absurd (omega (arith, e, low))), lt-leb (start + 1) end (omega (arith, less))) refl
 
-  pub outcome_accepted : k ≡ 0 → record { number = 0; count = d.at; kept = largest; listed = d.at } ≡ outcome_of told d.at
-  unfolding outcome_of
-  outcome_accepted z = rw (eq-eqb told 0 (sym told_is ∙ z))
+  pub window_fine : (ltb 1048576 start || ltb 1048576 end) ≡ false → (ltb 0 start && leb end start) ≡ false → InWindow start end
+  unfolding asked_of
+  window_fine h k =
+      record {
+        asked = rw (in_range h)
+            (cases (eqb start 0) (λ e. rw e refl)
+            (λ e.
+            let low : 0 < start = let n : start ≢ 0 = eqb-false start 0 e in omega (arith, n) in
+            let f : leb end start ≡ false = rw (lt-ltb 0 start low) at k in
+            rw (le-leb (start + 1) end (omega (arith, leb-false end start f)), or-true) refl));
+        near = (near h).0;
+      }
 
-  pub outcome_refused : (k ≢ 0) → record { number = k; count = 0; kept = 0; listed = 0 } ≡ outcome_of told d.at
-  unfolding outcome_of
-  outcome_refused z = rw (ne_eqb told 0 (λ h. z (told_is ∙ h)), told_is)
+module _ (first count width mode : ℕ) where
+  pub rows_mode : (e : Refusal) → e ≡ Refusal.OutOfRange → mode_and_width mode width ≡ false → number_of e ≡ asked_of (Rows first count width mode)
+  unfolding asked_of
+  rows_mode e f h = rw (f, h) refl
 
--- ---- the request
+  pub rows_far : mode_and_width mode width ≡ true → ((ltb 65535 first || ltb 65535 count) || eqb count 0) ≡ true → number_of Refusal.OutOfRange ≡ asked_of (Rows first count width mode)
+  unfolding asked_of
+  rows_far e h = far (either (ltb 65535 first || ltb 65535 count) (eqb count 0) h)
+    where
+      far_two : (ltb 65535 first ≡ true) ⊎ (ltb 65535 count ≡ true) → (leb first 65535 && (leb count 65535 && leb 1 count)) ≡ false
+      far_two (inl f) = rw (lt-leb first 65535 (ltb-true 65535 first f)) refl
+      far_two (inr f) = rw (lt-leb count 65535 (ltb-true 65535 count f), and-false) refl
+
+      far : ((ltb 65535 first || ltb 65535 count) ≡ true) ⊎ (eqb count 0 ≡ true) → ◌≡◌ {A = ℕ} 5 (cond (mode_and_width mode width && (leb first 65535 && (leb count 65535 && leb 1 count))) 0 5)
+      far (inl f) = rw (e, far_two (either (ltb 65535 first) (ltb 65535 count) f)) refl
+      far (inr f) = let z : count ≡ 0 = eqb-true count 0 f in rw (e, z, and-false (leb first 65535)) refl
+
+  pub rows_fine : (m : Mode) → number_of_mode m ≡ mode → mode_and_width mode width ≡ true → ((ltb 65535 first || ltb 65535 count) || eqb count 0) ≡ false → InRows first count width mode m
+  unfolding asked_of
+  rows_fine m q e h =
+      let x = neither (ltb 65535 first || ltb 65535 count) (eqb count 0) h in
+      let y = neither (ltb 65535 first) (ltb 65535 count) x.0 in
+      let a : first ≤ 65535 = ltb-false 65535 first y.0 in
+      let b : count ≤ 65535 = ltb-false 65535 count y.1 in
+      let n : count ≢ 0 = eqb-false count 0 x.1 in
+      let k : 1 ≤ count = omega (arith, n) in
+      record {
+        asked = rw (e, le-leb first 65535 a, le-leb count 65535 b, le-leb 1 count k) refl;
+        limits = record { first = a; count = b; some = k; width = leb-true width 65535 (is_true (leb width 65535) (and_T (leb mode 4) (leb width 65535) (true_T e)).1) };
+        mode = q;
+      }
 
 -- questions 5 and 7 of either call
-abbrev questions_of : Request → List Question
-questions_of q = cond q.wrapped (row_questions q.first q.count q.width q.mode) (window_questions q.start q.end)
-
-abbrev rows_asked : Request → Bool
-rows_asked q = mode_and_width q.mode q.width && (leb q.first 65535 && (leb q.count 65535 && leb 1 q.count))
-
-abbrev columns_asked : Request → Bool
-columns_asked q = leb q.start 1048576 && leb q.end 1048576
-
-abbrev window_asked : Request → Bool
-window_asked q = eqb q.start 0 || leb (q.start + 1) q.end
+abbrev questions_of : Part → List Question
+questions_of (Window start end) = window_questions start end
+questions_of (Rows first count width mode) = row_questions first count width mode
 
 -- the first of them that says no, or else what the others decide
-asked_first : (q : Request) (others : List Question) → decide (questions_of q ++ others) ≡ cond (ltb 0 (asked_of q)) (asked_of q) (decide others)
+asked_first : (part : Part) (others : List Question) → decide (questions_of part ++ others) ≡ cond (ltb 0 (asked_of part)) (asked_of part) (decide others)
 unfolding decide asked_of
-asked_first q others =
-    cases q.wrapped
-    (λ h. cases (rows_asked q) (λ e. rw (h, e)) (λ e. rw (h, e)))
-    (λ h. cases (columns_asked q) (λ e. cases (window_asked q) (λ f. rw (h, e, f)) (λ f. rw (h, e, f))) (λ e. rw (h, e)))
+asked_first (Window start end) others = cases (leb start 1048576 && leb end 1048576) (λ e. cases (eqb start 0 || leb (start + 1) end) (λ f. rw (e, f)) (λ f. rw (e, f))) (λ e. rw e)
+asked_first (Rows first count width mode) others = cases (mode_and_width mode width && (leb first 65535 && (leb count 65535 && leb 1 count))) (λ e. rw e) (λ e. rw e)
 
-window_limits : (reader start end current : ℕ) → start ≤ 1048576 → InLimits (window_request reader start end current)
-window_limits reader start end current h = record { start = h; first = omega arith; count = omega arith; some = omega arith; width = omega arith; mode = omega arith }
+module _ (reader size places room : ℕ) (current : Option ℕ) (part : Part) (matches line : List ℕ) where
+  abbrev changes : List Span → List Change
+  changes = changes_of reader current part
 
-rows_limits : (q : Request) → rows_asked q ≡ true → InLimits (row_request q.reader q.first q.count q.width q.mode q.current)
-rows_limits q e =
-    let a = and_T (mode_and_width q.mode q.width) (leb q.first 65535 && (leb q.count 65535 && leb 1 q.count)) (true_T e) in
-    let m = and_T (leb q.mode 4) (leb q.width 65535) a.0 in
-    let b = and_T (leb q.first 65535) (leb q.count 65535 && leb 1 q.count) a.1 in
-    let c = and_T (leb q.count 65535) (leb 1 q.count) b.1 in
-    record { start = omega arith; first = leb→le q.first 65535 b.0; count = leb→le q.count 65535 c.0; some = leb→le 1 q.count c.1; width = leb→le q.width 65535 m.1; mode = leb→le q.mode 4 m.0 }
+  abbrev call : calls.Drawn
+  call = part_call part reader size places room current matches line
 
--- question 5, mode and width asked by a function of rows
-module _ (q : Request) (w : q.wrapped ≡ true) (b : Bool) (e : b ≡ mode_and_width q.mode q.width) where
-  pub rows_yes : (b && (leb q.first 65535 && (leb q.count 65535 && leb 1 q.count))) ≡ true → 0 ≡ asked_of q
-  unfolding asked_of
-  rows_yes h = rw (w, rw e at h) refl
+  abbrev asking : calls.Drawn
+  asking = drawing profile01 reader size places room matches (questions_of part) (none_torn changes) changes line
 
-  pub rows_no : (b && (leb q.first 65535 && (leb q.count 65535 && leb 1 q.count))) ≡ false → 5 ≡ asked_of q
-  unfolding asked_of
-  rows_no h = rw (w, rw e at h) refl
+call_is : (reader size places room : ℕ) (current : Option ℕ) (part : Part) (matches line : List ℕ) → call reader size places room current part matches line ≡ asking reader size places room current part matches line
+unfolding changes_of
+call_is reader size places room current (Window start end) matches line = window_torn profile01 reader size places room start end current matches line
+call_is reader size places room current (Rows first count width mode) matches line = row_torn profile01 reader size places room first count width mode current matches line
 
--- what is drawn of a request is in limits
-drawable_limits : (q : Request) → InLimits (drawable_of q)
-unfolding drawable_of asked_of
-drawable_limits q =
-    cases q.wrapped
-    (λ h. cases (rows_asked q) (λ e. rw (h, e) (rows_limits q e)) (λ e. rw (h, e) (window_limits 0 0 0 0 (omega arith))))
-    (λ h. cases (columns_asked q)
-    (λ e. cases (window_asked q)
-    (λ f. rw (h, e, f) (window_limits q.reader q.start q.end q.current (leb→le q.start 1048576 (and_T (leb q.start 1048576) (leb q.end 1048576) (true_T e)).0)))
-    (λ f. rw (h, e, f) (window_limits 0 0 0 0 (omega arith))))
-    (λ e. rw (h, e) (window_limits 0 0 0 0 (omega arith))))
+-- ---- a call that is refused before it draws
 
--- it is what is asked for, where those questions say yes
-same_changes : (q : Request) (ss : List Span) → asked_of q ≡ 0 → changes_of (drawable_of q) ss ≡ changes_of q ss
-unfolding drawable_of changes_of
-same_changes q ss e = cases q.wrapped (λ h. rw (eq-eqb (asked_of q) 0 e, h)) (λ h. rw (eq-eqb (asked_of q) 0 e, h))
+module _ (reader size places room : ℕ) (current : Option ℕ) (part : Part) (matches line : List ℕ) where
+  abbrev the_call : calls.Drawn
+  the_call = call reader size places room current part matches line
 
--- ---- what `read` leaves is drawn
+  -- what is left of a refused call
+  abbrev Left : Refusal → List ℕ → List Record → List ℕ → Type 0
+  Left e cs rs l = drawn_as (answer_of (Err e)) (replicate (length cs) 0) (replicate (length rs) no_record) (replicate (length l) 0) ≡ the_call
 
-module _ (size places : ℕ) (matches line : List ℕ) (a : Answer) (cs : List ℕ) (rs : List Record) (read : read_as a cs rs ≡ read_call profile01 size places matches line) (q d : Request) (d_is : d ≡ drawable_of q) where
+  module _ (cs : List ℕ) (rs : List Record) (l : List ℕ) (c : length cs ≡ size) (d : length rs ≡ places) (k : length l ≡ room) where
+    pub unknown : 1 < reader → Left Refusal.NoSuchReader cs rs l
+    unknown h =
+        rw (c, d, k) (sym (call_is reader size places room current part matches line ∙ drawing_unknown profile01 reader size places room matches (questions_of part) (none_torn (changes_of reader current part)) (changes_of reader current part) line (lt-leb reader 1 h)))
+
+    pub unread : reader ≤ 1 → (e : Refusal) (cs' : List ℕ) (rs' : List Record) → read_as (answer_of (Err e)) cs' rs' ≡ read_call profile01 size places matches line → Left e cs rs l
+    unread h e cs' rs' read =
+        let r = number_some e in
+        rw (c, d, k, r.1) (sym (call_is reader size places room current part matches line ∙ drawing_unread profile01 reader size places room matches (questions_of part) (none_torn (changes_of reader current part)) (changes_of reader current part) line (le-leb reader 1 h) r.0 (sym (ap (λ (x : Read). x.number) read) ∙ r.1)))
+
+-- ---- a call that `read` accepts
+
+module _ (size places : ℕ) (matches line : List ℕ) (n : ℕ) (cs : List ℕ) (rs : List Record) (read : read_as (answer_of (Ok n)) cs rs ≡ read_call profile01 size places matches line) where
   abbrev ss : List Span
-  ss = reading.ss size places matches line a cs rs read
+  ss = reading.ss size places matches line (answer_of (Ok n)) cs rs read
 
-  module _ (cs_length : length cs ≡ size) where
-    -- the records are those of the spans of the line
-    module _ (fine : a.number ≡ 0) where
-      held : HasContents (take (line_room (length cs)) cs) ss
-      held = rw (ap (λ (n : ℕ). take (line_room n) cs) cs_length ∙ reading.line_part size places matches line a cs rs read fine) (reading.held_in size places matches line a cs rs read fine)
+  -- the line and the records that are drawn
+  abbrev the_line : List ℕ
+  the_line = take (line_room (length cs)) cs
 
-      spans_are : first_spans rs cs a.count ≡ ss
-      spans_are = rw (reading.spans_part size places matches line a cs rs read fine) (spans_in_records (take (line_room (length cs)) cs) held)
+  pub spans_there : n ≤ length rs
+  spans_there = (reading.count_in size places matches line (answer_of (Ok n)) cs rs read 0 refl).0
 
-    records_are : (n : ℕ) → a.number ≡ n → records (first_spans rs cs a.count) ≡ take a.count rs
-    records_are zero e = ap records (spans_are e) ∙ sym (reading.spans_part size places matches line a cs rs read e)
-    records_are (suc r) e = rw (reading.count_none size places matches line a cs rs read r e) (spans_in_none (take (line_room (length cs)) cs))
+  module _ (c : length cs ≡ size) where
+    held : HasContents the_line ss
+    held = rw (ap (λ (n : ℕ). take (line_room n) cs) c ∙ reading.line_part size places matches line (answer_of (Ok n)) cs rs read refl) (reading.held_in size places matches line (answer_of (Ok n)) cs rs read refl)
 
-    -- what `render_wrapped` asks
-    pub call_room : RenderWrappedRoom rs cs d a.count
-    call_room = let c = reading.count_in size places matches line a cs rs read a.number refl in record { there = c.0; few = c.1; limits = rw d_is (drawable_limits q); held = records_are a.number refl }
+    spans_part : take n rs ≡ records ss
+    spans_part = reading.spans_part size places matches line (answer_of (Ok n)) cs rs read refl
 
-  module _ (l l' : List ℕ) (r : Drawn) (made : Drew (changes_of d (first_spans rs cs a.count)) l l' r) (o : Outcome) (o_is : o ≡ outcome_of (decided q.reader (asked_of q) a.number r (length l)) r.at)
-      (cs_length : length cs ≡ size) (rs_length : length rs ≡ places) (l_length : length l' ≡ length l) (cs_room : size < 2 ^ 64) (rs_room : places < 2 ^ 64) where
-    abbrev changes : List Change
-    changes = changes_of q ss
+    spans_are : spans_in the_line (take n rs) ≡ ss
+    spans_are = rw spans_part (spans_in_records the_line held)
 
-    abbrev bytes : List ℕ
-    bytes = encode changes
+    pub draw_room : DrawRoom (take n rs) the_line
+    draw_room =
+        let k = reading.count_in size places matches line (answer_of (Ok n)) cs rs read 0 refl in
+        record { few = rw length-take (omega (arith, k.1)); short = rw length-take (omega arith); held = ap records spans_are ∙ sym spans_part }
 
-    -- the call by its definition
-    abbrev call : calls.Drawn
-    call = drawing profile01 q.reader size places (length l) matches (questions_of q) (none_torn (changes_of q)) (changes_of q) line
+    module _ (reader room : ℕ) (current : Option ℕ) (part : Part) (h : reader ≤ 1) (d : length rs ≡ places) where
+      abbrev sent : List Change
+      sent = changes_of reader current part ss
 
-    abbrev number : ℕ
-    number = decided q.reader (asked_of q) a.number r (length l)
-
-    outcome_at : (n : ℕ) → number ≡ n → o ≡ outcome_of n r.at
-    outcome_at n e = o_is ∙ ap (λ (k : ℕ). outcome_of k r.at) e
-
-    abbrev Done : Outcome → Type 0
-    Done o = drawn_as (answer_of o) (cleared 0 o.kept cs) (cleared no_record o.kept rs) (cleared 0 o.listed l') ≡ call
-
-    refused : (n : ℕ) → number ≡ suc n → call ≡ record { number = suc n; count = 0; conv = replicate size 0; spans = replicate places no_record; list = replicate (length l) 0 } → Done o
-    unfolding outcome_of
-    refused n e f =
-        let x : o ≡ record { number = suc n; count = 0; kept = 0; listed = 0 } = outcome_at (suc n) e ∙ rw (ne_eqb (suc n) 0 (λ z. omega arith)) in
-        rw (x, cleared_none 0 cs size cs_length, cleared_none no_record rs places rs_length, cleared_none 0 l' (length l) l_length) (sym f)
-
-    unknown : leb q.reader 1 ≡ false → Done o
-    unfolding decided
-    unknown e = refused 17 (rw (lt-ltb 1 q.reader (leb-false q.reader 1 e))) (drawing_unknown profile01 q.reader size places (length l) matches (questions_of q) (none_torn (changes_of q)) (changes_of q) line e)
-
-    -- a line that `read` accepts
-    module _ (known : leb q.reader 1 ≡ true) (fine : a.number ≡ 0) where
-      accepted_read : (read_call profile01 size places matches line).number ≡ 0
-      accepted_read = reading.number_is size places matches line a cs rs read ∙ fine
-
-      number_fine : number ≡ cond (ltb 0 (asked_of q)) (asked_of q) (cond r.torn 8 (cond (ltb (length l) r.at) 9 0))
-      unfolding decided
-      number_fine = rw (le-ltb 1 q.reader (leb-true q.reader 1 known), fine)
+      abbrev bytes : List ℕ
+      bytes = encode sent
 
       abbrev later : ℕ
-      later = further profile01 q.reader size places (length l) matches (questions_of q) (none_torn (changes_of q)) (changes_of q) line
+      later = further profile01 reader size places room matches (questions_of part) (none_torn (changes_of reader current part)) (changes_of reader current part) line
 
-      later_is : later ≡ cond (ltb 0 (asked_of q)) (asked_of q) (cond (change.whole changes) (cond (leb (length bytes) (length l)) 0 9) 8)
+      fine : (read_call profile01 size places matches line).number ≡ 0
+      fine = reading.number_is size places matches line (answer_of (Ok n)) cs rs read
+
+      later_is : later ≡ cond (ltb 0 (asked_of part)) (asked_of part) (cond (change.whole sent) (cond (leb (length bytes) room) 0 9) 8)
       unfolding decide
-      later_is = asked_first q _
+      later_is = asked_first part _
 
-      refused_by_law : (n : ℕ) → number ≡ suc n → later ≡ suc n → Done o
-      refused_by_law n e f = refused n e (drawing_refused profile01 q.reader size places (length l) matches (questions_of q) (none_torn (changes_of q)) (changes_of q) line known accepted_read n f)
+      refused : (e : Refusal) → later ≡ number_of e → (l : List ℕ) → length l ≡ room → Left reader size places room current part matches line e cs rs l
+      refused e f l k =
+          let r = number_some e in
+          rw (c, d, k, r.1) (sym (call_is reader size places room current part matches line ∙ drawing_refused profile01 reader size places room matches (questions_of part) (none_torn (changes_of reader current part)) (changes_of reader current part) line (le-leb reader 1 h) fine r.0 (f ∙ r.1)))
 
-      accepted : number ≡ 0 → later ≡ 0 → r.at ≡ length bytes → l' ≡ bytes ++ drop (length bytes) l → Done o
-      unfolding outcome_of
-      accepted e f g h =
-          let c : cleared 0 largest cs ≡ (read_call profile01 size places matches line).conv = cleared_all 0 cs largest (omega arith) ∙ ap (λ (x : Read). x.conv) read in
-          let s : cleared no_record largest rs ≡ (read_call profile01 size places matches line).spans = cleared_all no_record rs largest (omega arith) ∙ ap (λ (x : Read). x.spans) read in
-          let k : cleared 0 (length bytes) l' ≡ bytes ++ replicate (length l - length bytes) 0 = cleared_behind 0 l' bytes (drop (length bytes) l) (length l) (length bytes) h refl l_length in
-          rw (outcome_at 0 e, c, s, g, k) (sym (drawing_accepted profile01 q.reader size places (length l) matches (questions_of q) (none_torn (changes_of q)) (changes_of q) line known accepted_read f))
+      pub not_asked : (e : Refusal) → number_of e ≡ asked_of part → (l : List ℕ) → length l ≡ room → Left reader size places room current part matches line e cs rs l
+      not_asked e f l k = let r = number_some e in refused e (later_is ∙ rw (← f, r.1, lt-ltb 0 (suc r.0) (omega arith)) refl) l k
 
-      -- questions 8 and 9 of a request that passes 5 and 7
-      module _ (asked : asked_of q ≡ 0) where
-        drew : Drew changes l l' r
-        drew = rw (spans_are cs_length fine, ap (λ (x : Request). changes_of x ss) d_is ∙ same_changes q ss asked) at made
+      -- questions 8 and 9 of a part that passes 5 and 7
+      module _ (asked : asked_of part ≡ 0) (l l' : List ℕ) (made : Drawn) (drew : Drew (changes_of reader current part (spans_in the_line (take n rs))) l l' made) (k : length l ≡ room) (k' : length l' ≡ length l) where
+        drawn : Drew sent l l' made
+        drawn = rw spans_are at drew
 
-        torn_is : (b : Bool) → change.whole changes ≡ b → r.torn ≡ not b
-        torn_is b e = drew.torn ∙ ap not e
+        torn_is : (b : Bool) → made.torn ≡ b → change.whole sent ≡ not b
+        torn_is b e = cases (change.whole sent) (λ f. let g : made.torn ≡ false = drawn.torn ∙ ap not f in f ∙ ap not (sym g ∙ e)) (λ f. let g : made.torn ≡ true = drawn.torn ∙ ap not f in f ∙ ap not (sym g ∙ e))
 
-        eight : change.whole changes ≡ false → Done o
-        eight e = refused_by_law 7 (number_fine ∙ rw (asked, torn_is false e)) (later_is ∙ rw (asked, e))
+        pub eight : made.torn ≡ true → Left reader size places room current part matches line Refusal.ClusterWiderThanWindow cs rs l'
+        eight e = refused Refusal.ClusterWiderThanWindow (later_is ∙ rw (asked, torn_is true e) refl) l' (k' ∙ k)
 
-        module _ (whole : change.whole changes ≡ true) where
-          nine : length l < length bytes → Done o
-          nine h =
-              let n : r.at ≡ length l + 1 = overfull l bytes l' r.at drew.bytes h in
-              refused_by_law 8 (number_fine ∙ rw (asked, torn_is true whole, lt-ltb (length l) r.at (omega arith))) (later_is ∙ rw (asked, whole, lt-leb (length bytes) (length l) h))
+        pub nine : made.torn ≡ false → length l' < made.at → Left reader size places room current part matches line Refusal.OutputTooShort cs rs l'
+        nine e f =
+            refused Refusal.OutputTooShort
+            (later_is ∙ rw (asked, torn_is false e)
+            (cases (leb (length bytes) room)
+            (λ g. absurd (omega (arith, (fitted l bytes l' made.at drawn.bytes (omega (arith, leb-true (length bytes) room g, k))).0, leb-true (length bytes) room g, f, k, k')))
+            (λ g. rw g refl)))
+            l' (k' ∙ k)
 
-          none : length bytes ≤ length l → Done o
-          none h =
-              let f = fitted l bytes l' r.at drew.bytes h in
-              let n = f.0 in
-              accepted (number_fine ∙ rw (asked, torn_is true whole, le-ltb (length l) r.at (omega arith))) (later_is ∙ rw (asked, whole, le-leb (length bytes) (length l) h)) f.0 f.1
+        pub accepted : made.torn ≡ false → made.at ≤ length l' → (l'' : List ℕ) → l'' ≡ cleared 0 made.at l' → drawn_as (answer_of (Ok made.at)) cs rs l'' ≡ call reader size places room current part matches line
+        accepted e f l'' g =
+            cases (leb (length bytes) room)
+            (λ h'.
+            let few : length bytes ≤ length l = omega (arith, leb-true (length bytes) room h', k) in
+            let x = fitted l bytes l' made.at drawn.bytes few in
+            let o : later ≡ 0 = later_is ∙ rw (asked, torn_is false e, h') refl in
+            let y = sym (call_is reader size places room current part matches line ∙ drawing_accepted profile01 reader size places room matches (questions_of part) (none_torn (changes_of reader current part)) (changes_of reader current part) line (le-leb reader 1 h) fine o) in
+            let z : cleared 0 (length bytes) l' ≡ bytes ++ replicate (length l - length bytes) 0 = cleared_behind 0 l' bytes (drop (length bytes) l) (length l) (length bytes) x.1 refl k' in
+            rw (g, x.0, z, k, ap (λ (r : Read). r.conv) read, ap (λ (r : Read). r.spans) read) y)
+            (λ h'. absurd (omega (arith, overfull l bytes l' made.at drawn.bytes (omega (arith, leb-false (length bytes) room h', k)), f, k')))
 
-          eight_or_nine : Done o
-          eight_or_nine = cases (leb (length bytes) (length l)) (λ e. none (leb-true (length bytes) (length l) e)) (λ e. nine (leb-false (length bytes) (length l) e))
-
-        drawn : Done o
-        drawn = cases (change.whole changes) eight_or_nine eight
-
-      by_asked : (n : ℕ) → asked_of q ≡ n → Done o
-      by_asked zero e = drawn e
-      by_asked (suc n) e = refused_by_law n (number_fine ∙ rw (e, lt-ltb 0 (suc n) (omega arith))) (later_is ∙ rw (e, lt-ltb 0 (suc n) (omega arith)))
-
-    by_number : leb q.reader 1 ≡ true → (n : ℕ) → a.number ≡ n → Done o
-    unfolding decided
-    by_number k zero e = by_asked k e (asked_of q) refl
-    by_number k (suc n) e =
-        refused n (rw (le-ltb 1 q.reader (leb-true q.reader 1 k), e, lt-ltb 0 (suc n) (omega arith)))
-        (drawing_unread profile01 q.reader size places (length l) matches (questions_of q) (none_torn (changes_of q)) (changes_of q) line k n (reading.number_is size places matches line a cs rs read ∙ e))
-
-    by_reader : Done o
-    by_reader = cases (leb q.reader 1) (λ e. by_number e a.number refl) unknown
-
-    -- what the call leaves once what is not kept is cleared
-    pub called : Called q size places (length l) matches line (answer_of o) (cleared 0 o.kept cs) (cleared no_record o.kept rs) (cleared 0 o.listed l')
-    unfolding changes_of
-    called =
-        record {
-          window = λ h. by_reader ∙ rw h (sym (window_torn profile01 q.reader size places (length l) q.start q.end (current_of q.current) matches line));
-          rows = λ h. by_reader ∙ rw h (sym (row_torn profile01 q.reader size places (length l) q.first q.count q.width q.mode (current_of q.current) matches line));
-        }
-
--- the same of lists that hold just that
-pub called_cleared : (q : Request) (size places room : ℕ) (matches line : List ℕ) (o : Outcome) (cs : List ℕ) (rs : List Record) (l : List ℕ)
-    → Called q size places room matches line (answer_of o) (cleared 0 o.kept cs) (cleared no_record o.kept rs) (cleared 0 o.listed l)
-    → (a : Answer) (cs' : List ℕ) (rs' : List Record) (l' : List ℕ) → a ≡ answer_of o → cs' ≡ cleared 0 o.kept cs → rs' ≡ cleared no_record o.kept rs → l' ≡ cleared 0 o.listed l
-    → Called q size places room matches line a cs' rs' l'
-called_cleared q size places room matches line o cs rs l done a cs' rs' l' e f g h = rw (e, f, g, h) done
+pub reader_low : (x : Reader) (n : ℕ) → reader_number x ≡ n → n ≤ 1
+reader_low Bench n e = omega (arith, e)
+reader_low Crew n e = omega (arith, e)

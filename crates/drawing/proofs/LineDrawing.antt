@@ -1,18 +1,16 @@
 -- DEC line drawing: the table of replacements, the loop over a text, and the copy that is shown.
 use mathlib.Core.Path.{◌≡◌, refl, sym, ap, ◌∙◌}
-use mathlib.Core.Logic.{◌≢◌}
-use Prim.Native.Nat.{ℕ, zero, suc, ◌+◌, ◌-◌, ◌*◌, ◌/◌, ◌%◌, ◌≤◌, ◌<◌}
-use native.Mathlib.Numerals.{add-one}
+use Prim.Native.Nat.{ℕ, ◌+◌, ◌-◌, ◌*◌, ◌≤◌, ◌<◌}
 use native.Mathlib.Omega.{arith}
-use mathlib.Core.Bool.{Bool, true, false, cond, ◌&&◌, and-false}
+use mathlib.Core.Bool.{Bool, true, false, cond, ◌&&◌, ◌||◌, and-false}
 use mathlib.Core.List.{List, [], ◌∷◌, ◌++◌, map, append-nil}
-use lib.ListN.{length, take, drop, get_or, get_or-map, length-append, drop_of_length-le, take-append-drop}
-use lib.Seq.{take-append_seam, length-take-le, drop-cons}
+use lib.ListN.{length, take, drop, get_or, get_or-map, length-append, take-append-drop}
+use lib.Seq.{take-append_seam, length-take-le}
 use lib.Dec.{leb, ltb}
-use borrow.Author.Tests.{lt-leb, ltb-true, ltb-false, lt-ltb, le-ltb}
-use Rattle.buffer.specs.Sink.{Sink, sink, put, emit}
-use Rattle.buffer.specs.Sink.Laws.{emit_append, emit_none, fitted, emit_put, then_put}
-use Rattle.text.specs.Tests.{cases, in_range_law, or_false, true_T}
+use borrow.Author.Tests.{lt-leb, ltb-true, ltb-false}
+use Rattle.buffer.specs.Sink.{sink, emit}
+use Rattle.buffer.specs.Sink.Laws.{emit_append, emit_none, fitted}
+use Rattle.text.specs.Tests.{cases, in_range_law, or_false}
 use Rattle.text.specs.Each.{All, all_nil, all_cons}
 use Rattle.text.specs.Utf8.{Scalar, scalar, to, within, decode, bytes_of}
 use Rattle.text.specs.Utf8.Valid.{Valid, run_text}
@@ -20,7 +18,7 @@ use Rattle.text.specs.Width.{width_of}
 use Rattle.text.specs.Cluster.Walk.{size_is}
 use Rattle.text.specs.Utf8.Code.{run_of, size, first_sequence}
 use Rattle.text.specs.Class.Code.{profile_of}
-use Rattle.text.specs.Utf8.Code.Laws.{scalar_at_law, none_at, none_past, run_valid, run_fits, front_bytes, size_cons, size_nil}
+use Rattle.text.specs.Utf8.Code.Laws.{some_at, nothing_at, none_past, run_valid, run_fits, front_bytes, size_cons, size_nil}
 use Rattle.text.specs.Class.Profile01.{ascii_classes}
 use Rattle.text.specs.Utf8.FirstByte.{high_code}
 use Rattle.text.specs.Class.Symbols.{symbol_classes}
@@ -32,44 +30,16 @@ use Rattle.text.specs.Utf8.Laws.{bytes_cons, bytes_nil, bytes_one, scalar_bytes}
 use Rattle.text.specs.Utf8.Ascii.{valid_low}
 use Rattle.drawing.specs.Marks.{replacements, line_drawn}
 use Rattle.drawing.specs.Marks.LineDrawn.{alike_replaced, line_drawn_valid, line_drawn_width}
-use Rattle.drawing.specs.LineDrawing.{packed_bytes, Replaceable, has_replacements, CopyRoom, CopyOf}
+use denote.Bor.{Bor}
+use Rattle.std.specs.List.{list_any}
+use Rattle.std.specs.Prelude.{Option, Some, None}
+use Rattle.drawing.specs.LineDrawing.{Replaceable, has_replacements}
 
 -- ---- the table
 
-unfoldable pub table : List ℕ
-table =
-    0xC2A0 ∷ 0xE29786 ∷ 0xE29692 ∷ 0xE29089 ∷ 0xE2908C ∷ 0xE2908D ∷ 0xE2908A ∷ 0xC2B0 ∷ 0xC2B1 ∷ 0xE290A4 ∷ 0xE2908B ∷ 0xE29498 ∷ 0xE29490 ∷ 0xE2948C ∷ 0xE29494 ∷ 0xE294BC
-    ∷ 0xE28EBA ∷ 0xE28EBB ∷ 0xE29480 ∷ 0xE28EBC ∷ 0xE28EBD ∷ 0xE2949C ∷ 0xE294A4 ∷ 0xE294B4 ∷ 0xE294AC ∷ 0xE29482 ∷ 0xE289A4 ∷ 0xE289A5 ∷ 0xCF80 ∷ 0xE289A0 ∷ 0xC2A3 ∷ 0xC2B7 ∷ []
-
-table_is : map packed_bytes table ≡ replacements
-unfolding packed_bytes table replacements
-table_is = refl
-
-get_d_any : {A : Type 0} (l : List A) (i : ℕ) (a b : A) → i < length l → get_or l i a ≡ get_or l i b
-get_d_any [] i a b h = absurd (omega arith)
-get_d_any (x ∷ l) zero a b h = refl
-get_d_any (x ∷ l) (suc i) a b h = get_d_any l i a b (omega arith)
-
-replacements_length : length replacements ≡ 32
-unfolding replacements
-replacements_length = refl
-
-table_at : (i : ℕ) → i < 32 → packed_bytes (get_or table i 0) ≡ get_or replacements i []
-table_at i h =
-    sym (get_or-map packed_bytes table i 0) ∙ ap (λ (l : List (List ℕ)). get_or l i (packed_bytes 0)) table_is
-    ∙ get_d_any replacements i (packed_bytes 0) [] (omega (arith, replacements_length))
-
-pub packed_two : (s s₁ s₂ : Sink) (n : ℕ) → n < 0x10000 → s₁ ≡ put s (n / 256 % 256) → s₂ ≡ put s₁ (n % 256) → s₂ ≡ emit s (packed_bytes n)
-unfolding packed_bytes
-packed_two s s₁ s₂ n h p q = rw (lt-ltb n 0x10000 h) (then_put s s₁ s₂ (n / 256 % 256 ∷ []) (n % 256) (emit_put s s₁ _ p) q)
-
-pub packed_three : (s s₁ s₂ s₃ : Sink) (n : ℕ) → 0x10000 ≤ n → s₁ ≡ put s (n / 65536 % 256) → s₂ ≡ put s₁ (n / 256 % 256) → s₃ ≡ put s₂ (n % 256) → s₃ ≡ emit s (packed_bytes n)
-unfolding packed_bytes
-packed_three s s₁ s₂ s₃ n h p q r =
-    rw (le-ltb n 0x10000 h) (then_put s s₂ s₃ (n / 65536 % 256 ∷ n / 256 % 256 ∷ []) (n % 256) (then_put s s₁ s₂ (n / 65536 % 256 ∷ []) (n / 256 % 256) (emit_put s s₁ _ p) q) r)
-
-pub replaced : (s s' : Sink) (c i : ℕ) → Replaceable c → i ≡ c - 0x5F → s' ≡ emit s (packed_bytes (get_or table i 0)) → s' ≡ emit s (get_or replacements (c - 0x5F) [])
-replaced s s' c i r e p = p ∙ ap (emit s) (table_at i (omega (arith, r.low, r.high)) ∙ ap (λ (k : ℕ). get_or replacements k []) e)
+-- the bytes at a place of a table of texts
+pub bytes_at : (table : List (Bor (List ℕ))) (i : ℕ) (d : Bor (List ℕ)) → (get_or table i d).now ≡ get_or (map (λ (b : Bor (List ℕ)). b.now) table) i d.now
+bytes_at table i d = sym (get_or-map (λ (b : Bor (List ℕ)). b.now) table i d)
 
 -- ---- what is shown is as wide as the text, and at most three times as long
 
@@ -96,57 +66,52 @@ module _ {s l₀ l : List ℕ} {p a : ℕ} (k : Converting s l₀ p a l) where
   pub convert_past : length s ≤ p → sink l a ≡ emit (sink l₀ 0) (bytes_of (line_drawn (text_at s 0)))
   convert_past h = convert_done (none_past s p h)
 
-  module _ (u : Sequence) (here : p < length s) (read : u ≡ first_sequence (decode (drop p s))) where
-    pub convert_bad : u.len ≡ 0 → sink l a ≡ emit (sink l₀ 0) (bytes_of (line_drawn (text_at s 0)))
-    convert_bad z = convert_done (none_at s p u here read z)
+  module _ (here : p < length s) (r : Option Sequence) (read : r ≡ first_sequence (decode (drop p s))) where
+    pub convert_bad : r ≡ None → sink l a ≡ emit (sink l₀ 0) (bytes_of (line_drawn (text_at s 0)))
+    convert_bad e = convert_done (nothing_at s p here r read e)
 
-    module _ (z : u.len ≢ 0) where
+    module _ (u : Sequence) (some : r ≡ Some u) where
+      pub convert_step : (1 ≤ u.len) × (p + u.len ≤ length s)
+      convert_step = let b = some_at s p here r read u some in (b.some, b.fits)
+
       abbrev c : Scalar
-      c = (scalar_at_law s p u here read z).scalar
+      c = (some_at s p here r read u some).scalar
 
       pub convert_fits : p + u.len ≤ length s
-      convert_fits = (scalar_at_law s p u here read z).fits
+      convert_fits = (some_at s p here r read u some).fits
 
       -- what the scalar is shown as
       first_shown : (x : Scalar) → cond (within (to 0x5F 0x7E) c.code) (scalar (get_or replacements (c.code - 0x5F) [])) c ≡ x
           → emit (emit (sink l a) x.bytes) (bytes_of (line_drawn (text_at s (p + u.len)))) ≡ emit (sink l₀ 0) (bytes_of (line_drawn (text_at s 0)))
       unfolding line_drawn
-      first_shown x e = sym (emit_append (sink l a) x.bytes (bytes_of (line_drawn (text_at s (p + u.len))))) ∙ (rw ((scalar_at_law s p u here read z).run, e, bytes_cons) at k.work)
+      first_shown x e = sym (emit_append (sink l a) x.bytes (bytes_of (line_drawn (text_at s (p + u.len))))) ∙ (rw ((some_at s p here r read u some).run, e, bytes_cons) at k.work)
 
-      pub convert_replaced : (l' : List ℕ) (r : ℕ) → (leb 0x5F u.code && leb u.code 0x7E) ≡ true → sink l' r ≡ emit (sink l a) (get_or replacements (u.code - 0x5F) []) → Converting s l₀ (p + u.len) r l'
-      convert_replaced l' r t e =
-          let q : c.code ≡ u.code = (scalar_at_law s p u here read z).code in
+      pub convert_replaced : (l' : List ℕ) (n : ℕ) → (leb 0x5F u.code && leb u.code 0x7E) ≡ true → sink l' n ≡ emit (sink l a) (get_or replacements (u.code - 0x5F) []) → Converting s l₀ (p + u.len) n l'
+      convert_replaced l' n t e =
+          let q : c.code ≡ u.code = (some_at s p here r read u some).code in
           let w = first_shown (scalar (get_or replacements (c.code - 0x5F) [])) (rw (rw (← q) at t) refl) in
           record { inside = convert_fits; work = rw (e, ← q) (rw scalar_bytes at w) }
 
       first_bytes : take (p + u.len - p) (drop p s) ≡ c.bytes
       first_bytes =
-          let a = scalar_at_law s p u here read z in
+          let a = some_at s p here r read u some in
           let n : p + u.len - p ≡ size (c ∷ []) = omega (arith, a.len, size_cons c [], size_nil) in
           ap (λ (m : ℕ). take m (drop p s)) n ∙ front_bytes (drop p s) (c ∷ []) (text_at s (p + u.len)) a.run ∙ bytes_one c
 
-      pub convert_kept : (l' : List ℕ) (r : ℕ) → (leb 0x5F u.code && leb u.code 0x7E) ≡ false → sink l' r ≡ emit (sink l a) (take (p + u.len - p) (drop p s)) → Converting s l₀ (p + u.len) r l'
-      convert_kept l' r f g =
-          let n : within (to 0x5F 0x7E) c.code ≡ false = rw (scalar_at_law s p u here read z).code f in
-          record { inside = convert_fits; work = rw (g, first_bytes) (first_shown c (rw n refl)) }
+      pub convert_kept : (l' : List ℕ) (n : ℕ) → (leb 0x5F u.code && leb u.code 0x7E) ≡ false → sink l' n ≡ emit (sink l a) (take (p + u.len - p) (drop p s)) → Converting s l₀ (p + u.len) n l'
+      convert_kept l' n f g =
+          let o : within (to 0x5F 0x7E) c.code ≡ false = rw (some_at s p here r read u some).code f in
+          record { inside = convert_fits; work = rw (g, first_bytes) (first_shown c (rw o refl)) }
 
 pub replaceable : (c : ℕ) → (leb 0x5F c && leb c 0x7E) ≡ true → Replaceable c
 replaceable c e = let r = in_range_law 0x5F 0x7E c e in record { low = r.0; high = r.1 }
 
 -- ---- the bytes that are replaced
 
-module _ (s : List ℕ) (i : ℕ) (h : i < length s) (k : has_replacements (drop i s) ≡ has_replacements s) where
-  pub replacement_met : (leb 0x5F (get_or s i 0) && leb (get_or s i 0) 0x7E) ≡ true → true ≡ has_replacements s
-  unfolding has_replacements
-  replacement_met t = rw (drop-cons s i 0 h, t) at k
-
-  pub replacement_not : (leb 0x5F (get_or s i 0) && leb (get_or s i 0) 0x7E) ≡ false → has_replacements (drop (i + 1) s) ≡ has_replacements s
-  unfolding has_replacements
-  replacement_not t = rw add-one (rw (drop-cons s i 0 h, t) at k)
-
-pub replacements_end : (s : List ℕ) (i : ℕ) → length s ≤ i → has_replacements (drop i s) ≡ has_replacements s → false ≡ has_replacements s
+pub has_replacements_is : (s : List ℕ) → list_any (within (to 0x5F 0x7E)) s ≡ has_replacements s
 unfolding has_replacements
-replacements_end s i h k = rw (drop_of_length-le s h) at k
+has_replacements_is [] = refl
+has_replacements_is (b ∷ s) = ap (λ (x : Bool). within (to 0x5F 0x7E) b || x) (has_replacements_is s)
 
 has_append : (a b : List ℕ) → has_replacements (a ++ b) ≡ false → (has_replacements a ≡ false) × (has_replacements b ≡ false)
 unfolding has_replacements
@@ -185,24 +150,26 @@ line_drawn_kept s e =
 
 -- ---- the copy
 
-pub copy_made : (s copy copy' : List ℕ) (d : Bool) (n : ℕ) → CopyRoom copy s d → d ≡ true → sink copy' n ≡ emit (sink copy 0) (bytes_of (line_drawn (text_at s 0))) → CopyOf copy' s d n
-copy_made s copy copy' d n room on e =
-    let t : List Scalar = text_at s 0 in
-    let xs : List ℕ = bytes_of (line_drawn t) in
-    let v : All Valid t = run_valid s in
-    let f : size t + size [] ≤ length s = run_fits s t [] (sym (append-nil t)) in
-    let w = fitted copy xs copy' n e (omega (arith, size_is (line_drawn t), line_drawn_size v, room on)) in
-    let b : take n copy' ≡ xs = rw (w.0, w.1) (take-append_seam xs (drop (length xs) copy)) in
-    record { fits = rw (w.1, length-append xs (drop (length xs) copy)) (omega (arith, w.0)); same = λ h. ap (λ (l : List ℕ). run_of (decode l)) b ∙ run_text (line_drawn_valid v).0 }
+module _ (s copy copy' : List ℕ) (n : ℕ) (room : 3 * length s ≤ length copy) (made : sink copy' n ≡ emit (sink copy 0) (bytes_of (line_drawn (text_at s 0)))) where
+  abbrev drawn : List ℕ
+  drawn = bytes_of (line_drawn (text_at s 0))
 
-pub copy_none : (s copy : List ℕ) (d : Bool) → d ≡ false → CopyOf copy s d 0
-copy_none s copy d off = record { fits = omega arith; same = λ h. absurd (true_T (sym off ∙ h)) }
+  copied : (n ≡ length drawn) × (copy' ≡ drawn ++ drop (length drawn) copy)
+  copied =
+      let t : List Scalar = text_at s 0 in
+      let f : size t + size [] ≤ length s = run_fits s t [] (sym (append-nil t)) in
+      fitted copy drawn copy' n made (omega (arith, size_is (line_drawn t), line_drawn_size (run_valid s), room))
 
-pub shown_length : (copy : List ℕ) (n : ℕ) → n ≤ length copy → n ≡ length (take n copy)
-shown_length copy n h = sym (length-take-le n copy h)
+  copy_fits : n ≤ length copy'
+  copy_fits = rw (copied.1, length-append drawn (drop (length drawn) copy)) (omega (arith, copied.0))
 
-pub shown_copy : (text copy : List ℕ) (d : Bool) (n : ℕ) → d ≡ true → take n copy ≡ cond d (take n copy) text
-shown_copy text copy d n e = rw e refl
+  pub copy_slice : n ≡ length (take n copy')
+  copy_slice = sym (length-take-le n copy' copy_fits)
 
-pub shown_own : (text copy : List ℕ) (d : Bool) (n : ℕ) → d ≡ false → text ≡ cond d (take n copy) text
-shown_own text copy d n e = rw e refl
+  pub copy_shown : text_at (take n copy') 0 ≡ line_drawn (text_at s 0)
+  copy_shown =
+      let b : take n copy' ≡ drawn = rw (copied.0, copied.1) (take-append_seam drawn (drop (length drawn) copy)) in
+      ap (λ (l : List ℕ). run_of (decode l)) b ∙ run_text (line_drawn_valid (run_valid s)).0
+
+pub text_shown : (s : List ℕ) (b : Bool) → b ≡ has_replacements s → b ≡ false → text_at s 0 ≡ line_drawn (text_at s 0)
+text_shown s b e f = sym (line_drawn_kept s (sym e ∙ f))

@@ -8,7 +8,7 @@ use mathlib.Core.List.{List, [], ◌∷◌, ◌++◌, append_assoc, append-nil}
 use lib.ListN.{length, take, drop, replicate, length-drop, length-replicate, drop_of_length-le}
 use lib.Seq.{length-take-le, take-nil, take_all}
 use lib.Dec.{eqb, leb, ltb}
-use borrow.Author.Tests.{eq-eqb, ne_eqb, lt-leb, leb-true, leb-false}
+use borrow.Author.Tests.{ne_eqb, lt-leb, leb-true, leb-false}
 use Rattle.buffer.specs.Numbers as numbers
 use Rattle.buffer.specs.Numbers.{smaller_of, le2, le4}
 use Rattle.buffer.specs.Numbers.Laws.{smaller_right}
@@ -22,7 +22,8 @@ use Rattle.text.specs.Class.Profile01.{ascii_classes}
 use Rattle.text.specs.Width.{width_of}
 use Rattle.text.specs.Utf8.Code.{first_sequence}
 use Rattle.text.specs.Class.Code.{profile_of, printable}
-use Rattle.text.specs.Utf8.Code.Laws.{scalar_at_law, none_at, none_past}
+use Rattle.text.specs.Utf8.Code.Laws.{some_at, nothing_at, none_past}
+use Rattle.std.specs.Prelude.{Option, Some, None}
 use Rattle.text.specs.TextParts.{text_at}
 use Rattle.text.specs.Printable.{all_printable, BytesOf}
 use Rattle.text.specs.Printable.Laws.{all_printable_law, spaces_printable}
@@ -36,14 +37,13 @@ use Rattle.drawing.specs.Change as change
 use Rattle.drawing.specs.Change.{text, clipped, kind_of, body, encode_one}
 use Rattle.drawing.specs.Draw.{write_marks}
 use Rattle.drawing.specs.Attributes.Code.{style_of}
-use Rattle.drawing.specs.State.{state_of, styling, Wrote}
-use Rattle.drawing.specs.Write.{ColumnsReady, windowed_text, writing_columns, moved}
+use Rattle.drawing.specs.State.{state_of, styling, moved, Wrote}
+use Rattle.drawing.specs.Write.{ColumnsReady, windowed_text, writing_columns}
 use Rattle.rows.specs.Marks.{mark_columns}
 use Rattle.rows.specs.Marks.Laws.{mark_small}
-use Rattle.drawing.specs.Marks.Contracts.{digit_of, mark_byte, mark_part, mark_text, marking, scalar_marking, tabbing, ComposedWrote, MarksWrote}
+use Rattle.drawing.specs.Marks.Contracts.{digit_of, mark_byte, mark_part, mark_text, marking, scalar_marking, tabbing, MarksWrote}
 use Rattle.drawing.specs.declared.attributes.Style.TheVariants.{File, Control}
 use Rattle.drawing.specs.declared.state.AttributeState.{AttributeState}
-use Rattle.drawing.specs.declared.state.Stepped.{Stepped}
 use Rattle.drawing.specs.declared.write.Window.{Window}
 use Rattle.drawing.proofs.Columns.{clip_printable}
 use Rattle.drawing.proofs.WindowTexts.{wrote_then, wrote_none, written_position, drawn_in, drawn_out}
@@ -138,18 +138,16 @@ module _ (w : Window) (p v n : ℕ) where
     unfolding encode_one body kind_of
     sent_bytes s e x f = ap encode_one (windowed ∙ ap (λ (m : List ℕ). text (asciis m)) e) ∙ rw (asciis_bytes s, f) (sym (append_assoc (le4 (length s)) (le2 1) s))
 
-    pub mark_empty : (k k' : Sink) → to < from → k' ≡ emit k (le4 0 ++ le2 1) → k' ≡ emit k (encode_one (windowed_text w p (mark_text v n)))
+    pub mark_empty : (k k' : Sink ℕ) → to < from → k' ≡ emit k (le4 0 ++ le2 1) → k' ≡ emit k (encode_one (windowed_text w p (mark_text v n)))
     mark_empty k k' h e = e ∙ ap (emit k) (sym (sent_bytes [] nothing 0 refl ∙ append-nil (le4 0 ++ le2 1)))
       where
         z : last - offset ≡ 0
-        z = cases (leb o n)
-            (λ e. cases (leb l n) (λ f. omega (arith, a, b, rw e at c, rw f at d, h)) (λ f. omega (arith, rw e at c, rw f at d, leb-true o n e, h)))
-            (λ e. cases (leb l n) (λ f. omega (arith, a, b, rw e at c, rw f at d, leb-false o n e, h)) (λ f. omega (arith, rw e at c, rw f at d, h)))
+        z = omega (arith, a, b, c, d, h)
 
         nothing : take (last - offset) (drop offset (mark_part v n 0 n)) ≡ []
         nothing = ap (λ (m : ℕ). take m (drop offset (mark_part v n 0 n))) z
 
-    pub mark_part_law : (x : ℕ) (k k₁ k₂ : Sink) → from ≤ to → BytesOf (to - from) x → k₁ ≡ emit k (le4 x ++ le2 1) → k₂ ≡ emit k₁ (mark_part v n from (to - from)) → k₂ ≡ emit k (encode_one (windowed_text w p (mark_text v n)))
+    pub mark_part_law : (x : ℕ) (k k₁ k₂ : Sink ℕ) → from ≤ to → BytesOf (to - from) x → k₁ ≡ emit k (le4 x ++ le2 1) → k₂ ≡ emit k₁ (mark_part v n from (to - from)) → k₂ ≡ emit k (encode_one (windowed_text w p (mark_text v n)))
     mark_part_law x k k₁ k₂ h y e f = then_emit k k₁ k₂ (le4 x ++ le2 1) (mark_part v n from (to - from)) e f ∙ ap (emit k) (sym (sent_bytes (mark_part v n from (to - from)) (between ∙ part_of v n from to h upto) x (y.number ∙ sym (part_length v n from (to - from)))))
       where
         upto : to ≤ n
@@ -162,14 +160,17 @@ module _ (w : Window) (p v n : ℕ) where
         between : take (last - offset) (drop offset (mark_part v n 0 n)) ≡ take (to - from) (drop from (mark_part v n 0 n))
         between = cases (leb o n)
             (λ e. cases (leb l n)
-            (λ f. rw (rw e at c, rw f at d, a, b) refl)
             (λ f.
-            let x : from ≡ offset = rw e at c ∙ a in
-            let y : to ≡ n = rw f at d in
+            let x : from ≡ offset = omega (arith, a, c, leb-true o n e) in
+            let y : to ≡ last = omega (arith, b, d, leb-true l n f) in
+            rw (x, y) refl)
+            (λ f.
+            let x : from ≡ offset = omega (arith, a, c, leb-true o n e) in
+            let y : to ≡ n = omega (arith, d, leb-false l n f) in
             let s : length (drop offset (mark_part v n 0 n)) ≡ to - from = length-drop offset (mark_part v n 0 n) ∙ omega (arith, part_length v n 0 n, x, y) in
             beyond_end (last - offset) (drop offset (mark_part v n 0 n)) (omega (arith, s, x, y, b, leb-false l n f)) ∙ ap (λ (m : ℕ). take m (drop offset (mark_part v n 0 n))) s ∙ ap (λ (m : ℕ). take (to - from) (drop m (mark_part v n 0 n))) (sym x)))
             (λ e.
-            let x : from ≡ n = rw e at c in
+            let x : from ≡ n = omega (arith, c, leb-false o n e) in
             let g : drop offset (mark_part v n 0 n) ≡ [] = drop_of_length-le (mark_part v n 0 n) (let r : length (mark_part v n 0 n) ≤ offset = omega (arith, part_length v n 0 n, a, leb-false o n e) in r) in
             let j : drop from (mark_part v n 0 n) ≡ [] = drop_of_length-le (mark_part v n 0 n) (let r : length (mark_part v n 0 n) ≤ from = omega (arith, part_length v n 0 n, x) in r) in
             rw (g, j, take-nil {A = ℕ} (last - offset), take-nil {A = ℕ} (to - from)) refl)
@@ -186,7 +187,7 @@ pub byte_is : (b : ℕ) → b < 256 → byte_mark b ≡ mark_text b 4
 unfolding byte_mark mark_part
 byte_is b h = let e : b / 16 % 16 ≡ b / 16 = omega arith in rw e (simp (digit_is, asciis_cons, asciis_nil) refl)
 
-pub byte_pushed : (b : ℕ) (s z : Sink) → b < 256 → z ≡ emit s (mark_part b 4 0 4) → z ≡ emit s (bytes_of (byte_mark b))
+pub byte_pushed : (b : ℕ) (s z : Sink ℕ) → b < 256 → z ≡ emit s (mark_part b 4 0 4) → z ≡ emit s (bytes_of (byte_mark b))
 byte_pushed b s z h p = rw (byte_is b h, asciis_bytes (mark_part b 4 0 4)) p
 
 mark_columns_law : (w : Window) (v n : ℕ) → n ≡ width_of (profile_of w.profile) (mark_text v n)
@@ -197,38 +198,41 @@ mark_width w v = rw (scalar_is v, ← mark_columns_law w v (mark_columns v)) (ma
 
 -- ---- a mark for each scalar
 
-pub record MarksOn (w : Window) (s l₀ : List ℕ) (at₀ : ℕ) (t₀ : AttributeState) (p : ℕ) (l : List ℕ) (t : Stepped) : Type 0 where
+pub record MarksOn (w : Window) (s l₀ : List ℕ) (at₀ : ℕ) (t₀ : AttributeState) (p : ℕ) (l : List ℕ) (at : ℕ) (t : AttributeState) : Type 0 where
   pub inside : p ≤ length s
-  pub near : t.state.position.0 ≤ t₀.position.0 + 20 * p
+  pub near : t.position.0 ≤ t₀.position.0 + 20 * p
   pub work : (l' : List ℕ) (r : ℕ) (t' : AttributeState)
-      → Wrote l t.at t.state (write_marks (profile_of w.profile) w.start.0 w.end.0 (state_of t.state) (text_at s p)) l' r t'
+      → Wrote l at t (write_marks (profile_of w.profile) w.start.0 w.end.0 (state_of t) (text_at s p)) l' r t'
       → Wrote l₀ at₀ t₀ (write_marks (profile_of w.profile) w.start.0 w.end.0 (state_of t₀) (text_at s 0)) l' r t'
 
-pub marks_begin : (w : Window) (s l : List ℕ) (at : ℕ) (t : AttributeState) → MarksOn w s l at t 0 l (record { state = t; at = at })
+pub marks_begin : (w : Window) (s l : List ℕ) (at : ℕ) (t : AttributeState) → MarksOn w s l at t 0 l at t
 marks_begin w s l at t = record { inside = omega arith; near = omega arith; work = λ l' r t' h. h }
 
-module _ {w : Window} {s l₀ : List ℕ} {at₀ : ℕ} {t₀ : AttributeState} {p : ℕ} {l : List ℕ} {t : Stepped} (k : MarksOn w s l₀ at₀ t₀ p l t) where
-  marks_done : text_at s p ≡ [] → MarksWrote w s l₀ at₀ t₀ l t
+module _ {w : Window} {s l₀ : List ℕ} {at₀ : ℕ} {t₀ : AttributeState} {p : ℕ} {l : List ℕ} {at : ℕ} {t : AttributeState} (k : MarksOn w s l₀ at₀ t₀ p l at t) where
+  marks_done : text_at s p ≡ [] → MarksWrote w s l₀ at₀ t₀ l at t
   unfolding write_marks
-  marks_done e = record { wrote = k.work l t.at t.state (rw e (wrote_none l t.at t.state t.state (state_of t.state) refl refl)); near = omega (arith, k.near, k.inside) }
+  marks_done e = record { wrote = k.work l at t (rw e (wrote_none l at t t (state_of t) refl refl)); near = omega (arith, k.near, k.inside) }
 
-  pub marks_end : length s ≤ p → MarksWrote w s l₀ at₀ t₀ l t
+  pub marks_end : length s ≤ p → MarksWrote w s l₀ at₀ t₀ l at t
   marks_end h = marks_done (none_past s p h)
 
-  module _ (u : Sequence) (here : p < length s) (read : u ≡ first_sequence (decode (drop p s))) where
-    pub marks_bad : u.len ≡ 0 → MarksWrote w s l₀ at₀ t₀ l t
-    marks_bad z = marks_done (none_at s p u here read z)
+  module _ (here : p < length s) (r : Option Sequence) (read : r ≡ first_sequence (decode (drop p s))) where
+    pub marks_bad : r ≡ None → MarksWrote w s l₀ at₀ t₀ l at t
+    marks_bad e = marks_done (nothing_at s p here r read e)
 
-    module _ (z : u.len ≢ 0) where
-      pub marks_turn : (l₁ : List ℕ) (t₁ : Stepped) → Wrote l t.at t.state (scalar_marking w u.code t.state) l₁ t₁.at t₁.state → MarksOn w s l₀ at₀ t₀ (p + u.len) l₁ t₁
+    module _ (u : Sequence) (some : r ≡ Some u) where
+      pub marks_step : (1 ≤ u.len) × (p + u.len ≤ length s)
+      marks_step = let a = some_at s p here r read u some in (a.some, a.fits)
+
+      pub marks_turn : (l₁ : List ℕ) (at₁ : ℕ) (t₁ : AttributeState) → Wrote l at t (scalar_marking w u.code t) l₁ at₁ t₁ → MarksOn w s l₀ at₀ t₀ (p + u.len) l₁ at₁ t₁
       unfolding write_marks
-      marks_turn l₁ t₁ h =
-          let a = scalar_at_law s p u here read z in
-          let c : Wrote l t.at t.state (scalar_marking w a.scalar.code t.state) l₁ t₁.at t₁.state = rw a.code h in
+      marks_turn l₁ at₁ t₁ h =
+          let a = some_at s p here r read u some in
+          let c : Wrote l at t (scalar_marking w a.scalar.code t) l₁ at₁ t₁ = rw a.code h in
           record {
             inside = a.fits;
-            near = omega (arith, k.near, written_position w l l₁ t.at t₁.at t.state t₁.state control (scalar_mark u.code) h, mark_width w u.code, a.some);
-            work = λ l' r t' m. k.work l' r t' (rw a.run (rw c.state at (wrote_then l l₁ l' t.at t₁.at r t.state t₁.state t' _ _ c m)));
+            near = omega (arith, k.near, written_position w l l₁ at at₁ t t₁ control (scalar_mark u.code) h, mark_width w u.code, a.some);
+            work = λ l' r t' m. k.work l' r t' (rw a.run (rw c.state at (wrote_then l l₁ l' at at₁ r t t₁ t' _ _ c m)));
           }
 
 -- ---- a mark in a window
@@ -242,8 +246,8 @@ module _ (l : List ℕ) (at : ℕ) (w : Window) (t : AttributeState) (v n : ℕ)
   unfolding style_of
   mark_out u h m = drawn_out l at w t Control (mark_text v n) n b (mark_columns_law w v n) e u h m
 
-module _ (w : Window) (l : List ℕ) (at : ℕ) (t : AttributeState) (v n : ℕ) (l' : List ℕ) (r : Stepped) where
-  pub scalar_wrote : n ≡ mark_columns v → Wrote l at t (marking w v n t) l' r.at r.state → Wrote l at t (scalar_marking w v t) l' r.at r.state
+module _ (w : Window) (l : List ℕ) (at : ℕ) (t : AttributeState) (v n : ℕ) (l' : List ℕ) (r : ℕ) (t' : AttributeState) where
+  pub scalar_wrote : n ≡ mark_columns v → Wrote l at t (marking w v n t) l' r t' → Wrote l at t (scalar_marking w v t) l' r t'
   scalar_wrote e h = rw (scalar_is v, ← e) h
 
 pub scalar_room : (v n p : ℕ) → n ≡ mark_columns v → p + 20 < 2 ^ 64 → p + n < 2 ^ 64
@@ -267,28 +271,18 @@ module _ (t : AttributeState) (n : ℕ) (b : BytesOf (8 - t.position.0 % 8) n) w
   pub tab_ready : t.position.0 + 16 < 2 ^ 64 → ColumnsReady (take n (replicate {A = ℕ} 8 0x20)) t
   tab_ready h = record { printable = rw (take_spaces n 8 (tab_fits t.position.0 n b)) (spaces_printable n); room = rw (← tab_slice t.position.0 n b) (omega (arith, b.number)) }
 
-  pub tab_wrote : (w : Window) (l : List ℕ) (at : ℕ) (l' : List ℕ) (r : Stepped) → Wrote l at t (writing_columns w (take n (replicate {A = ℕ} 8 0x20)) t File) l' r.at r.state → Wrote l at t (tabbing w t) l' r.at r.state
+  pub tab_wrote : (w : Window) (l : List ℕ) (at : ℕ) (l' : List ℕ) (r : ℕ) (t' : AttributeState) → Wrote l at t (writing_columns w (take n (replicate {A = ℕ} 8 0x20)) t File) l' r t' → Wrote l at t (tabbing w t) l' r t'
   unfolding style_of
-  tab_wrote w l at l' r h =
+  tab_wrote w l at l' r t' h =
       let e : text_at (take n (replicate {A = ℕ} 8 0x20)) 0 ≡ spaces n = rw (take_spaces n 8 (tab_fits t.position.0 n b)) (run_printable (all_printable_law (replicate n 0x20) (spaces_printable n)) ∙ asciis_replicate n 0x20) in
       rw (← b.number) (rw e at h)
 
-module _ (w : Window) (kind byte : ℕ) (l : List ℕ) (at : ℕ) (t : AttributeState) (l' : List ℕ) (r : Stepped) where
-  pub composed_tab : kind ≡ 10 → Wrote l at t (tabbing w t) l' r.at r.state → ComposedWrote w kind byte l at t l' r
-  unfolding style_of
-  composed_tab k h =
+module _ (w : Window) (l : List ℕ) (at : ℕ) (t : AttributeState) (l' : List ℕ) (r : ℕ) (t' : AttributeState) where
+  pub tab_near : Wrote l at t (tabbing w t) l' r t' → t'.position.0 ≤ t.position.0 + 8
+  tab_near h =
       let n : ℕ = 8 - t.position.0 % 8 in
       let m : width_of (profile_of w.profile) (spaces n) ≡ n = rw (← asciis_replicate n 0x20) (printable_width (profile_of w.profile) (ascii_classes w.profile) (all_printable_law (replicate n 0x20) (spaces_printable n)) ∙ length-replicate n 0x20) in
-      record { wrote = rw (eq-eqb kind 10 k) h; near = omega (arith, written_position w l l' at r.at t r.state file (spaces n) h, m) }
+      omega (arith, written_position w l l' at r t t' file (spaces n) h, m)
 
-  pub composed_mark : (kind ≢ 10) → byte < 256 → Wrote l at t (marking w byte 4 t) l' r.at r.state → ComposedWrote w kind byte l at t l' r
-  unfolding style_of
-  composed_mark k b h =
-      record {
-        wrote = rw (ne_eqb kind 10 k, byte_is byte b) h;
-        near = omega (arith, written_position w l l' at r.at t r.state control (mark_text byte 4) h, mark_columns_law w byte 4);
-      }
-
-pub composed_beside : (w : Window) (kind byte : ℕ) (l : List ℕ) (at : ℕ) (t u : AttributeState) (b : Bool) → (kind ≢ 10) → byte < 256 → b ≡ (ltb w.start.0 (t.position.0 + 4) && ltb t.position.0 w.end.0) → b ≡ false → u ≡ moved t 4 false
-    → ComposedWrote w kind byte l at t l (record { state = u; at = at })
-composed_beside w kind byte l at t u b k h e f m = composed_mark w kind byte l at t l (record { state = u; at = at }) k h (mark_out l at w t byte 4 b e u f m)
+  pub mark_near : (v n : ℕ) → Wrote l at t (marking w v n t) l' r t' → t'.position.0 ≤ t.position.0 + n
+  mark_near v n h = omega (arith, written_position w l l' at r t t' control (mark_text v n) h, mark_columns_law w v n)

@@ -1,5 +1,5 @@
 -- What the contracts of src/write.rt say: texts in a window.
-use Rattle.std.specs.Prelude.{◌≡◌, ℕ, ◌+◌, ◌-◌, ◌*◌, ◌≤◌, ◌<◌, ◌^◌, Bool, true, not, ◌||◌, List, [], ◌∷◌, length}
+use Rattle.std.specs.Prelude.{◌≡◌, ℕ, ◌+◌, ◌-◌, ◌*◌, ◌≤◌, ◌<◌, ◌^◌, true, not, List, [], ◌∷◌, length}
 use Rattle.buffer.specs.Sink.{sink, emit}
 use Rattle.text.specs.Utf8.{Scalar}
 use Rattle.text.specs.Class.{Profile}
@@ -18,11 +18,6 @@ use Rattle.drawing.specs.declared.write.Window.{Window}
 use Rattle.drawing.specs.Attributes.Code.{style_of}
 use Rattle.drawing.specs.State.{state_of}
 use Rattle.drawing.specs.LineDrawing.{shown_text}
-
--- n columns further
-abbrev pub moved : AttributeState → ℕ → Bool → AttributeState
-moved t n b =
-    record { attrs = t.attrs; drawing = t.drawing; changed = t.changed; style = t.style; fill = t.fill; torn = t.torn || b; position = record { 0 = t.position.0 + n } }
 
 -- the change that a text at a position sends into a window
 abbrev pub windowed_text : Window → ℕ → List Scalar → Change

@@ -2,30 +2,14 @@
 ghost use Rattle.std.specs.Prelude.{◌≡◌};
 ghost use Rattle.drawing.specs.Hyperlink.{linked_to};
 
-use super::attributes::{Link, linked};
-use super::state::{AttributeState, with_attributes};
+use super::attributes::Link;
+use super::state::AttributeState;
 
-// A hyperlink on the state.
-fn with_link(state: AttributeState, link: Link) -> AttributeState
-    ensures { result ≡ linked_to state link }
-{
-    let attrs = state.attrs;
-    let place = link.place;
-    with_attributes(state, linked(attrs, place, link.len))
-}
-
-// AttributeState::apply_hyperlink.
-fn apply_hyperlink(state: &mut AttributeState, link: Link)
-    ensures { state.new ≡ linked_to state.old link }
-{
-    *state = with_link(*state, link);
-}
-
-// The state by value: a copy of it is lent to `apply_hyperlink`.
-pub(crate) fn with_hyperlink(state: AttributeState, link: Link) -> AttributeState
-    ensures { result ≡ linked_to state link }
-{
-    let mut own = state;
-    apply_hyperlink(&mut own, link);
-    own
+impl AttributeState {
+    // AttributeState::apply_hyperlink.
+    pub(crate) fn apply_hyperlink(&mut self, link: Link)
+        ensures { self.new ≡ linked_to self.old link }
+    {
+        self.set_attributes(self.attrs.linked(link));
+    }
 }

@@ -22,21 +22,13 @@ pub fn draw_window_numbers(
 ) -> Answer
     ensures { DrawnNumbers (window_call profile01 reader (length conv.old) (places_in (length numbers.old)) (length list.old) start end (current_of current) matches.now line.now) (length numbers.old) result conv.new numbers.new list.new }
 {
-    let mut spans = no_spans();
-    let n = places_in(numbers.len());
-    let a = super::draw_window(
-        reader,
-        line,
-        matches,
-        current,
-        start,
-        end,
-        conv,
-        &mut spans[..n],
-        list,
+    let mut places = no_spans();
+    let spans = &mut places[..places_in(numbers.len())];
+    let answer = super::draw_window(
+        reader, line, matches, current, start, end, conv, spans, list,
     );
-    write_numbers(&spans[..n], numbers);
-    a
+    write_numbers(spans, numbers);
+    answer
 }
 
 pub fn draw_row_numbers(
@@ -54,21 +46,11 @@ pub fn draw_row_numbers(
 ) -> Answer
     ensures { DrawnNumbers (row_call profile01 reader (length conv.old) (places_in (length numbers.old)) (length list.old) first count width mode (current_of current) matches.now line.now) (length numbers.old) result conv.new numbers.new list.new }
 {
-    let mut spans = no_spans();
-    let n = places_in(numbers.len());
-    let a = super::draw_row(
-        reader,
-        line,
-        matches,
-        current,
-        first,
-        count,
-        width,
-        mode,
-        conv,
-        &mut spans[..n],
-        list,
+    let mut places = no_spans();
+    let spans = &mut places[..places_in(numbers.len())];
+    let answer = super::draw_row(
+        reader, line, matches, current, first, count, width, mode, conv, spans, list,
     );
-    write_numbers(&spans[..n], numbers);
-    a
+    write_numbers(spans, numbers);
+    answer
 }

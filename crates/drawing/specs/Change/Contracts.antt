@@ -1,5 +1,5 @@
 -- What the contracts of src/change.rt say beyond the definitions.
-use Rattle.std.specs.Prelude.{◌≡◌, ℕ, ◌+◌, ◌≤◌, Bool, List, [], ◌∷◌}
+use Rattle.std.specs.Prelude.{ℕ, ◌+◌, List, [], ◌∷◌}
 use Rattle.text.specs.Utf8.{Scalar, ascii}
 use Rattle.drawing.specs.Change.{Change, text, flag}
 use Rattle.drawing.specs.declared.attributes.Flags.{Flags}
@@ -10,10 +10,6 @@ drawn_text s = text s
 -- a text of one byte below 80
 abbrev pub one_byte : ℕ → Change
 one_byte b = text (ascii b ∷ [])
-
-pub record FlagAdded (sum n : ℕ) (b : Bool) (r : ℕ) : Type 0 where
-  pub is : r ≡ sum + flag n b
-  pub small : r ≤ sum + n
 
 -- the flags' byte
 abbrev pub flags_byte : Flags → ℕ

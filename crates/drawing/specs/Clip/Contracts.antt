@@ -1,5 +1,6 @@
 -- What the contracts of src/clip.rt say beyond the definitions.
-use Rattle.std.specs.Prelude.{◌≡◌, ℕ, ◌+◌, ◌-◌, ◌*◌, ◌≤◌, ◌<◌, ◌^◌, true, cond, List, [], ◌++◌, length, take, drop}
+use Rattle.std.specs.Prelude.{◌≡◌, ℕ, ◌+◌, ◌-◌, ◌*◌, ◌≤◌, ◌<◌, ◌^◌, true, List, ◌++◌, length, take, drop, MatchOption}
+use Rattle.std.specs.Prelude as code
 use Rattle.std.proofs.Math.Option.{Option, none, some}
 use Rattle.text.specs.Utf8.{Scalar, decode}
 use Rattle.text.specs.Class.{Profile}
@@ -7,6 +8,7 @@ use Rattle.text.specs.Cluster.{clusters}
 use Rattle.text.specs.Utf8.Code.{run_of, whole}
 use Rattle.text.specs.Printable.{all_printable}
 use Rattle.text.specs.TextParts.{text_at, Measured}
+use Rattle.text.specs.declared.BytePlace.{BytePlace}
 use Rattle.text.specs.declared.TextPart.{TextPart}
 use Rattle.drawing.specs.Clip.{spaces, clip_end}
 use Rattle.drawing.specs.declared.clip.Clip.{Clip}
@@ -30,15 +32,15 @@ pub record FoundAt (s : List ℕ) (at from offset : ℕ) : Type 0 where
 
 -- the clusters from a place and a column on, cut at the limit
 pub record CutAt (P : Profile) (s : List ℕ) (at from limit : ℕ) (r : Cut) : Type 0 where
-  pub same : clip_end P limit from (clusters P (text_at s at)) ≡ text_in s at r.end.0 ++ spaces r.behind.0
+  pub same : clip_end P limit from (clusters P (text_at s at)) ≡ text_in s at r.end.0 ++ spaces r.after.0
   pub ordered : at ≤ r.end.0
   pub inside : r.end.0 ≤ length s
   pub valid : whole (bytes_in s at r.end.0)
-  pub small : r.behind.0 ≤ 2 * (length s - r.end.0)
+  pub small : r.after.0 ≤ 2 * (length s - r.end.0)
 
--- what a clip leaves of a text, torn or not
+-- what a clip leaves of a text
 unfoldable pub clip_text : List ℕ → Clip → List Scalar
-clip_text s r = spaces r.before.0 ++ (text_in s r.start.0 r.end.0 ++ spaces r.behind.0)
+clip_text s r = spaces r.before.0 ++ (text_in s r.start.0 r.end.0 ++ spaces r.after.0)
 
 -- the part is valid text, and the spaces are few
 pub record ClipIn (s : List ℕ) (r : Clip) : Type 0 where
@@ -46,23 +48,25 @@ pub record ClipIn (s : List ℕ) (r : Clip) : Type 0 where
   pub inside : r.end.0 ≤ length s
   pub valid : whole (bytes_in s r.start.0 r.end.0)
   pub before : r.before.0 ≤ 2 * r.start.0
-  pub behind : r.behind.0 ≤ 2 * (length s - r.end.0)
+  pub after : r.after.0 ≤ 2 * (length s - r.end.0)
 
 -- its bytes can be counted
 pub record ClipSmall (r : Clip) : Type 0 where
   pub ordered : r.start.0 ≤ r.end.0
-  pub room : r.before.0 + (r.end.0 - r.start.0) + r.behind.0 < 2 ^ 64
+  pub room : r.before.0 + (r.end.0 - r.start.0) + r.after.0 < 2 ^ 64
 
--- the clipped text that a clip stands for: none where it is torn
-unfoldable pub clip_of : List ℕ → Clip → Option (List Scalar)
-unfolding clip_text
-clip_of s r = cond r.torn none (some (clip_text s r))
+-- a part of a text, with no spaces beside it
+abbrev pub part_of : BytePlace → BytePlace → Clip
+part_of a e = record { before = record { 0 = 0 }; start = a; end = e; after = record { 0 = 0 } }
 
--- r is the clipped text x; a torn one holds nothing
-pub record Clipped (s : List ℕ) (x : Option (List Scalar)) (r : Clip) : Type 0 where
+-- r is the clipped text x
+pub record ClipIs (s : List ℕ) (x : Option (List Scalar)) (r : Clip) : Type 0 where
   pub fits : ClipIn s r
-  pub same : x ≡ clip_of s r
-  pub empty : r.torn ≡ true → clip_text s r ≡ []
+  pub same : x ≡ some (clip_text s r)
+
+-- r is the clipped text x, or none where x is torn
+abbrev pub Clipped : List ℕ → Option (List Scalar) → code.Option Clip → Type 0
+Clipped s x r = MatchOption r (x ≡ none) (ClipIs s x)
 
 -- a text that was measured, and numbers that fit
 pub record Clipping (P : Profile) (s : List ℕ) (m : TextPart) (offset width : ℕ) : Type 0 where

@@ -8,11 +8,9 @@ use Rattle.drawing.specs.Clip.{spaces}
 use Rattle.drawing.specs.Marks.{byte_mark, scalar_mark}
 use Rattle.drawing.specs.Attributes.{file, control}
 use Rattle.drawing.specs.Draw.{State, Sent, write_truncated, write_marks}
-use Rattle.drawing.specs.Attributes.Code.{style_of}
 use Rattle.drawing.specs.declared.attributes.Style as code
 use Rattle.drawing.specs.declared.attributes.Style.TheVariants.{File, Control}
 use Rattle.drawing.specs.declared.state.AttributeState.{AttributeState}
-use Rattle.drawing.specs.declared.state.Stepped.{Stepped}
 use Rattle.drawing.specs.declared.write.Window.{Window}
 use Rattle.drawing.specs.State.{state_of, Wrote}
 
@@ -60,14 +58,6 @@ composed_text kind byte position = cond (eqb kind 10) (spaces (8 - position % 8)
 abbrev pub composed_style : ℕ → code.Style
 composed_style kind = cond (eqb kind 10) File Control
 
--- a tab or a byte's mark in a window
-abbrev pub composing : Window → ℕ → ℕ → AttributeState → Sent
-composing w kind byte t = write_truncated (profile_of w.profile) w.start.0 w.end.0 (state_of t) (style_of (composed_style kind)) (composed_text kind byte t.position.0)
-
-pub record ComposedWrote (w : Window) (kind byte : ℕ) (l : List ℕ) (at : ℕ) (t : AttributeState) (l' : List ℕ) (r : Stepped) : Type 0 where
-  pub wrote : Wrote l at t (composing w kind byte t) l' r.at r.state
-  pub near : r.state.position.0 ≤ t.position.0 + 8
-
 -- a scalar's mark in a window
 abbrev pub scalar_marking : Window → ℕ → AttributeState → Sent
 scalar_marking w c t = write_truncated (profile_of w.profile) w.start.0 w.end.0 (state_of t) control (scalar_mark c)
@@ -76,6 +66,6 @@ scalar_marking w c t = write_truncated (profile_of w.profile) w.start.0 w.end.0 
 abbrev pub marks_of : Window → List ℕ → State → Sent
 marks_of w s t = write_marks (profile_of w.profile) w.start.0 w.end.0 t (text_at s 0)
 
-pub record MarksWrote (w : Window) (s l : List ℕ) (at : ℕ) (t : AttributeState) (l' : List ℕ) (r : Stepped) : Type 0 where
-  pub wrote : Wrote l at t (marks_of w s (state_of t)) l' r.at r.state
-  pub near : r.state.position.0 ≤ t.position.0 + 20 * length s
+pub record MarksWrote (w : Window) (s l : List ℕ) (at : ℕ) (t : AttributeState) (l' : List ℕ) (r : ℕ) (t' : AttributeState) : Type 0 where
+  pub wrote : Wrote l at t (marks_of w s (state_of t)) l' r t'
+  pub near : t'.position.0 ≤ t.position.0 + 20 * length s

@@ -5,17 +5,17 @@ use Rattle.drawing.proofs.clip.clip_start.Goals as goal
 pub loop-p-init : goal.loop-p-init
 loop-p-init c = search start_begin
 
-pub returns-then-end-p : goal.returns-then-end-p
-returns-then-end-p c = search start_bad
+pub returns-then-next-p : goal.returns-then-next-p
+returns-then-next-p c = search start_bad
 
 pub clip_from-requires : goal.clip_from-requires
 clip_from-requires c = search found_there
 
-pub returns-then-columns-offset : goal.returns-then-columns-offset
-returns-then-columns-offset c = search start_found
+pub returns-then-next-offset : goal.returns-then-next-offset
+returns-then-next-offset c = search start_found
 
-pub returns-then-columns-limit : goal.returns-then-columns-limit
-returns-then-columns-limit c = search start_torn
+pub returns-then-next-limit : goal.returns-then-next-limit
+returns-then-next-limit c = search start_torn
 
 pub loop-p-smaller : goal.loop-p-smaller
 loop-p-smaller c = omega arith

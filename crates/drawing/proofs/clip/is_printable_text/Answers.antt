@@ -1,12 +1,9 @@
-use Rattle.drawing.proofs.Columns.{printable_on, printable_off, printable_end}
-use native.Mathlib.Omega.{arith}
+use Rattle.std.proofs.Common.{rules, tests, ◌∙◌}
+use Rattle.std.proofs.lemmas.Iterator.{YieldsList-from_slice}
+use Rattle.std.proofs.lemmas.Iterator.Search.{all_from_yields_List}
+use Rattle.text.specs.Class.Code.{printable}
+use Rattle.drawing.proofs.Columns.{all_printable_is}
 use Rattle.drawing.proofs.clip.is_printable_text.Goals as goal
 
-pub loop-i-preserved : goal.loop-i-preserved
-loop-i-preserved c = (omega arith, search printable_on)
-
-pub returns-else-is_printable : goal.returns-else-is_printable
-returns-else-is_printable c = search printable_off
-
 pub returns : goal.returns
-returns c = search printable_end
+returns c = all_from_yields_List printable _ _ _ c.all.ensures.ran (YieldsList-from_slice c.args.text.now cc) (λ x b q k. search (rules, tests)) ∙ all_printable_is c.args.text.now

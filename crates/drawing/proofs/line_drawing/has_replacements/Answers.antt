@@ -1,12 +1,9 @@
-use native.Mathlib.Omega.{arith}
-use Rattle.drawing.proofs.LineDrawing.{replacement_met, replacement_not, replacements_end}
+use Rattle.std.proofs.Common.{rules, tests, ◌∙◌}
+use Rattle.std.proofs.lemmas.Iterator.{YieldsList-from_slice}
+use Rattle.std.proofs.lemmas.Iterator.Search.{any_from_yields_List}
+use Rattle.text.specs.Utf8.{to, within}
+use Rattle.drawing.proofs.LineDrawing.{has_replacements_is}
 use Rattle.drawing.proofs.line_drawing.has_replacements.Goals as goal
 
-pub returns-then-text-i : goal.returns-then-text-i
-returns-then-text-i c = search replacement_met
-
-pub loop-i-preserved : goal.loop-i-preserved
-loop-i-preserved c = (omega arith, search replacement_not)
-
 pub returns : goal.returns
-returns c = search replacements_end
+returns c = any_from_yields_List (within (to 0x5F 0x7E)) _ _ _ c.any.ensures.ran (YieldsList-from_slice c.args.text.now cc) (λ x b q k. search (rules, tests)) ∙ has_replacements_is c.args.text.now

@@ -1,6 +1,8 @@
-use Rattle.drawing.proofs.LineDrawing.{table, replaced}
+use Rattle.std.proofs.Common.{◌∙◌, refl}
+use Rattle.drawing.specs.Marks.{replacements}
+use Rattle.drawing.proofs.LineDrawing.{bytes_at}
 use Rattle.drawing.proofs.line_drawing.push_replacement.Goals as goal
 
 pub returns : goal.returns
-unfolding table
-returns c = search replaced
+unfolding replacements
+returns c = c.push_all.ensures ∙ rw (c.as_bytes.ensures.value, bytes_at) refl

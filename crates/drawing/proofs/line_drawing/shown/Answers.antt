@@ -1,11 +1,11 @@
-use Rattle.drawing.proofs.LineDrawing.{shown_length, shown_copy, shown_own}
+use Rattle.drawing.proofs.LineDrawing.{copy_slice, copy_shown, text_shown}
 use Rattle.drawing.proofs.line_drawing.shown.Goals as goal
 
 pub slice_bounds-result-end : goal.slice_bounds-result-end
-slice_bounds-result-end c = search shown_length
+slice_bounds-result-end c = search copy_slice
 
-pub returns-then-replaced : goal.returns-then-replaced
-returns-then-replaced c = search shown_copy
+pub returns-then-has_replacements : goal.returns-then-has_replacements
+returns-then-has_replacements c = search copy_shown
 
 pub returns : goal.returns
-returns c = search shown_own
+returns c = search text_shown

@@ -1,8 +1,8 @@
-use Rattle.drawing.proofs.LineEdges.{opened_arrow, opened_bare}
+use Rattle.drawing.proofs.LineEdges.{opened_bare, opened_rows}
 use Rattle.drawing.proofs.render.open.Goals as goal
 
-pub returns-then-rendering : goal.returns-then-rendering
-returns-then-rendering c = search opened_arrow
+pub returns-in-Rows : goal.returns-in-Rows
+returns-in-Rows c = search opened_rows
 
-pub returns : goal.returns
-returns c = search opened_bare
+pub returns-else-arrow : goal.returns-else-arrow
+returns-else-arrow c = search opened_bare

@@ -1,12 +1,16 @@
-use Rattle.drawing.proofs.RenderSpans.{spans_begin, spans_turn, spans_end}
-use Rattle.std.proofs.Common.{arith}
+use Rattle.drawing.specs.Attributes.{plain}
+use Rattle.drawing.proofs.RenderSpans.{spans_begin, spans_turn, spans_end, turn_room}
 use Rattle.drawing.proofs.render.render.Goals as goal
 
-pub loop-i-init : goal.loop-i-init
-loop-i-init c = spans_begin c.args.rendering c.args.line.now c.args.spans.now c.args.count c.args.list.now c.args.begun c.requires
+pub loop-span-init : goal.loop-span-init
+unfolding plain
+loop-span-init c = spans_begin _ _ _ _ _ c.requires
 
-pub loop-i-preserved : goal.loop-i-preserved
-loop-i-preserved c = spans_turn c.args.rendering c.args.line.now c.args.spans.now c.args.count c.args.list.now c.args.begun c.requires _ _ _ c.loop-i.invariant _ _ c.loop-i-test.true c.render_span-t.ensures
+pub loop-span-preserved : goal.loop-span-preserved
+loop-span-preserved c = spans_turn _ _ _ _ _ c.requires _ _ _ _ c.loop-span.invariant _ _ _ c.loop-span-test.true c.render_span-at.ensures
+
+pub render_span-at-requires : goal.render_span-at-requires
+render_span-at-requires c = turn_room _ _ _ _ _ c.requires _ _ _ _ c.loop-span.invariant c.loop-span-test.true
 
 pub returns : goal.returns
-returns c = spans_end c.args.rendering c.args.line.now c.args.spans.now c.args.count c.args.list.now c.args.begun c.requires _ _ _ c.loop-i.invariant _ _ (omega (arith, c.loop-i.invariant.inside)) c.close.ensures
+returns c = spans_end _ _ _ _ _ c.requires _ _ _ _ c.loop-span.invariant _ _ _ c.open-at.ensures c.loop-span-test.false c.close.ensures

@@ -1,26 +1,23 @@
-use Rattle.drawing.proofs.SpanKinds.{text_ready, marks_ready, line_short, line_slice, span_text_law, span_composed, span_marks, span_sequence}
+use Rattle.drawing.proofs.SpanKinds.{span_text, span_match, span_byte, span_tab, span_marks, span_sequence, span_none}
 use Rattle.drawing.proofs.render.render_span.Goals as goal
 
-pub slice_bounds-own-end : goal.slice_bounds-own-end
-slice_bounds-own-end c = search line_slice
+pub returns-in_default : goal.returns-in_default
+returns-in_default c = search (span_none, c.in_default.ensures)
 
-pub write_truncated-requires : goal.write_truncated-requires
-write_truncated-requires c = search text_ready
+pub returns-in-Text : goal.returns-in-Text
+returns-in-Text c = search (span_text, c.in-Some.ensures)
 
-pub returns-then-kind : goal.returns-then-kind
-returns-then-kind c = search span_text_law
+pub returns-in-Match : goal.returns-in-Match
+returns-in-Match c = search (span_match, c.in-Some.ensures)
 
-pub returns-then-kind-2 : goal.returns-then-kind-2
-returns-then-kind-2 c = search span_composed
+pub returns-in-Control : goal.returns-in-Control
+returns-in-Control c = search (span_byte, c.in-Some.ensures)
 
-pub write_marks-requires : goal.write_marks-requires
-write_marks-requires c = search marks_ready
+pub returns-in-Unprintable : goal.returns-in-Unprintable
+returns-in-Unprintable c = search (span_marks, c.in-Some.ensures)
 
-pub returns-then-kind-eq5 : goal.returns-then-kind-eq5
-returns-then-kind-eq5 c = search span_marks
+pub returns-in-Tab : goal.returns-in-Tab
+returns-in-Tab c = search (span_tab, c.in-Some.ensures)
 
-pub render_sequence-next-requires : goal.render_sequence-next-requires
-render_sequence-next-requires c = search line_short
-
-pub returns : goal.returns
-returns c = search span_sequence
+pub returns-in_default-kind : goal.returns-in_default-kind
+returns-in_default-kind c = search (span_sequence, c.in-Some.ensures)

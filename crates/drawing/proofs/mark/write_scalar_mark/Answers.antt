@@ -1,8 +1,0 @@
-use Rattle.drawing.proofs.Marks.{scalar_room, scalar_wrote}
-use Rattle.drawing.proofs.mark.write_scalar_mark.Goals as goal
-
-pub write_mark-requires : goal.write_mark-requires
-write_mark-requires c = search scalar_room
-
-pub returns : goal.returns
-returns c = search scalar_wrote
