@@ -1,4 +1,4 @@
--- Refusals, and the answer of a call that wrote bytes.
+-- The answer of a call that wrote bytes.
 use mathlib.Core.Path.{◌≡◌, refl, sym, ap, ◌∙◌}
 use Prim.Native.Nat.{ℕ, ◌+◌, ◌-◌, ◌<◌, ◌≤◌}
 use native.Mathlib.Omega.{arith}
@@ -8,21 +8,14 @@ use lib.Seq.{take_at}
 use lib.Dec.{leb}
 use borrow.Author.Tests.{le-leb, lt-leb, leb-true, leb-false}
 use Rattle.text.specs.Tests.{cases}
-use Rattle.text.specs.Calls.{Converted}
-use Rattle.text.specs.Calls.Code as text
-use Rattle.text.specs.Calls.Code.{converted, written}
-use Rattle.text.specs.declared.Answer.{Answer}
+use Rattle.text.specs.Calls.Code.{written}
 use Rattle.buffer.specs.Sink.{sink, emit}
 use Rattle.buffer.specs.Sink.Laws.{fitted, overfull}
-use Rattle.screen.specs.Calls.Code.{refusal, kept, in_room}
-
--- `refuse` zeroes what a call was lent
-pub refused : (r : Answer) (l : List ℕ) (n room : ℕ) → converted r l ≡ text.refusal n room → written r l ≡ refusal n room
-refused r l n room e = ap (λ (c : Converted). record { number = c.number; count = c.count; out = c.conv }) e
+use Rattle.screen.specs.Calls.Code.{kept, in_room}
 
 module _ (l : List ℕ) (n : ℕ) where
-  pub bytes_lost : (r : Answer) (l' : List ℕ) → length l < n → converted r l' ≡ text.refusal 9 (length l) → written r l' ≡ kept l n
-  bytes_lost r l' h e = refused r l' 9 (length l) e ∙ sym (rw (lt-leb n (length l) h) refl)
+  pub bytes_lost : length l < n → written (record { number = 9; count = 0 }) (replicate (length l) 0) ≡ kept l n
+  bytes_lost h = sym (rw (lt-leb n (length l) h) refl)
 
   pub bytes_kept : (l' : List ℕ) → n ≤ length l → l' ≡ take n l ++ replicate (length l - n) 0 → written (record { number = 0; count = n }) l' ≡ kept l n
   bytes_kept l' h e = rw (e, le-leb n (length l) h) refl

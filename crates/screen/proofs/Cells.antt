@@ -1,16 +1,15 @@
 -- The ends of the functions of src/row.rt.
 use mathlib.Core.Path.{◌≡◌, refl, sym, ap, ◌∙◌}
-use Prim.Native.Nat.{ℕ, suc, ◌+◌, ◌-◌, ◌*◌, ◌<◌, ◌≤◌}
+use Prim.Native.Nat.{min, ℕ, suc, ◌+◌, ◌-◌, ◌*◌, ◌<◌, ◌≤◌}
 use native.Mathlib.Numerals.{add-one}
 use native.Mathlib.Omega.{arith}
 use mathlib.Core.Bool.{Bool, true, false}
 use mathlib.Core.Logic.{◌≢◌}
 use mathlib.Core.List.{List}
-use lib.ListN.{length, take, drop, get_or, length-drop, drop_of_length-le}
-use lib.Seq.{take-nil, length-take-le, get_or-take, take_all, drop-length, sets}
-use lib.Dec.{eqb, leb}
-use borrow.Author.Tests.{eq-eqb, ne_eqb, leb-true, leb-false}
-use Rattle.text.specs.Tests.{cases}
+use lib.ListN.{length-take, length, take, drop, get_or, length-drop, drop_of_length-le}
+use lib.Seq.{take-nil, length-take-le, get_or-take, drop-length, sets}
+use lib.Dec.{eqb}
+use borrow.Author.Tests.{eq-eqb, ne_eqb}
 use Rattle.buffer.specs.Numbers.{smaller_of}
 use Rattle.screen.specs.Row.{plain, blank, is_later, all_later}
 use Rattle.screen.specs.Row.Contracts.{part, cell_of, cells_in, cell_in, first_column, laters, set_cell, same_numbers, cluster_numbers, CellReady, CellsReady}
@@ -22,10 +21,7 @@ pub no_part : (list : List ℕ) (at n : ℕ) → length list ≤ at → 0 ≡ le
 no_part list at n h = rw (drop_of_length-le list h, take-nil {A = ℕ} n) refl
 
 pub part_size_law : (list : List ℕ) (at n r : ℕ) → r ≡ smaller_of n (length list - at) → r ≡ length (part list at n)
-part_size_law list at n r e =
-    cases (leb n (length list - at))
-    (λ f. rw f at e ∙ sym (length-take-le n (drop at list) (rw (length-drop at list) (leb-true n (length list - at) f))))
-    (λ f. rw f at e ∙ sym (ap length (take_all n (drop at list) (rw (length-drop at list) (let g = leb-false n (length list - at) f in omega arith))) ∙ length-drop at list))
+part_size_law list at n r e = e ∙ sym (length-take n (drop at list) ∙ ap (λ (m : ℕ). min n m) (length-drop at list))
 
 -- ---- is_later
 

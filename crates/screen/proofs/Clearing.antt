@@ -1,18 +1,15 @@
 -- Kind 3: the row's numbers up to the cursor, blank from there on.
-use mathlib.Core.Path.{◌≡◌, refl, ap, ap₂, ◌∙◌}
+use mathlib.Core.Path.{◌≡◌, ap, ap₂, ◌∙◌}
 use Prim.Native.Nat.{ℕ, ◌-◌, ◌*◌, ◌≤◌}
 use native.Mathlib.Omega.{arith}
-use mathlib.Core.Bool.{true}
-use mathlib.Core.Option.{some}
 use mathlib.Core.List.{List}
 use lib.ListN.{length, replicate, length-replicate}
 use lib.Seq.{length-sets}
 use lib.Dec.{eqb}
 use borrow.Author.Tests.{ne_eqb}
-use Rattle.text.specs.Tests.{cases}
 use Rattle.screen.specs.Row.{Cell, blank, with_background, put, screen, clear}
 use Rattle.screen.specs.Row.Contracts.{part, body_at, same_numbers, CellsReady}
-use Rattle.screen.specs.Screen.{larger_of, cursor_of, reached, Reached, cut_left, row_of, screen_of, formed, ClearReady, Stepped}
+use Rattle.screen.specs.Screen.{larger_of, cursor_of, reached, Reached, cut_left, row_of, screen_of, ClearReady, Moved}
 use Rattle.screen.specs.declared.screen.Screen as code
 use Rattle.screen.proofs.Clusters.{cursor_small}
 use Rattle.screen.proofs.Writing.{larger_is, reached_row, row_clear}
@@ -31,7 +28,7 @@ module _ (list row : List ℕ) (width : ℕ) (t : code.Screen) (color : ℕ) (re
   end₁ = larger_of t.end c
 
   abbrev after : code.Screen
-  after = record { at = t.at; attributes = t.attributes; end = c; color = color; refusal = t.refusal }
+  after = record { at = t.at; attributes = t.attributes; end = c; color = color; passed = t.passed }
 
   abbrev row₂ : List ℕ
   row₂ = cut_left list (reached row t c) end₁ c
@@ -45,17 +42,15 @@ module _ (list row : List ℕ) (width : ℕ) (t : code.Screen) (color : ℕ) (re
       (row_clear list width (reached row t c) end₁ c (omega (arith, larger_is t.end c)) end_small (omega (arith, long, ready.ready.room)) t.color new (length-replicate (width - c) (blank (with_background (part list color 4))))
       ∙ ap (put c new) (reached_row list width row t c ready.ready.end small ready.ready.room))
 
-  cleared_same : screen_of list width row₂ after ≡ formed true (λ u. clear width u (part list color 4)) (screen_of list width row t)
-  unfolding screen_of formed clear
-  cleared_same =
-      cases (eqb t.refusal 10) (λ h. rw h refl)
-      (λ h. rw (h, ← is) (ap some (ap (λ (cs : List Cell). screen cs c (eqb t.at width) (body_at list t.attributes) (eqb t.refusal 11)) cleared_row)))
+  cleared_same : screen_of list width row₂ after ≡ clear width (screen_of list width row t) (part list color 4)
+  unfolding screen_of clear
+  cleared_same = rw (← is) (ap (λ (cs : List Cell). screen cs c (eqb t.at width) (body_at list t.attributes) t.passed) cleared_row)
 
   module _ (u : code.Screen) (row₁ : List ℕ) (reach : Reached row t c row₁ u) (long₁ : length row₁ ≡ length row) where
     pub clear_cuts : CellsReady row₁ 0 u.end
     clear_cuts = let e : u.end ≡ end₁ = ap (λ (x : code.Screen). x.end) reach.state in record { order = omega arith; room = omega (arith, e, end_small, long₁, ready.ready.room) }
 
-    pub clear_step : (row' : List ℕ) → row' ≡ cut_left list row₁ u.end c → length row' ≡ length row → Stepped list width row t (formed true (λ u. clear width u (part list color 4))) row' (record { at = u.at; attributes = u.attributes; end = c; color = color; refusal = u.refusal })
+    pub clear_step : (row' : List ℕ) → row' ≡ cut_left list row₁ u.end c → length row' ≡ length row → Moved list width row t (λ u. clear width u (part list color 4)) row' (record { at = u.at; attributes = u.attributes; end = c; color = color; passed = u.passed })
     clear_step row' cut long =
         let g : row' ≡ row₂ = cut ∙ ap₂ (λ (l : List ℕ) (x : code.Screen). cut_left list l x.end c) reach.numbers reach.state in
         rw reach.state

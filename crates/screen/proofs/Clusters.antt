@@ -2,7 +2,7 @@
 use mathlib.Core.Path.{◌≡◌, refl, sym, ap, ◌∙◌}
 use Prim.Native.Nat.{ℕ, zero, suc, ◌+◌, ◌-◌, ◌<◌, ◌≤◌}
 use native.Mathlib.Omega.{arith}
-use mathlib.Core.Bool.{true, false, cond, ◌&&◌, ◌||◌, and-false}
+use mathlib.Core.Bool.{true, false, ◌&&◌, ◌||◌, and-false}
 use mathlib.Core.Logic.{◌≢◌}
 use mathlib.Core.List.{List, [], ◌∷◌}
 use lib.ListN.{length, take, drop, get_or, length-drop}
@@ -13,7 +13,9 @@ use Rattle.text.specs.Tests.{cases}
 use Rattle.text.specs.Utf8.{same_bytes}
 use Rattle.screen.specs.Row.{back, write}
 use Rattle.screen.specs.Row.Contracts.{part}
-use Rattle.screen.specs.Screen.{with_at, with_refusal, cursor_of, row_of, screen_of, formed, cluster_on, ClusterOnReady, Stepped}
+use Rattle.screen.specs.Screen.{with_at, cursor_of, screen_of, row_of, formed, cluster_on, ClusterOnReady, Moved, Stepped}
+use Rattle.std.proofs.Math.Option as option
+use Rattle.std.specs.Prelude.{None, Some}
 use Rattle.screen.specs.declared.screen.Screen as code
 
 one_byte_law : (s : List ℕ) (n b : ℕ) → n ≤ length s → same_bytes (take n s) (b ∷ []) ≡ (eqb (get_or s 0 0) b && eqb n 1)
@@ -45,43 +47,37 @@ module _ (list row : List ℕ) (width : ℕ) (t : code.Screen) (p e w : ℕ) (re
       one_byte_law (drop p list) (e - p) 0x08 (omega (arith, length-drop p list, ready.inside))
       ∙ ap (λ (x : ℕ). eqb x 0x08 && eqb (e - p) 1) (get_or-drop p list 0 0 ∙ ap (λ (k : ℕ). get_or list k 0) n ∙ sym byte)
 
-  pub cluster_back : (r : code.Screen) → (eqb b 0x08 && eqb (e - p) 1) ≡ true → r ≡ with_at t (cursor_of width t.at - 1) → Stepped list width row t (cluster_on width g w) row r
+  pub cluster_back : (r : code.Screen) → (eqb b 0x08 && eqb (e - p) 1) ≡ true → r ≡ with_at t (cursor_of width t.at - 1) → Stepped list width row t (cluster_on width g w) row (Some r)
   unfolding screen_of row_of cluster_on formed back
   cluster_back r is e =
       let c = cursor_small width t.at ready.ready.some ready.ready.at in
       let n : eqb (cursor_of width t.at - 1) width ≡ false = ne_eqb (cursor_of width t.at - 1) width (λ z. omega (arith, z, c)) in
       rw e
       record {
-        same = cases (eqb t.refusal 10) (λ h. rw h refl) (λ h. rw (h, n, backspace_is ∙ is) refl);
+        same = rw (n, backspace_is ∙ is) refl;
         ready = record { some = ready.ready.some; at = omega (arith, c); end = ready.ready.end; room = ready.ready.room };
       }
 
   module _ (other : (eqb b 0x08 && eqb (e - p) 1) ≡ false) where
-    pub cluster_narrow : (r : code.Screen) → w ≡ 0 → r ≡ with_refusal t 10 → Stepped list width row t (cluster_on width g w) row r
-    unfolding screen_of cluster_on formed
-    cluster_narrow r z e =
-        rw e
-        record {
-          same = cases (eqb t.refusal 10) (λ h. rw h refl) (λ h. rw (h, backspace_is ∙ other, z) refl);
-          ready = record { some = ready.ready.some; at = ready.ready.at; end = ready.ready.end; room = ready.ready.room };
-        }
+    pub cluster_narrow : w ≡ 0 → Stepped list width row t (cluster_on width g w) row None
+    unfolding cluster_on formed
+    cluster_narrow z = record { same = rw (backspace_is ∙ other, z) refl; ready = tt }
 
     module _ (some_columns : w ≢ 0) where
       some : 0 < w
       some = omega (arith, some_columns)
 
-      pub cluster_passes : (r : code.Screen) → width - t.at < w → r ≡ with_refusal t (cond (eqb t.refusal 10) 10 11) → Stepped list width row t (cluster_on width g w) row r
+      pub cluster_passes : width - t.at < w → Stepped list width row t (cluster_on width g w) row (Some (record { at = t.at; attributes = t.attributes; end = t.end; color = t.color; passed = true }))
       unfolding screen_of row_of cluster_on formed
-      cluster_passes r h e =
+      cluster_passes h =
           let q = passes_is width t.at w ready.ready.at some ∙ lt-ltb (width - t.at) w h in
-          rw e
           record {
-            same = cases (eqb t.refusal 10) (λ k. rw k refl) (λ k. rw (k, backspace_is ∙ other, lt-ltb 0 w some, q) refl);
+            same = rw (backspace_is ∙ other, lt-ltb 0 w some, q) refl;
             ready = record { some = ready.ready.some; at = ready.ready.at; end = ready.ready.end; room = ready.ready.room };
           }
 
-      pub cluster_written : (row' : List ℕ) (r : code.Screen) → w ≤ width - t.at → Stepped list width row t (formed true (λ u. write width u g w)) row' r → Stepped list width row t (cluster_on width g w) row' r
+      pub cluster_written : (row' : List ℕ) (r : code.Screen) → w ≤ width - t.at → Moved list width row t (λ u. write width u g w) row' r → Stepped list width row t (cluster_on width g w) row' (Some r)
       unfolding screen_of cluster_on formed
       cluster_written row' r h s =
           let q = passes_is width t.at w ready.ready.at some ∙ le-ltb (width - t.at) w h in
-          record { same = s.same ∙ cases (eqb t.refusal 10) (λ k. rw k refl) (λ k. rw (k, backspace_is ∙ other, lt-ltb 0 w some, q) refl); ready = s.ready }
+          record { same = ap option.some s.same ∙ rw (backspace_is ∙ other, lt-ltb 0 w some, q) refl; ready = s.ready }

@@ -12,7 +12,9 @@ use Rattle.text.specs.Class.{Profile}
 use Rattle.screen.specs.Records.{Record, records}
 use Rattle.screen.specs.Records.Contracts.{HeadReady, head_at, record_of}
 use Rattle.screen.specs.Row.{Screen, blank_screen}
-use Rattle.screen.specs.Screen.{with_refusal, row_of, screen_of, record_on, records_on, RowReady, BodyReady, DrawReady, Drawn, Stepped}
+use Rattle.std.specs.Prelude as std
+use Rattle.std.specs.Prelude.{None, Some}
+use Rattle.screen.specs.Screen.{row_of, screen_of, left_on, record_on, records_on, RowReady, BodyReady, DrawReady, Drawn, Stepped}
 use Rattle.screen.specs.Screen.Laws.{records_none, records_step, records_malformed, record_cut}
 use Rattle.screen.specs.declared.records.Head.{Head}
 use Rattle.screen.specs.declared.screen.Screen as code
@@ -22,11 +24,11 @@ use Rattle.screen.proofs.Heads.{records_end, behind, records_from_law, head_insi
 
 pub record Drawing (P : Profile) (list row₀ : List ℕ) (width : ℕ) (row : List ℕ) (t : code.Screen) (at : ℕ) : Type 0 where
   pub inside : at ≤ length list
-  pub work : records_on P width (records 4 (drop at list)) (screen_of list width row t) ≡ records_on P width (records 4 list) (some (blank_screen width))
+  pub work : records_on P width (records 4 (drop at list)) (some (screen_of list width row t)) ≡ records_on P width (records 4 list) (some (blank_screen width))
   pub ready : RowReady width row t
   pub long : length row ≡ length row₀
 
-pub draw_begin : (P : Profile) (list row : List ℕ) (width : ℕ) → DrawReady width row → Drawing P list row width row (record { at = 0; attributes = 0; end = 0; color = 0; refusal = 0 }) 0
+pub draw_begin : (P : Profile) (list row : List ℕ) (width : ℕ) → DrawReady width row → Drawing P list row width row (record { at = 0; attributes = 0; end = 0; color = 0; passed = false }) 0
 unfolding screen_of row_of blank_screen
 draw_begin P list row width ready =
     record {
@@ -37,23 +39,21 @@ draw_begin P list row width ready =
     }
 
 module _ (P : Profile) (list row₀ : List ℕ) (width : ℕ) (row : List ℕ) (t : code.Screen) (at : ℕ) (b : Drawing P list row₀ width row t at) where
-  pub draw_done : length list ≤ at → Drawn P list width row t
-  draw_done h = record { same = sym (ap (λ (rs : List Record). records_on P width rs (screen_of list width row t)) (records_end 4 list at h) ∙ records_none P width (screen_of list width row t)) ∙ b.work; ready = b.ready }
+  pub draw_done : length list ≤ at → Drawn P list width row (Some t)
+  draw_done h = record { same = sym (ap (λ (rs : List Record). records_on P width rs (some (screen_of list width row t))) (records_end 4 list at h) ∙ records_none P width (some (screen_of list width row t))) ∙ b.work; ready = b.ready }
 
   module _ (less : at < length list) where
     pub head_ready : HeadReady list at 4
     head_ready = record { inside = less; sizes = inr refl; small = omega arith }
 
     module _ (h : Head) (is : h ≡ head_at 4 list at) where
-      pub draw_cut : (r : code.Screen) → h.whole ≡ false → r ≡ with_refusal t 10 → Drawn P list width row r
-      unfolding screen_of
-      draw_cut r w e =
+      pub draw_cut : h.whole ≡ false → Drawn P list width row None
+      draw_cut w =
           let rs : List Record = behind 4 list at less h is in
-          rw e
           record {
-            same = sym (sym b.work ∙ ap (λ (rs : List Record). records_on P width rs (screen_of list width row t)) (records_from_law 4 list at less h is) ∙ records_step P width (record_of list h) rs (screen_of list width row t)
-                ∙ ap (records_on P width rs) (record_cut P width (record_of list h) w (screen_of list width row t)) ∙ records_malformed P width rs);
-            ready = record { some = b.ready.some; at = b.ready.at; end = b.ready.end; room = b.ready.room };
+            same = sym (sym b.work ∙ ap (λ (rs : List Record). records_on P width rs (some (screen_of list width row t))) (records_from_law 4 list at less h is) ∙ records_step P width (record_of list h) rs (some (screen_of list width row t))
+                ∙ ap (records_on P width rs) (record_cut P width (record_of list h) w (some (screen_of list width row t))) ∙ records_malformed P width rs);
+            ready = tt;
           }
 
       module _ (w : h.whole ≡ true) where
@@ -69,13 +69,15 @@ module _ (P : Profile) (list row₀ : List ℕ) (width : ℕ) (row : List ℕ) (
         pub draw_less : length list - (h.start + h.len) < length list - at
         draw_less = omega (arith, less, further)
 
-        pub draw_turn : (row' : List ℕ) (t' : code.Screen) → Stepped list width row t (record_on P width (record_of list h)) row' t' → length row' ≡ length row → Drawing P list row₀ width row' t' (h.start + h.len)
-        draw_turn row' t' s l =
-            let o : Option Screen = screen_of list width row t in
-            record {
-              inside = next_inside;
-              work = ap (records_on P width (records 4 (drop (h.start + h.len) list))) s.same ∙ sym (records_step P width (record_of list h) (records 4 (drop (h.start + h.len) list)) o)
-                  ∙ ap (λ (rs : List Record). records_on P width rs o) (sym (records_next 4 list at less h is w)) ∙ b.work;
-              ready = s.ready;
-              long = l ∙ b.long;
-            }
+        -- what is left to do after the record
+        after : {row' : List ℕ} {o : std.Option code.Screen} → Stepped list width row t (record_on P width (record_of list h)) row' o → records_on P width (records 4 (drop (h.start + h.len) list)) (left_on list width row' o) ≡ records_on P width (records 4 list) (some (blank_screen width))
+        after s =
+            let o : Option Screen = some (screen_of list width row t) in
+            ap (records_on P width (records 4 (drop (h.start + h.len) list))) s.same ∙ sym (records_step P width (record_of list h) (records 4 (drop (h.start + h.len) list)) o)
+            ∙ ap (λ (rs : List Record). records_on P width rs o) (sym (records_next 4 list at less h is w)) ∙ b.work
+
+        pub draw_broken : (row' : List ℕ) → Stepped list width row t (record_on P width (record_of list h)) row' None → Drawn P list width row' None
+        draw_broken row' s = record { same = sym (records_malformed P width (records 4 (drop (h.start + h.len) list))) ∙ after s; ready = tt }
+
+        pub draw_turn : (row' : List ℕ) (t' : code.Screen) → Stepped list width row t (record_on P width (record_of list h)) row' (Some t') → length row' ≡ length row → Drawing P list row₀ width row' t' (h.start + h.len)
+        draw_turn row' t' s l = record { inside = next_inside; work = after s; ready = s.ready; long = l ∙ b.long }

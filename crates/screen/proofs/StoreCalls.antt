@@ -1,28 +1,27 @@
 -- The calls `store` and `restore`: refusals, and what an accepted call leaves.
+use Rattle.text.specs.Overstrike.Bytes.{Byte}
 use mathlib.Core.Path.{◌≡◌, refl, sym, ap, ◌∙◌}
-use mathlib.Core.Logic.{◌≢◌, inl, inr}
+use mathlib.Core.Logic.{◌≢◌, ◌⊎◌, ⊎_elim, inl, inr}
 use Prim.Native.Nat.{ℕ, zero, suc}
 use native.Mathlib.Omega.{arith}
 use mathlib.Core.Bool.{Bool, true, false}
 use mathlib.Core.List.{List, [], map}
 use lib.ListN.{length, replicate}
 use Rattle.text.specs.Tests.{cases}
-use Rattle.text.specs.Each.{all_map}
+use Rattle.text.specs.Each.{All, all_map}
 use Rattle.text.specs.Calls.{ask, decide, Written}
 use Rattle.text.specs.Calls.Laws.{decide_yes, decide_no, decide_nil}
-use Rattle.text.specs.Calls.Code as text
-use Rattle.text.specs.Calls.Code.{converted, written}
-use Rattle.text.specs.declared.Answer.{Answer}
+use Rattle.text.specs.Calls.Code.{written}
 use Rattle.buffer.specs.Sink.{sink, emit}
 use Rattle.screen.specs.Records.{Record, records, encode}
 use Rattle.screen.specs.Records.Contracts.{LengthSize}
 use Rattle.screen.specs.WellFormed.{body_sizes, well_formed}
 use Rattle.screen.specs.Calls.Code.{kept, in_room}
 use Rattle.screen.specs.Calls.Code.Laws.{writing_refused, writing_accepted}
-use Rattle.screen.specs.Stored.{lengthened, short, store_questions, restore_questions, store_call, restore_call}
-use Rattle.screen.specs.Stored.Laws.{all_formed, same_lengthened}
+use Rattle.screen.specs.Stored.{lengthened, store_questions, restore_questions, store_call, restore_call}
+use Rattle.screen.specs.Stored.Laws.{stored_short, all_formed, same_lengthened}
 use Rattle.screen.specs.Stored.Contracts.{refusal_of, WriteRecordsReady}
-use Rattle.screen.proofs.Answers.{refused, kept_bytes}
+use Rattle.screen.proofs.Answers.{kept_bytes}
 
 pub rewritten : (l l' bytes : List ℕ) (n : ℕ) (w : Written) → sink l' n ≡ emit (sink l 0) bytes → length l' ≡ length l → w ≡ kept l' n → w ≡ in_room bytes (length l)
 rewritten l l' bytes n w wrote long e = e ∙ kept_bytes l l' bytes n wrote long
@@ -52,9 +51,9 @@ module _ (list : List ℕ) (n : ℕ) (is : n ≡ refusal_of true (records 4 list
   unfolding store_call
   store_written room w z e = e ∙ sym (writing_accepted room (encode 2 (map lengthened there)) (store_questions there) tt (decided ∙ z))
 
-  pub store_refused : (room : ℕ) (r : Answer) (l : List ℕ) → (n ≢ 0) → converted r l ≡ text.refusal n room → written r l ≡ store_call room list
+  pub store_refused : (room : ℕ) → (n ≢ 0) → written (record { number = n; count = 0 }) (replicate room 0) ≡ store_call room list
   unfolding store_call
-  store_refused room r l z e = refused r l n room e ∙ by n refl
+  store_refused room z = by n refl
     where
       by : (m : ℕ) → n ≡ m → record { number = n; count = 0; out = replicate room 0 } ≡ store_call room list
       by zero q = absurd (z q)
@@ -69,12 +68,17 @@ module _ (stored : List ℕ) (n : ℕ) (is : n ≡ refusal_of false (records 2 s
   abbrev back : List Record
   back = records 2 stored
 
-  pub restore_refused : (room : ℕ) (r : Answer) (l : List ℕ) → n ≡ 10 → converted r l ≡ text.refusal 10 room → written r l ≡ restore_call room stored
+  well_or_not : All Byte stored → (n ≡ 0) ⊎ ((n ≡ 10) × (well_formed (body_sizes false) back ≡ false))
+  well_or_not a = cases (well_formed (body_sizes false) back)
+      (λ f. inl (is ∙ rw (f, stored_short a f) refl))
+      (λ f. inr (is ∙ rw f refl, f))
+
+  pub restore_refused : All Byte stored → (room : ℕ) → (n ≢ 0) → written (record { number = n; count = 0 }) (replicate room 0) ≡ restore_call room stored
   unfolding restore_call
-  restore_refused room r l z e = refused r l 10 room e ∙ sym (writing_refused room (encode 4 back) (restore_questions back) 9 (decide_no (ask 10 (well_formed (body_sizes false) back)) [] malformed))
-    where
-      malformed : well_formed (body_sizes false) back ≡ false
-      malformed = cases (well_formed (body_sizes false) back) (λ f. absurd (cases (short back) (λ g. omega (arith, z, rw (f, g) at is)) (λ g. omega (arith, z, rw (f, g) at is)))) (λ f. f)
+  restore_refused a room z = ⊎_elim
+      (λ (p : n ≡ 0). absurd (z p))
+      (λ (p : (n ≡ 10) × (well_formed (body_sizes false) back ≡ false)). rw p.0 (sym (writing_refused room (encode 4 back) (restore_questions back) 9 (decide_no (ask 10 (well_formed (body_sizes false) back)) [] p.1))))
+      (well_or_not a)
 
   pub restore_written : (room : ℕ) (w : Written) → (n ≢ 10) → w ≡ in_room (encode 4 (map lengthened back)) room → w ≡ restore_call room stored
   unfolding restore_call

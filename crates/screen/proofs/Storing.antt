@@ -116,7 +116,7 @@ module _ (old : Bool) (size : ℕ) (list : List ℕ) (b : Bool) (at : ℕ) (k : 
 
 -- ---- write_head
 
-module _ (size len kind : ℕ) (s a b : Sink) where
+module _ (size len kind : ℕ) (s a b : Sink ℕ) where
   pub head_short : size ≡ 2 → a ≡ emit s (le2 len) → b ≡ emit a (le2 kind) → b ≡ emit s (length_bytes size len ++ le2 kind)
   head_short z e f = rw (eq-eqb size 2 z) (then_emit s a b (le2 len) (le2 kind) e f)
 
@@ -129,12 +129,12 @@ record_bytes : (n : ℕ) (r : Record) → encode_one n r ≡ (length_bytes n (le
 unfolding encode_one
 record_bytes n r = sym (append_assoc (length_bytes n (length r.body)) (le2 r.kind) r.body)
 
-module _ (kind : ℕ) (body : List ℕ) (size : ℕ) (s a b : Sink) where
+module _ (kind : ℕ) (body : List ℕ) (size : ℕ) (s a b : Sink ℕ) where
   pub record_same : (eqb kind 2 && eqb (length body) 24) ≡ false → a ≡ emit s (length_bytes size (length body) ++ le2 kind) → b ≡ emit a body → b ≡ emit s (encode_one size (lengthened (whole_record kind body)))
   unfolding lengthened
   record_same z e f = rw z (then_emit s a b (length_bytes size (length body) ++ le2 kind) body e f ∙ ap (emit s) (sym (record_bytes size (whole_record kind body))))
 
-  pub record_lengthened : (c : Sink) → (eqb kind 2 && eqb (length body) 24) ≡ true → a ≡ emit s (length_bytes size 25 ++ le2 kind) → b ≡ emit a body → c ≡ put b 0 → c ≡ emit s (encode_one size (lengthened (whole_record kind body)))
+  pub record_lengthened : (c : Sink ℕ) → (eqb kind 2 && eqb (length body) 24) ≡ true → a ≡ emit s (length_bytes size 25 ++ le2 kind) → b ≡ emit a body → c ≡ put b 0 → c ≡ emit s (encode_one size (lengthened (whole_record kind body)))
   unfolding lengthened
   record_lengthened c z e f g =
       let n : length (body ++ 0 ∷ []) ≡ 25 = length-append body (0 ∷ []) ∙ omega (arith, eqb-true (length body) 24 (both_true (eqb kind 2) (eqb (length body) 24) z).1) in
@@ -189,7 +189,7 @@ module _ (from to : ℕ) (list out₀ out : List ℕ) (count at : ℕ) (k : Rewr
             inside = write_inside;
             sizes = k.sizes;
             whole = all_drop 1 (rw next at k.whole);
-            work = ap (λ (s : Sink). emit s (encode to (map lengthened rs))) (e ∙ ap (λ (x : Record). emit (sink out count) (encode_one to (lengthened x))) r) ∙ sym (emit_append (sink out count) (encode_one to (lengthened (record_of list h))) (encode to (map lengthened rs)))
+            work = ap (λ (s : Sink ℕ). emit s (encode to (map lengthened rs))) (e ∙ ap (λ (x : Record). emit (sink out count) (encode_one to (lengthened x))) r) ∙ sym (emit_append (sink out count) (encode_one to (lengthened (record_of list h))) (encode to (map lengthened rs)))
                 ∙ ap (emit (sink out count)) (sym (encode_cons to (record_of list h) rs)) ∙ ap (λ (xs : List Record). emit (sink out count) (encode to (map lengthened xs))) (sym next) ∙ k.work;
             long = l ∙ k.long;
           }

@@ -2,8 +2,7 @@
 use mathlib.Core.Path.{◌≡◌, refl, sym, ap, ap₂, ◌∙◌}
 use Prim.Native.Nat.{ℕ, ◌+◌, ◌-◌, ◌*◌, ◌<◌, ◌≤◌}
 use native.Mathlib.Omega.{arith}
-use mathlib.Core.Bool.{true, false, cond, ◌&&◌}
-use mathlib.Core.Option.{some}
+use mathlib.Core.Bool.{false, cond, ◌&&◌}
 use mathlib.Core.List.{List, [], ◌∷◌, ◌++◌, append_assoc, append-nil}
 use lib.ListN.{length, take, drop, get_or, replicate, length-append, length-drop, length-replicate, take-append-drop, replicate-append-replicate}
 use lib.Seq.{length-take-le, take-take, take_at, drop_at, drop-drop, drop-append-add, take-append-le, length-sets, sets}
@@ -15,7 +14,7 @@ use Rattle.screen.specs.Row.Laws.{lost_end_length}
 use Rattle.screen.specs.Row.Contracts.{part, body_at, blank_at, cell_of, cells_in, cell_in, first_column, laters, same_numbers, cluster_numbers, CellsReady}
 use Rattle.screen.specs.Row.Contracts.Laws.{cells_enough, cells_written, cells_same, same_length, first_le, lost_end_law, laters_le}
 use Rattle.screen.specs.Row.Put.{drop_take, put_cells}
-use Rattle.screen.specs.Screen.{with_at, with_end, larger_of, cursor_of, reached, Reached, cut_left, cut_right, row_of, screen_of, formed, WriteReady, Stepped}
+use Rattle.screen.specs.Screen.{with_at, with_end, larger_of, cursor_of, reached, Reached, cut_left, cut_right, row_of, screen_of, WriteReady, Moved}
 use Rattle.screen.specs.declared.screen.Screen as code
 
 pub larger_is : (a b : ℕ) → larger_of a b ≡ a + (b - a)
@@ -195,7 +194,7 @@ module _ (list row : List ℕ) (width : ℕ) (s : code.Screen) (p e w : ℕ) (re
   end₁ = larger_of s.end s.at
 
   abbrev after : code.Screen
-  after = record { at = to; attributes = s.attributes; end = larger_of end₁ to; color = s.color; refusal = s.refusal }
+  after = record { at = to; attributes = s.attributes; end = larger_of end₁ to; color = s.color; passed = s.passed }
 
   abbrev cleared : List ℕ
   cleared = cut_right list (cut_left list (reached row s s.at) end₁ s.at) end₁ to
@@ -212,19 +211,18 @@ module _ (list row : List ℕ) (width : ℕ) (s : code.Screen) (p e w : ℕ) (re
       row_put list width (reached row s s.at) end₁ s.at (omega (arith, larger_is s.end s.at)) end_small (omega (arith, reached_long, ready.ready.room)) w ready.fits p (e - p) s.attributes ready.place ready.some s.color
       ∙ ap (put s.at (cluster_cells (part list p (e - p)) (body_at list s.attributes) w)) (reached_row list width row s s.at ready.ready.end ready.ready.at ready.ready.room)
 
-  written_same : screen_of list width written after ≡ formed true (λ u. write width u (part list p (e - p)) w) (screen_of list width row s)
-  unfolding screen_of formed write
+  written_same : screen_of list width written after ≡ write width (screen_of list width row s) (part list p (e - p)) w
+  unfolding screen_of write
   written_same =
       let n : eqb s.at width ≡ false = ne_eqb s.at width (λ z. omega (arith, z, ready.some, ready.fits)) in
-      cases (eqb s.refusal 10) (λ h. rw h refl)
-      (λ h. rw (h, n) (ap some (ap (λ (cs : List Cell). screen cs (cursor_of width to) (eqb to width) (body_at list s.attributes) (eqb s.refusal 11)) written_row)))
+      rw n (ap (λ (cs : List Cell). screen cs (cursor_of width to) (eqb to width) (body_at list s.attributes) s.passed) written_row)
 
   module _ (t : code.Screen) (row₁ : List ℕ) (reach : Reached row s s.at row₁ t) (long₁ : length row₁ ≡ length row) where
     pub cut_ready : CellsReady row₁ 0 t.end
     cut_ready = let e : t.end ≡ larger_of s.end s.at = ap (λ (x : code.Screen). x.end) reach.state in record { order = omega arith; room = omega (arith, e, end_small, long₁, ready.ready.room) }
 
     pub write_step : (row₂ row₃ : List ℕ) (r : code.Screen) → row₂ ≡ cut_right list (cut_left list row₁ t.end s.at) t.end to → row₃ ≡ sets row₂ (3 * s.at) (cluster_numbers (to - s.at) p (e - p) t.attributes)
-        → length row₃ ≡ length row → r ≡ with_end (with_at t to) (larger_of t.end to) → Stepped list width row s (formed true (λ u. write width u (part list p (e - p)) w)) row₃ r
+        → length row₃ ≡ length row → r ≡ with_end (with_at t to) (larger_of t.end to) → Moved list width row s (λ u. write width u (part list p (e - p)) w) row₃ r
     write_step row₂ row₃ r cut set long₃ is =
         let k : to - s.at ≡ w = omega arith in
         let i : r ≡ after = is ∙ ap (λ (x : code.Screen). with_end (with_at x to) (larger_of x.end to)) reach.state in

@@ -1,6 +1,8 @@
 -- What the contracts of src/screen.rt say: the screen that the code's numbers stand for, and what a change does to it.
 use Rattle.std.specs.Prelude.{◌≡◌, ℕ, ◌+◌, ◌-◌, ◌*◌, ◌<◌, ◌≤◌, Bool, true, false, ◌&&◌, ◌||◌, List, [], ◌∷◌, ◌++◌, length, take, drop, replicate, eqb, ltb}
 use Rattle.std.proofs.Math.Bool.{cond}
+use Rattle.std.specs.Prelude.{None, Some, IfSome}
+use Rattle.std.specs.Prelude as std
 use Rattle.std.proofs.Math.Option.{Option, none, some}
 use Rattle.std.proofs.lemmas.List.Edits.{sets}
 use Rattle.text.specs.Utf8.{same_bytes}
@@ -15,16 +17,13 @@ pub mod Laws
 -- ---- the code's numbers
 
 abbrev pub with_at : code.Screen → ℕ → code.Screen
-with_at t at = record { at = at; attributes = t.attributes; end = t.end; color = t.color; refusal = t.refusal }
+with_at t at = record { at = at; attributes = t.attributes; end = t.end; color = t.color; passed = t.passed }
 
 abbrev pub with_end : code.Screen → ℕ → code.Screen
-with_end t end = record { at = t.at; attributes = t.attributes; end = end; color = t.color; refusal = t.refusal }
+with_end t end = record { at = t.at; attributes = t.attributes; end = end; color = t.color; passed = t.passed }
 
 abbrev pub with_attributes_at : code.Screen → ℕ → code.Screen
-with_attributes_at t at = record { at = t.at; attributes = at; end = t.end; color = t.color; refusal = t.refusal }
-
-abbrev pub with_refusal : code.Screen → ℕ → code.Screen
-with_refusal t n = record { at = t.at; attributes = t.attributes; end = t.end; color = t.color; refusal = n }
+with_attributes_at t at = record { at = t.at; attributes = at; end = t.end; color = t.color; passed = t.passed }
 
 abbrev pub larger_of : ℕ → ℕ → ℕ
 larger_of a b = cond (ltb a b) b a
@@ -56,12 +55,14 @@ cut_right list row end at = sets row (3 * at) (same_numbers (laters (drop at (ta
 unfoldable pub row_of : List ℕ → ℕ → List ℕ → code.Screen → List Cell
 row_of list width row t = take t.end (cells_in list row) ++ replicate (width - t.end) (blank_at list t.color)
 
--- none behind what is malformed
-unfoldable pub screen_of : List ℕ → ℕ → List ℕ → code.Screen → Option Screen
+unfoldable pub screen_of : List ℕ → ℕ → List ℕ → code.Screen → Screen
 unfolding row_of
-screen_of list width row t =
-    cond (eqb t.refusal 10) none
-    (some (screen (row_of list width row t) (cursor_of width t.at) (eqb t.at width) (body_at list t.attributes) (eqb t.refusal 11)))
+screen_of list width row t = screen (row_of list width row t) (cursor_of width t.at) (eqb t.at width) (body_at list t.attributes) t.passed
+
+-- none where the list is malformed
+abbrev pub left_on : List ℕ → ℕ → List ℕ → std.Option code.Screen → Option Screen
+left_on list width row None = none
+left_on list width row (Some t) = some (screen_of list width row t)
 
 pub record RowReady (width : ℕ) (row : List ℕ) (t : code.Screen) : Type 0 where
   pub some : 0 < width
@@ -105,10 +106,19 @@ pub record DrawReady (width : ℕ) (row : List ℕ) : Type 0 where
   pub some : 0 < width
   pub room : 3 * width ≤ length row
 
--- a step: what it makes of the screen
-pub record Stepped (list : List ℕ) (width : ℕ) (row : List ℕ) (t : code.Screen) (f : Option Screen → Option Screen) (row' : List ℕ) (r : code.Screen) : Type 0 where
+-- a screen, if there is one
+abbrev pub LeftReady : ℕ → List ℕ → std.Option code.Screen → Type 0
+LeftReady width row o = IfSome o (λ t. RowReady width row t)
+
+-- what a step makes of the screen
+pub record Moved (list : List ℕ) (width : ℕ) (row : List ℕ) (t : code.Screen) (f : Screen → Screen) (row' : List ℕ) (r : code.Screen) : Type 0 where
   pub same : screen_of list width row' r ≡ f (screen_of list width row t)
   pub ready : RowReady width row' r
+
+-- the same, none where it is malformed
+pub record Stepped (list : List ℕ) (width : ℕ) (row : List ℕ) (t : code.Screen) (f : Option Screen → Option Screen) (row' : List ℕ) (r : std.Option code.Screen) : Type 0 where
+  pub same : left_on list width row' r ≡ f (some (screen_of list width row t))
+  pub ready : LeftReady width row' r
 
 -- ---- what a change does, none where it is malformed
 
@@ -140,6 +150,6 @@ module _ (P : Profile) (width : ℕ) where
   records_on rs o = formed (well_formed (body_sizes false) rs && wide_texts P rs) (λ t. on_records P width t rs) o
 
 -- the screen that a list leaves
-pub record Drawn (P : Profile) (list : List ℕ) (width : ℕ) (row' : List ℕ) (r : code.Screen) : Type 0 where
-  pub same : screen_of list width row' r ≡ records_on P width (records 4 list) (some (blank_screen width))
-  pub ready : RowReady width row' r
+pub record Drawn (P : Profile) (list : List ℕ) (width : ℕ) (row' : List ℕ) (r : std.Option code.Screen) : Type 0 where
+  pub same : left_on list width row' r ≡ records_on P width (records 4 list) (some (blank_screen width))
+  pub ready : LeftReady width row' r

@@ -6,6 +6,15 @@ use super::BODY_SIZE;
 use buffer::byte_at;
 use text::utf8::run_end;
 
+// The kinds of changes.
+pub(crate) const TEXT: usize = 1;
+
+pub(crate) const ATTRIBUTES: usize = 2;
+
+pub(crate) const CLEAR_TO_END: usize = 3;
+
+pub(crate) const CURSOR_RIGHT: usize = 4;
+
 // The size of an old attribute body, without alignment.
 pub(crate) const OLD_SIZE: usize = 24;
 
@@ -35,17 +44,11 @@ pub(crate) fn is_of_kind(kind: usize, body: &[u8], old: bool) -> bool
     ensures { result ≡ of_kind (body_sizes old) kind body.now }
 {
     let len = body.len();
-    if kind == 1 {
-        return run_end(body, 0) == len;
+    match kind {
+        TEXT => run_end(body, 0) == len,
+        ATTRIBUTES => ((old & (len == OLD_SIZE)) | (len == BODY_SIZE)) & are_fields(body),
+        CLEAR_TO_END => (len == 4) & is_color(body, 0),
+        CURSOR_RIGHT => len == 0,
+        _ => false,
     }
-    if kind == 2 {
-        return ((old & (len == OLD_SIZE)) | (len == BODY_SIZE)) & are_fields(body);
-    }
-    if kind == 3 {
-        return (len == 4) & is_color(body, 0);
-    }
-    if kind == 4 {
-        return len == 0;
-    }
-    false
 }

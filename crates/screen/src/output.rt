@@ -9,7 +9,7 @@ ghost use Rattle.screen.specs.Output.{cell_bytes};
 use super::BODY_SIZE;
 use super::row::part_len;
 use super::screen::Screen;
-use buffer::{push_bytes, push_le4, push_part};
+use buffer::{push_all, push_le4, push_part};
 
 // The attribute body at a place, 0 for default.
 fn write_body(list: &[u8], place: usize, out: &mut [u8], at: usize) -> usize
@@ -17,7 +17,7 @@ fn write_body(list: &[u8], place: usize, out: &mut [u8], at: usize) -> usize
 {
     if place == 0 {
         let plain = [0u8; BODY_SIZE];
-        return push_bytes(out, at, &plain);
+        return push_all(out, at, &plain);
     }
     push_part(out, at, list, place, BODY_SIZE)
 }
@@ -27,9 +27,9 @@ fn write_background(list: &[u8], place: usize, out: &mut [u8], at: usize) -> usi
     ensures { sink out.new result ≡ emit (sink out.old at) (with_background (part list.now place 4)) }
 {
     let zeros = [0u8; 13];
-    let a = push_bytes(out, at, &zeros[..8]);
+    let a = push_all(out, at, &zeros[..8]);
     let b = push_part(out, a, list, place, 4);
-    push_bytes(out, b, &zeros)
+    push_all(out, b, &zeros)
 }
 
 // A blank, with the background at a place.
@@ -37,7 +37,7 @@ fn write_blank(list: &[u8], place: usize, out: &mut [u8], at: usize) -> usize
     ensures { sink out.new result ≡ emit (sink out.old at) (cell_bytes (blank_at list.now place)) }
 {
     let space = [1u8, 0, 0, 0, 0x20];
-    let a = push_bytes(out, at, &space);
+    let a = push_all(out, at, &space);
     if place == 0 {
         return write_body(list, 0, out, a);
     }
@@ -66,10 +66,8 @@ fn write_cells(list: &[u8], row: &[usize], end: usize, out: &mut [u8]) -> usize
     ensures { sink out.new result ≡ emit (sink out.old 0) (row_bytes (take end (cells_in list.now row.now))) }
 {
     let mut at = 0;
-    let mut i = 0;
-    while i < end {
+    for i in 0..end {
         at = write_cell(list, row, i, out, at);
-        i += 1;
     }
     at
 }
@@ -79,10 +77,8 @@ fn write_blanks(list: &[u8], place: usize, count: usize, out: &mut [u8], start: 
     ensures { sink out.new result ≡ emit (sink out.old start) (row_bytes (replicate count (blank_at list.now place))) }
 {
     let mut at = start;
-    let mut n = count;
-    while 0 < n {
+    for _ in 0..count {
         at = write_blank(list, place, out, at);
-        n -= 1;
     }
     at
 }
@@ -98,7 +94,6 @@ pub(crate) fn write_row(
     requires { RowReady width row.now t }
     ensures { sink out.new result ≡ emit (sink out.old 0) (row_bytes (row_of list.now width row.now t)) }
 {
-    let end = t.end;
-    let at = write_cells(list, row, end, out);
-    write_blanks(list, t.color, width - end, out, at)
+    let at = write_cells(list, row, t.end, out);
+    write_blanks(list, t.color, width - t.end, out, at)
 }

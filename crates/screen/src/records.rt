@@ -45,9 +45,9 @@ pub(crate) fn head_at(list: &[u8], at: usize, size: usize) -> Head
     let kind = read_le2(list, at + size);
     let start = at + size + 2;
     Head {
-        kind: kind,
-        start: start,
-        len: len,
+        kind,
+        start,
+        len,
         whole: start + len <= list.len(),
     }
 }

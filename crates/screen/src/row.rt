@@ -5,8 +5,6 @@ ghost use Rattle.std.proofs.lemmas.List.Edits.{sets};
 ghost use Rattle.screen.specs.Row.{is_later};
 ghost use Rattle.screen.specs.Row.Contracts.{part, cells_in, cell_in, first_column, laters, set_cell, same_numbers, cluster_numbers, CellReady, CellsReady, ClusterReady};
 
-use buffer::smaller;
-
 // How many bytes a part of the list has.
 pub(crate) fn part_len(list: &[u8], at: usize, len: usize) -> usize
     ensures { result ≡ length (part list.now at len) }
@@ -14,7 +12,7 @@ pub(crate) fn part_len(list: &[u8], at: usize, len: usize) -> usize
     if list.len() <= at {
         return 0;
     }
-    smaller(len, list.len() - at)
+    len.min(list.len() - at)
 }
 
 fn set_cell(row: &mut [usize], i: usize, cluster: usize, len: usize, body: usize)
@@ -47,27 +45,24 @@ pub(crate) fn first_column(list: &[u8], row: &[usize], at: usize) -> usize
     let mut i = at;
     while 0 < i {
         i -= 1;
-        if is_later(list, row, i) {} else {
+        if !is_later(list, row, i) {
             return i;
         }
     }
     0
 }
 
-// The column behind the later cells that stand from `from` on, before `end`.
+// The column after the later cells that stand from `from` on, before `end`.
 pub(crate) fn behind_later(list: &[u8], row: &[usize], from: usize, end: usize) -> usize
     requires { CellsReady row.now from end }
     ensures { result ≡ from + laters (drop from (take end (cells_in list.now row.now))) }
 {
-    let mut i = from;
-    while i < end {
-        if is_later(list, row, i) {
-            i += 1;
-        } else {
+    for i in from..end {
+        if !is_later(list, row, i) {
             return i;
         }
     }
-    i
+    end
 }
 
 // Cells alike from a column to another.
@@ -82,10 +77,8 @@ pub(crate) fn fill(
     requires { CellsReady row.old from to }
     ensures { row.new ≡ sets row.old (3 * from) (same_numbers (to - from) cluster len body) }
 {
-    let mut i = from;
-    while i < to {
+    for i in from..to {
         set_cell(row, i, cluster, len, body);
-        i += 1;
     }
 }
 

@@ -1,12 +1,12 @@
 // A screen row, and what each change of a list does to it.
-ghost use Rattle.std.specs.Prelude.{◌≡◌, cond, true, ◌+◌, ◌-◌, ◌≤◌, ◌<◌, eqb, ltb};
+ghost use Rattle.std.specs.Prelude.{◌≡◌, cond, true, ◌+◌, ◌-◌, ◌≤◌, ◌<◌, ltb};
 ghost use Rattle.text.specs.Class.Code.{profile_of};
 ghost use Rattle.screen.specs.Records.Contracts.{record_of};
 ghost use Rattle.screen.specs.Row.{write, clear};
 ghost use Rattle.screen.specs.Row.Contracts.{part, CellsReady};
-ghost use Rattle.screen.specs.Screen.{with_at, with_end, with_attributes_at, with_refusal, larger_of, cursor_of, Reached, cut_left, cut_right, WriteReady, ClearReady, ClusterOnReady, TextReady, BodyReady, DrawReady, Drawn, Stepped, formed, cluster_on, text_on, record_on};
+ghost use Rattle.screen.specs.Screen.{with_at, with_end, larger_of, cursor_of, Reached, cut_left, cut_right, WriteReady, ClearReady, ClusterOnReady, TextReady, BodyReady, DrawReady, Drawn, Moved, Stepped, cluster_on, text_on, record_on};
 
-use super::body::is_of_kind;
+use super::body::{ATTRIBUTES, CLEAR_TO_END, TEXT, is_of_kind};
 use super::records::{Head, head_at};
 use super::row::{behind_later, fill, first_column, is_later, set_cluster};
 use buffer::byte_at;
@@ -15,121 +15,76 @@ use text::class::Profile;
 use text::scalar::scalar_at;
 use text::segmentation::next_cluster;
 
-// Question 10's refusal, and question 11's.
-pub(crate) const MALFORMED: usize = 10;
-
-pub(crate) const PASSED: usize = 11;
-
-// The column behind the last write, which is the row's width while the flag is pending; the place of the attribute body written from now on,
-// 0 for default; the column from which on the row is blank, and the place of the background there, 0 for default; the refusal so far.
+// The column after the last write, which is the row's width while the flag is pending; the place of the attribute body written from now on,
+// 0 for default; the column from which on the row is blank, and the place of the background there, 0 for default; whether a text would have
+// passed the last column.
 #[derive(Clone, Copy)]
 pub struct Screen {
     pub at: usize,
     pub attributes: usize,
     pub end: usize,
     pub color: usize,
-    pub refusal: usize,
+    pub passed: bool,
 }
 
-// The cursor: the last column while pending.
-fn cursor(width: usize, t: Screen) -> usize
-    requires { 0 < width }
-    ensures { result ≡ cursor_of width t.at }
-{
-    if t.at == width {
-        return width - 1;
+impl Screen {
+    // The cursor: the last column while pending.
+    fn cursor(self, width: usize) -> usize
+        requires { 0 < width }
+        ensures { result ≡ cursor_of width self.at }
+    {
+        if self.at == width { width - 1 } else { self.at }
     }
-    t.at
-}
 
-fn with_at(t: Screen, at: usize) -> Screen
-    ensures { result ≡ with_at t at }
-{
-    Screen {
-        at: at,
-        attributes: t.attributes,
-        end: t.end,
-        color: t.color,
-        refusal: t.refusal,
+    fn with_at(self, at: usize) -> Screen
+        ensures { result ≡ with_at self at }
+    {
+        Screen { at, ..self }
     }
-}
 
-// Kind 2 sets the attributes written from then on.
-fn with_attributes(t: Screen, at: usize) -> Screen
-    ensures { result ≡ with_attributes_at t at }
-{
-    Screen {
-        at: t.at,
-        attributes: at,
-        end: t.end,
-        color: t.color,
-        refusal: t.refusal,
+    // 08 clears the flag and moves one left, not below 0.
+    fn back(self, width: usize) -> Screen
+        requires { 0 < width }
+        ensures { result ≡ with_at self (cursor_of width self.at - 1) }
+    {
+        self.with_at(self.cursor(width).saturating_sub(1))
     }
-}
 
-pub(crate) fn with_refusal(t: Screen, number: usize) -> Screen
-    ensures { result ≡ with_refusal t number }
-{
-    Screen {
-        at: t.at,
-        attributes: t.attributes,
-        end: t.end,
-        color: t.color,
-        refusal: number,
+    // Kind 4 moves one right, not past the last column.
+    fn right(self, width: usize) -> Screen
+        requires { self.at ≤ width }
+        ensures { result ≡ with_at self (cond (ltb (self.at + 1) width) (self.at + 1) self.at) }
+    {
+        if self.at < width {
+            if self.at + 1 < width {
+                return self.with_at(self.at + 1);
+            }
+        }
+        self
     }
-}
 
-// 08 clears the flag and moves one left, not below 0.
-fn back(width: usize, t: Screen) -> Screen
-    requires { 0 < width }
-    ensures { result ≡ with_at t (cursor_of width t.at - 1) }
-{
-    let c = cursor(width, t);
-    if c == 0 {
-        return with_at(t, 0);
-    }
-    with_at(t, c - 1)
-}
-
-// Kind 4 moves one right, not past the last column.
-fn right(width: usize, t: Screen) -> Screen
-    requires { t.at ≤ width }
-    ensures { result ≡ with_at t (cond (ltb (t.at + 1) width) (t.at + 1) t.at) }
-{
-    if t.at < width {
-        if t.at + 1 < width {
-            return with_at(t, t.at + 1);
+    // The cursor after a cluster that ends at a column.
+    fn behind(self, to: usize) -> Screen
+        ensures { result ≡ with_end (with_at self to) (larger_of self.end to) }
+    {
+        Screen {
+            at: to,
+            end: self.end.max(to),
+            ..self
         }
     }
-    t
-}
 
-// A text would have passed the last column.
-fn passed(t: Screen) -> Screen
-    ensures { result ≡ with_refusal t (cond (eqb t.refusal 10) 10 11) }
-{
-    if t.refusal == MALFORMED {
-        return t;
+    // Numbers for the cells up to a column.
+    fn reach(self, row: &mut [usize], at: usize) -> Screen
+        requires { CellsReady row.old self.end (larger_of self.end at) }
+        ensures { Reached row.old self at row.new result }
+    {
+        if self.end < at {
+            fill(row, self.end, at, 0, 0, self.color);
+            return Screen { end: at, ..self };
+        }
+        self
     }
-    with_refusal(t, PASSED)
-}
-
-// Numbers for the cells up to a column.
-fn reach(row: &mut [usize], t: Screen, at: usize) -> Screen
-    requires { CellsReady row.old t.end (larger_of t.end at) }
-    ensures { Reached row.old t at row.new result }
-{
-    if t.end < at {
-        fill(row, t.end, at, 0, 0, t.color);
-        return Screen {
-            at: t.at,
-            attributes: t.attributes,
-            end: at,
-            color: t.color,
-            refusal: t.refusal,
-        };
-    }
-    t
 }
 
 // The cluster whose later cell stands at a column is cut there: its cells before are blank.
@@ -165,22 +120,6 @@ fn cut(list: &[u8], row: &mut [usize], end: usize, at: usize, to: usize)
     cut_right(list, row, end, to);
 }
 
-// The cursor behind a cluster that ends at a column.
-fn behind(t: Screen, to: usize) -> Screen
-    ensures { result ≡ with_end (with_at t to) (larger_of t.end to) }
-{
-    if t.end < to {
-        return Screen {
-            at: to,
-            attributes: t.attributes,
-            end: to,
-            color: t.color,
-            refusal: t.refusal,
-        };
-    }
-    with_at(t, to)
-}
-
 // A cluster of w columns, from place p to place e.
 fn write_cluster(
     list: &[u8],
@@ -192,17 +131,17 @@ fn write_cluster(
     w: usize,
 ) -> Screen
     requires { WriteReady width row.old state p e w }
-    ensures { Stepped list.now width row.old state (formed true (λ t. write width t (part list.now p (e - p)) w)) row.new result }
+    ensures { Moved list.now width row.old state (λ t. write width t (part list.now p (e - p)) w) row.new result }
 {
     let at = state.at;
     let to = at + w;
-    let t = reach(row, state, at);
+    let t = state.reach(row, at);
     cut(list, row, t.end, at, to);
     set_cluster(row, at, to, p, e - p, t.attributes);
-    behind(t, to)
+    t.behind(to)
 }
 
-// A cluster of a text.
+// A cluster of a text; none where it has no width.
 fn on_cluster(
     list: &[u8],
     row: &mut [usize],
@@ -211,37 +150,31 @@ fn on_cluster(
     p: usize,
     e: usize,
     w: usize,
-) -> Screen
+) -> Option<Screen>
     requires { ClusterOnReady list.now width row.old t p e }
     ensures { Stepped list.now width row.old t (cluster_on width (part list.now p (e - p)) w) row.new result }
 {
     if (byte_at(list, p) == 0x08) & (e - p == 1) {
-        return back(width, t);
+        return Some(t.back(width));
     }
     if w == 0 {
-        return with_refusal(t, MALFORMED);
+        return None;
     }
     if width - t.at < w {
-        return passed(t);
+        return Some(Screen { passed: true, ..t });
     }
-    write_cluster(list, row, width, t, p, e, w)
+    Some(write_cluster(list, row, width, t, p, e, w))
 }
 
 // Kind 3 blanks from the cursor, with the background that stands at a place.
 fn clear_to_end(list: &[u8], row: &mut [usize], width: usize, t: Screen, color: usize) -> Screen
     requires { ClearReady width row.old t color }
-    ensures { Stepped list.now width row.old t (formed true (λ u. clear width u (part list.now color 4))) row.new result }
+    ensures { Moved list.now width row.old t (λ u. clear width u (part list.now color 4)) row.new result }
 {
-    let c = cursor(width, t);
-    let u = reach(row, t, c);
+    let c = t.cursor(width);
+    let u = t.reach(row, c);
     cut_left(list, row, u.end, c);
-    Screen {
-        at: u.at,
-        attributes: u.attributes,
-        end: c,
-        color: color,
-        refusal: u.refusal,
-    }
+    Screen { end: c, color, ..u }
 }
 
 // A text from a place to another: each of its clusters.
@@ -253,33 +186,31 @@ fn on_text(
     state: Screen,
     start: usize,
     end: usize,
-) -> Screen
+) -> Option<Screen>
     requires { TextReady list.now width row.old state start end }
     ensures { Stepped list.now width row.old state (text_on (profile_of profile) width (part list.now start (end - start))) row.new result }
 {
-    let mut t = state;
     if start == end {
-        return t;
+        return Some(state);
     }
     let text = &list[..end];
+    let mut t = state;
     let mut p = BytePlace(start);
     let mut scalar = scalar_at(profile, text, start);
-    while scalar != 0 {
+    while scalar.is_some() {
         let step = next_cluster(profile, text, p, scalar);
-        let cluster = step.part;
-        let e = cluster.end;
-        let w = cluster.width;
-        t = on_cluster(list, row, width, t, p.0, e.0, w.0);
+        let e = step.part.end;
+        t = on_cluster(list, row, width, t, p.0, e.0, step.part.width.0)?;
         p = e;
         scalar = step.next;
     }
     if p.0 < end {
-        return with_refusal(t, MALFORMED);
+        return None;
     }
-    t
+    Some(t)
 }
 
-// A change whose head and body lie within the list.
+// A change whose head and body lie within the list; none where its body is none of its kind.
 fn on_record(
     profile: Profile,
     list: &[u8],
@@ -287,31 +218,31 @@ fn on_record(
     width: usize,
     t: Screen,
     head: Head,
-) -> Screen
+) -> Option<Screen>
     requires body_ready { BodyReady list.now width row.old t head.start head.len }
     requires whole_value { head.whole ≡ true }
     ensures { Stepped list.now width row.old t (record_on (profile_of profile) width (record_of list.now head)) row.new result }
 {
     let start = head.start;
     let end = start + head.len;
-    let kind = head.kind;
-    if kind == 1 {
+    if head.kind == TEXT {
         return on_text(profile, list, row, width, t, start, end);
     }
-    if is_of_kind(kind, &list[start..end], false) {
-        if kind == 2 {
-            return with_attributes(t, start);
-        }
-        if kind == 3 {
-            return clear_to_end(list, row, width, t, start);
-        }
-        return right(width, t);
+    if !is_of_kind(head.kind, &list[start..end], false) {
+        return None;
     }
-    with_refusal(t, MALFORMED)
+    match head.kind {
+        ATTRIBUTES => Some(Screen {
+            attributes: start,
+            ..t
+        }),
+        CLEAR_TO_END => Some(clear_to_end(list, row, width, t, start)),
+        _ => Some(t.right(width)),
+    }
 }
 
-// All changes of a list, on a row that is blank at first.
-pub(crate) fn draw(profile: Profile, list: &[u8], row: &mut [usize], width: usize) -> Screen
+// All changes of a list, on a row that is blank at first; none where the list is malformed.
+pub(crate) fn draw(profile: Profile, list: &[u8], row: &mut [usize], width: usize) -> Option<Screen>
     requires { DrawReady width row.old }
     ensures { Drawn (profile_of profile) list.now width row.new result }
 {
@@ -320,17 +251,16 @@ pub(crate) fn draw(profile: Profile, list: &[u8], row: &mut [usize], width: usiz
         attributes: 0,
         end: 0,
         color: 0,
-        refusal: 0,
+        passed: false,
     };
     let mut at = 0;
     while at < list.len() {
         let head = head_at(list, at, 4);
-        if head.whole {
-            t = on_record(profile, list, row, width, t, head);
-            at = head.start + head.len;
-        } else {
-            return with_refusal(t, MALFORMED);
+        if !head.whole {
+            return None;
         }
+        t = on_record(profile, list, row, width, t, head)?;
+        at = head.start + head.len;
     }
-    t
+    Some(t)
 }

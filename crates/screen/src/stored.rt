@@ -5,16 +5,13 @@ ghost use Rattle.buffer.specs.Sink.{sink, emit};
 ghost use Rattle.screen.specs.Records.{records, length_bytes, encode_one, encode};
 ghost use Rattle.screen.specs.Records.Contracts.{record_of, LengthSize};
 ghost use Rattle.screen.specs.Stored.{lengthened};
-ghost use Rattle.screen.specs.Stored.Contracts.{is_formed, refusal_of, whole_record, WriteRecordsReady};
+ghost use Rattle.screen.specs.Stored.Contracts.{is_formed, refusal_in, refusal_of, whole_record, WriteRecordsReady};
 
 use super::BODY_SIZE;
 use super::body::{OLD_SIZE, is_of_kind};
 use super::records::{Head, head_at};
-use super::screen::MALFORMED;
-use buffer::{push_byte, push_bytes, push_le2, push_le4};
-
-// Question 12's refusal.
-const TOO_LONG: usize = 12;
+use buffer::{push, push_all, push_le2, push_le4};
+use text::Refusal;
 
 // Is it a whole record, with a body of its kind?
 fn is_formed(list: &[u8], head: Head, old: bool) -> bool
@@ -28,26 +25,26 @@ fn is_formed(list: &[u8], head: Head, old: bool) -> bool
     false
 }
 
-// 10 where a list is malformed, else 12 where a body is above 65,535 bytes, else 0.
-pub(crate) fn refusal_of(list: &[u8], size: usize, old: bool) -> usize
+// Questions 10 and 12: is each record whole, with a body of its kind, and is no body above 65,535 bytes?
+pub(crate) fn storable(list: &[u8], size: usize, old: bool) -> Result<(), Refusal>
     requires { LengthSize size }
-    ensures { result ≡ refusal_of old (records size list.now) }
+    ensures { refusal_in result ≡ refusal_of old (records size list.now) }
 {
     let mut short = true;
     let mut at = 0;
     while at < list.len() {
         let head = head_at(list, at, size);
-        if is_formed(list, head, old) {
-            short = short & (head.len <= 65535);
-            at = head.start + head.len;
-        } else {
-            return MALFORMED;
+        if !is_formed(list, head, old) {
+            return Err(Refusal::ListMalformed);
         }
+        short = short & (head.len <= 65535);
+        at = head.start + head.len;
     }
     if short {
-        return 0;
+        Ok(())
+    } else {
+        Err(Refusal::BodyTooLong)
     }
-    TOO_LONG
 }
 
 // The head of a record: a length of `size` bytes, and its kind.
@@ -68,11 +65,11 @@ fn write_record(kind: usize, body: &[u8], size: usize, out: &mut [u8], at: usize
 {
     if (kind == 2) & (body.len() == OLD_SIZE) {
         let a = write_head(size, BODY_SIZE, kind, out, at);
-        let b = push_bytes(out, a, body);
-        return push_byte(out, b, 0);
+        let b = push_all(out, a, body);
+        return push(out, b, 0);
     }
     let a = write_head(size, body.len(), kind, out, at);
-    push_bytes(out, a, body)
+    push_all(out, a, body)
 }
 
 // The records of a list, their lengths of `from` bytes written in `to` bytes.

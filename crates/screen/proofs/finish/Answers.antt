@@ -1,11 +1,11 @@
 use Rattle.screen.proofs.RowCall.{finish_malformed, finish_passed, finish_row}
 use Rattle.screen.proofs.finish.Goals as goal
 
-pub returns-then-t-eq-MALFORMED : goal.returns-then-t-eq-MALFORMED
-returns-then-t-eq-MALFORMED c = search finish_malformed
+pub returns-in_default : goal.returns-in_default
+returns-in_default c = rw c.in_default.is (finish_malformed _)
 
-pub returns-then-t-eq-PASSED : goal.returns-then-t-eq-PASSED
-returns-then-t-eq-PASSED c = search finish_passed
+pub returns-then-t : goal.returns-then-t
+returns-then-t c = rw c.in-Some.is (search finish_passed)
 
 pub returns : goal.returns
-returns c = search finish_row
+returns c = rw c.in-Some.is (search finish_row)

@@ -80,6 +80,11 @@ module _ (P : Profile) (width : ℕ) where
   text_end [] e o = text_as [] [] (ap (clusters P) run_nil ∙ clusters_nil P) o ∙ formed_same o
   text_end (b ∷ s) e o = absurd (omega arith)
 
+  -- after what is malformed nothing is
+  pub text_none : (s : List ℕ) → text_on P width s none ≡ none
+  unfolding text_on formed
+  text_none s = refl
+
   pub text_damaged : (s : List ℕ) → run_of (decode s) ≡ [] → 0 < length s → (o : Option Screen) → text_on P width s o ≡ none
   unfolding text_on utf8 bytes_of
   text_damaged s e h o = rw (e, ne_eqb 0 (length s) (λ z. omega (arith, z, h))) (formed_not (λ (t : Screen). on_clusters P width t (clusters P [])) o)

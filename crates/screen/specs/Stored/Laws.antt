@@ -144,6 +144,10 @@ same_lengthened (all_cons {a = r} f a) = ap₂ (λ (x : Record) (l : List Record
 again : (n : ℕ) → LengthOf n → {s : List ℕ} → All Byte s → All (Formed false) (records n s) → encode n (map lengthened (records n s)) ≡ s
 again n is a f = ap (encode n) (same_lengthened f) ∙ encode_records n is a (all_map (λ r g. g.whole) f)
 
+-- a stored form's bodies are short: 2 bytes say their lengths
+pub stored_short : {s : List ℕ} → All Byte s → well_formed (body_sizes false) (records 2 s) ≡ true → short (records 2 s) ≡ true
+stored_short {s = s} a w = short_all (all_map fits_short (records_fit 2 length_of_2 a (all_map (λ r g. g.whole) (all_formed false (records 2 s) w))))
+
 -- ---- calls
 
 module _ (room : ℕ) (list : List ℕ) where

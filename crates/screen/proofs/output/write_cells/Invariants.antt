@@ -1,9 +1,5 @@
 use Rattle.screen.proofs.Bytes.{WriteCells}
-use Prim.Native.Nat.{◌-◌}
 use Rattle.screen.proofs.output.write_cells.Given as goal
 
 abbrev pub invariant-loop-i : goal.invariant-loop-i
 invariant-loop-i l = WriteCells l.list l.row l.end l.initial.out l.out l.at l.i
-
-abbrev pub decreases-loop-i : goal.decreases-loop-i
-decreases-loop-i l = l.end - l.i

@@ -1,9 +1,5 @@
 use Rattle.screen.proofs.Cells.{BehindLater}
-use Prim.Native.Nat.{◌-◌}
 use Rattle.screen.proofs.row.behind_later.Given as goal
 
 abbrev pub invariant-loop-i : goal.invariant-loop-i
 invariant-loop-i l = BehindLater l.list l.row l.from l.end l.i
-
-abbrev pub decreases-loop-i : goal.decreases-loop-i
-decreases-loop-i l = l.end - l.i

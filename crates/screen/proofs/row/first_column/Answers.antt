@@ -7,8 +7,8 @@ loop-i-init c = search first_begin
 pub loop-i-preserved : goal.loop-i-preserved
 loop-i-preserved c = search first_turn
 
-pub returns-else-is_later : goal.returns-else-is_later
-returns-else-is_later c = search first_here
+pub returns-then-not-is_later : goal.returns-then-not-is_later
+returns-then-not-is_later c = search first_here
 
 pub returns : goal.returns
 returns c = search first_zero

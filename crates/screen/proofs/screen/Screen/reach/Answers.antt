@@ -1,11 +1,11 @@
 use Rattle.screen.proofs.Cutting.{reach_fills, reach_more, reach_none}
-use Rattle.screen.proofs.screen.reach.Goals as goal
+use Rattle.screen.proofs.screen.Screen.reach.Goals as goal
 
 pub fill-requires : goal.fill-requires
 fill-requires c = search reach_fills
 
-pub returns-then-t-at : goal.returns-then-t-at
-returns-then-t-at c = search reach_more
+pub returns-then-self-at : goal.returns-then-self-at
+returns-then-self-at c = search reach_more
 
 pub returns : goal.returns
 returns c = search reach_none

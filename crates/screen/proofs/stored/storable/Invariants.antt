@@ -1,7 +1,7 @@
 use Rattle.screen.proofs.Storing.{Checking}
 use lib.ListN.{length}
 use Prim.Native.Nat.{◌-◌}
-use Rattle.screen.proofs.stored.refusal_of.Given as goal
+use Rattle.screen.proofs.stored.storable.Given as goal
 
 abbrev pub invariant-loop-at : goal.invariant-loop-at
 invariant-loop-at l = Checking l.old l.size l.list l.short l.at
