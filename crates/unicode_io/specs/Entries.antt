@@ -2,8 +2,7 @@
 -- entry has no scalar.
 use Rattle.std.specs.Prelude.{ℕ, ◌+◌, ◌-◌, ◌*◌, Bool, true, false, cond, ◌&&◌, ◌||◌, List, [], ◌∷◌, ◌++◌, ◌==◌, nat_le}
 use Rattle.unicode_io.specs.Names.{property_of}
-use Rattle.unicode_io.specs.Grammar.{line_of}
-use Rattle.unicode_io.specs.declared.line.Entry.{Entry}
+use Rattle.unicode_io.specs.Grammar.{Entry, line_of}
 pub mod Laws
 pub mod Cell
 pub mod Fill

@@ -4,7 +4,7 @@ use Rattle.std.specs.Prelude.{ℕ, zero, suc, Bool, true, false, cond, ◌||◌,
 use Rattle.unicode_io.specs.Rows.{rows_from}
 use Rattle.unicode_io.specs.Output.{table_text, refusal}
 use Rattle.unicode_io.specs.Entries.{entries_from, entries_of, malformed, overlap, kind_at}
-use Rattle.unicode_io.specs.declared.line.Entry.{Entry}
+use Rattle.unicode_io.specs.Grammar.{Entry}
 pub mod Laws
 
 -- the kinds of n scalars from a place on

@@ -2,10 +2,15 @@
 -- 10FFFF, `;` and a name that the file publishes.
 use Rattle.std.specs.Prelude.{ℕ, ◌+◌, ◌*◌, ◌%◌, Bool, cond, ◌&&◌, ◌||◌, List, [], ◌∷◌, length, ◌==◌, nat_le, nat_lt}
 use Rattle.unicode_io.specs.Names.{name_number}
-use Rattle.unicode_io.specs.declared.line.Entry.{Entry}
 pub mod Laws
 
 -- ---- what a line is: 0 nothing, 1 an entry, 2 a line of another form
+
+pub record Entry : Type 0 where
+  pub kind : ℕ
+  pub low : ℕ
+  pub high : ℕ
+  pub name : ℕ
 
 abbrev pub nothing : Entry
 nothing = record { kind = 0; low = 0; high = 0; name = 0 }

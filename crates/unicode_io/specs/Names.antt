@@ -1,6 +1,6 @@
 -- The names that each file publishes, and the property that each belongs to. The files are numbered: 0 GraphemeBreakProperty, 1 EastAsianWidth,
 -- 2 emoji-data, 3 DerivedCoreProperties. The names of a file are numbered from 1 on.
-use Rattle.std.specs.Prelude.{ℕ, suc, ◌+◌, ◌-◌, ◌*◌, Bool, true, false, cond, ◌&&◌, List, [], ◌∷◌, ◌++◌, length, ◌==◌, nat_le, nat_lt, slice_index}
+use Rattle.std.specs.Prelude.{ℕ, suc, ◌+◌, ◌-◌, ◌*◌, Bool, true, false, cond, ◌&&◌, List, [], ◌∷◌, ◌++◌, length, ◌==◌, nat_le, nat_lt, slice_index, Option, Some, None}
 use Prim.Native.String.{String}
 use Rattle.unicode_io.specs.Text.{ascii}
 pub mod Laws
@@ -74,3 +74,7 @@ number_from word number at (b ∷ bs) =
     let next : ℕ = number_from word (number + 1) 0 bs in
     let within : ℕ = number_from word number (agreeing word at b) bs in
     cond (b == 0x20) (cond (at == length word) number next) within
+
+-- what the code answers: no number where it is 0
+abbrev pub number_found : ℕ → Option ℕ
+number_found n = cond (n == 0) None (Some n)

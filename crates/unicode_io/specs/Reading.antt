@@ -1,11 +1,13 @@
 -- What the code does: a file's bytes one by one, and the cells that its entries fill.
-use Rattle.std.specs.Prelude.{ℕ, ◌+◌, Bool, true, false, cond, List, [], ◌∷◌, map, ◌==◌}
+use Rattle.std.specs.Prelude.{ℕ, ◌+◌, Bool, true, false, cond, List, [], ◌∷◌, map, ◌==◌, Result, Ok, Err, ⊤}
 use Rattle.unicode_io.specs.Names.{property_of, value_of}
 use Rattle.unicode_io.specs.Line.{empty, with_byte, entry_of}
 use Rattle.unicode_io.specs.Cells.{bit_of, fill, taken, kept_of}
 use Rattle.unicode_io.specs.declared.line.Line.{Line}
-use Rattle.unicode_io.specs.declared.line.Entry.{Entry}
 use Rattle.unicode_io.specs.declared.reading.Reading.{Reading}
+use Rattle.unicode_io.specs.declared.reading.Refusal.{Refusal}
+use Rattle.unicode_io.specs.declared.reading.Refusal.TheVariants as refused
+use Rattle.unicode_io.specs.Grammar.{Entry}
 pub mod Laws
 
 -- what was read: the line so far, whether a line was of another form (13), whether two entries overlapped (14); and the cells
@@ -51,3 +53,12 @@ bytes_read file s (b ∷ bs) = bytes_read file (byte_read file s b) bs
 -- the end of a file ends its last line, and what is kept of the cells goes on to the next
 abbrev pub file_ended : ℕ → State → State
 file_ended file s = state_of (line_ended file s).reading (map kept_of (line_ended file s).cells)
+
+abbrev pub number_of : Refusal → ℕ
+number_of refused.OtherForm = 13
+number_of refused.Overlap = 14
+
+-- the number of a refusal; 0 where there is none
+abbrev pub refusal_number : Result ⊤ Refusal → ℕ
+refusal_number (Ok u) = 0
+refusal_number (Err e) = number_of e

@@ -1,5 +1,5 @@
 -- Rows: the ranges of equal kinds, ascending, without those of kind 45 (no class, width 1, no conjunct value). A row ends before `end`.
-use Rattle.std.specs.Prelude.{ℕ, suc, ◌+◌, cond, List, [], ◌∷◌, length, drop, ◌==◌, nat_lt, slice_index}
+use Rattle.std.specs.Prelude.{ℕ, suc, ◌+◌, cond, List, [], ◌∷◌, length, drop, ◌==◌, nat_lt, slice_index, Option, Some, None}
 use Rattle.unicode_io.specs.declared.rows.Row.{Row}
 pub mod Laws
 
@@ -39,3 +39,7 @@ row_at low kinds = cond (nat_lt low (length kinds)) (row low (low + leading (sli
 unfoldable pub next_row : ℕ → List ℕ → Row
 unfolding leading row_at
 next_row at kinds = row_at (at + leading 45 (drop at kinds)) kinds
+
+-- what the code answers: no row where it is empty
+abbrev pub row_in : Row → Option Row
+row_in r = cond (r.low == r.end) None (Some r)

@@ -2,12 +2,11 @@
 use Rattle.std.specs.Prelude.{◌≡◌, ℕ, Bool, true, false, ◌&&◌, List, [], ◌∷◌, map, ◌==◌, refl}
 use Prim.Native.String.{String}
 use Rattle.unicode_io.specs.Text.{ascii}
-use Rattle.unicode_io.specs.Grammar.{entry, nothing, other_form, line_of}
+use Rattle.unicode_io.specs.Grammar.{Entry, entry, nothing, other_form, line_of}
 use Rattle.unicode_io.specs.Rows.{row, rows_from}
 use Rattle.unicode_io.specs.Output.{head_of, table_text, refusal}
 use Rattle.unicode_io.specs.Generator.{generated3}
 use Rattle.unicode_io.specs.Entries.{entries_from, entries_of, overlap, kind_by}
-use Rattle.unicode_io.specs.declared.line.Entry.{Entry}
 
 -- ---- lines: each part of the grammar, and each way to fail it
 

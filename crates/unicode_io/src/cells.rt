@@ -10,13 +10,7 @@ pub(crate) fn bit_of(property: usize) -> u32
     requires { property ≤ 20 }
     ensures { result ≡ bit_of property }
 {
-    let mut bit: u32 = 256;
-    let mut i: usize = 0;
-    while i < property {
-        bit = bit * 2;
-        i += 1;
-    }
-    bit
+    256 << property
 }
 
 fn is_taken(bit: u32, c: u32) -> bool
@@ -42,12 +36,9 @@ fn fill_all(part: &mut [u32], bit: u32, weight: u32) -> bool
     ensures { Filled (map (filled bit weight) part.old) (taken_in bit part.old) part.new result }
 {
     let mut any = false;
-    let mut i: usize = 0;
-    while i < part.len() {
-        let c = part[i];
-        any = any | is_taken(bit, c);
-        part[i] = filled_cell(bit, weight, c);
-        i += 1;
+    for cell in part {
+        any = any | is_taken(bit, *cell);
+        *cell = filled_cell(bit, weight, *cell);
     }
     any
 }
@@ -69,40 +60,32 @@ pub(crate) fn fill_range(cells: &mut [u32], low: usize, high: usize, bit: u32, w
 pub fn next_file(cells: &mut [u32])
     ensures { cells.new ≡ map kept_of cells.old }
 {
-    let mut i: usize = 0;
-    while i < cells.len() {
-        cells[i] = cells[i] % 256;
-        i += 1;
+    for cell in cells {
+        *cell = *cell % 256;
     }
 }
 
+#[tactic(auto, unfolding(crate::specs::Cells::class_of))]
 fn class(cell: u32) -> u32
     ensures { result ≡ class_of cell }
 {
-    let c = cell % 16;
-    if c == 0 {
-        if cell / 32 % 2 == 1 {
-            return 12;
-        }
-        return 11;
+    match cell % 16 {
+        0 if cell / 32 % 2 == 1 => 12,
+        0 => 11,
+        c @ 1..=11 => c - 1,
+        c => c + 1,
     }
-    if c <= 11 {
-        return c - 1;
-    }
-    c + 1
 }
 
+#[tactic(auto, unfolding(crate::specs::Cells::width_of))]
 fn width(cell: u32) -> u32
     ensures { result ≡ width_of cell }
 {
-    let k = class(cell);
-    if (k <= 4) | ((k == 6) | (k == 7)) {
-        return 0;
+    match class(cell) {
+        0..=4 | 6 | 7 => 0,
+        _ if cell / 16 % 2 == 1 => 2,
+        _ => 1,
     }
-    if cell / 16 % 2 == 1 {
-        return 2;
-    }
-    1
 }
 
 // 64 times the conjunct value, 4 times the class, and the width.
@@ -116,9 +99,7 @@ fn kind(cell: u32) -> u32
 pub fn classify(cells: &mut [u32])
     ensures { cells.new ≡ map kind_of cells.old }
 {
-    let mut i: usize = 0;
-    while i < cells.len() {
-        cells[i] = kind(cells[i]);
-        i += 1;
+    for cell in cells {
+        *cell = kind(*cell);
     }
 }

@@ -1,21 +1,47 @@
 // A line of a file, byte by byte. Nothing is decided before its end: the numbers and the name are kept as they come.
 ghost use Rattle.std.specs.Prelude.{◌≡◌, take};
-ghost use Rattle.unicode_io.specs.Names.{name_number};
-ghost use Rattle.unicode_io.specs.Grammar.{hex_value, nothing, other_form, entry};
-ghost use Rattle.unicode_io.specs.Line.{kind_of, next_stage, with_digit, is_scalar, empty, at_stage, in_comment, with_low, with_high, with_name, in_name, with_byte, ranged, entry_of};
+ghost use Rattle.unicode_io.specs.Names.{number_found, name_number};
+ghost use Rattle.unicode_io.specs.Grammar.{hex_value};
+ghost use Rattle.unicode_io.specs.Line.{kind_of, after, next_stage, with_digit, is_scalar, empty, at_stage, in_comment, with_low, with_high, with_name, is_in_name, with_byte, ranged, entry_of, entry_in};
 
 use super::names::name_number;
-use buffer::{byte_at, smaller};
 
+// A hexadecimal number of so many digits.
 #[derive(Clone, Copy)]
 pub struct Number {
     pub value: usize,
     pub digits: usize,
 }
 
+// Where in a line the next byte stands: in a number or a word, or after it and its spaces.
+#[derive(Clone, Copy, PartialEq, Eq, Debug)]
+pub enum Stage {
+    Start,
+    Low,
+    AfterLow,
+    Dot,
+    BeforeHigh,
+    High,
+    AfterHigh,
+    BeforeWord,
+    Word,
+    AfterWord,
+    OtherForm,
+}
+
+// What the stages tell apart in a byte.
+#[derive(Clone, Copy, PartialEq, Eq, Debug)]
+pub enum Kind {
+    Space,
+    Digit,
+    Dot,
+    Semicolon,
+    Other,
+}
+
 #[derive(Clone, Copy)]
 pub struct Line {
-    pub stage: u8,
+    pub stage: Stage,
     pub comment: bool,
     pub low: Number,
     pub high: Number,
@@ -23,245 +49,226 @@ pub struct Line {
     pub count: usize,
 }
 
-// What a line is: 0 nothing, 1 an entry, 2 a line of another form.
-#[derive(Clone, Copy)]
-pub struct Entry {
-    pub kind: usize,
-    pub low: usize,
-    pub high: usize,
-    pub name: usize,
+// What a line is, at its end.
+#[derive(Clone, Copy, PartialEq, Eq, Debug)]
+pub enum Content {
+    Nothing,
+    Entry {
+        low: usize,
+        high: usize,
+        name: usize,
+    },
+    OtherForm,
 }
 
-// The stage after a byte, by the stage before it and the byte's kind: space, digit, `.`, `;`, any other.
-const STAGES: [u8; 55] = [
-    0, 1, 10, 10, 10, 2, 1, 3, 7, 10, 2, 10, 3, 7, 10, 10, 10, 4, 10, 10, 4, 5, 10, 10, 10, 6, 5,
-    10, 7, 10, 6, 10, 10, 7, 10, 7, 8, 8, 7, 8, 9, 8, 8, 7, 8, 9, 10, 10, 7, 10, 10, 10, 10, 10,
-    10,
-];
-
-pub fn nothing_read() -> Line
-    ensures { result ≡ empty }
-{
-    Line {
-        stage: 0,
-        comment: false,
-        low: Number {
-            value: 0,
-            digits: 0,
-        },
-        high: Number {
-            value: 0,
-            digits: 0,
-        },
-        name: [0u8; 32],
-        count: 0,
+impl Kind {
+    fn of(b: u8) -> Kind
+        ensures { result ≡ kind_of b }
+    {
+        match b {
+            b' ' => Kind::Space,
+            b'0'..=b'9' | b'A'..=b'F' => Kind::Digit,
+            b'.' => Kind::Dot,
+            b';' => Kind::Semicolon,
+            _ => Kind::Other,
+        }
     }
-}
-
-fn kind(b: u8) -> usize
-    ensures { result ≡ kind_of b }
-{
-    if b == 0x20 {
-        return 0;
-    }
-    if ((0x30 <= b) & (b <= 0x39)) | ((0x41 <= b) & (b <= 0x46)) {
-        return 1;
-    }
-    if b == 0x2E {
-        return 2;
-    }
-    if b == 0x3B {
-        return 3;
-    }
-    4
-}
-
-fn next_stage(stage: u8, b: u8) -> u8
-    ensures { result ≡ next_stage stage b }
-{
-    let i = stage as usize * 5 + kind(b);
-    byte_at(&STAGES, i)
 }
 
 fn hex_value(b: u8) -> usize
     ensures { result ≡ hex_value b }
 {
-    if b <= 0x39 {
+    if b <= b'9' {
         return (b % 16) as usize;
     }
     (b % 16) as usize + 9
 }
 
-// Seven digits are too many, and no more are kept.
-fn with_digit(n: Number, b: u8) -> Number
-    ensures { result ≡ with_digit n b }
-{
-    if n.digits < 7 {
-        if n.value <= 0xFFFFFF {
+impl Stage {
+    fn after(self, kind: Kind) -> Stage
+        ensures { result ≡ after self kind }
+    {
+        match (self, kind) {
+            (Stage::Start, Kind::Space) => Stage::Start,
+            (Stage::Start | Stage::Low, Kind::Digit) => Stage::Low,
+            (Stage::Low | Stage::AfterLow, Kind::Space) => Stage::AfterLow,
+            (Stage::Low | Stage::AfterLow, Kind::Dot) => Stage::Dot,
+            (Stage::Dot, Kind::Dot) => Stage::BeforeHigh,
+            (Stage::BeforeHigh, Kind::Space) => Stage::BeforeHigh,
+            (Stage::BeforeHigh | Stage::High, Kind::Digit) => Stage::High,
+            (Stage::High | Stage::AfterHigh, Kind::Space) => Stage::AfterHigh,
+            (Stage::Start | Stage::Dot | Stage::BeforeHigh, Kind::Semicolon) => Stage::OtherForm,
+            (Stage::OtherForm, _) => Stage::OtherForm,
+            (_, Kind::Semicolon) => Stage::BeforeWord,
+            (Stage::BeforeWord, Kind::Space) => Stage::BeforeWord,
+            (Stage::Word | Stage::AfterWord, Kind::Space) => Stage::AfterWord,
+            (Stage::BeforeWord | Stage::Word, _) => Stage::Word,
+            _ => Stage::OtherForm,
+        }
+    }
+
+    // After the `;`, where a further `;` belongs to the name.
+    fn is_in_name(self) -> bool
+        ensures { result ≡ is_in_name self }
+    {
+        matches!(self, Stage::BeforeWord | Stage::Word | Stage::AfterWord)
+    }
+}
+
+impl Number {
+    // Seven digits are too many, and no more are kept.
+    fn with_digit(self, b: u8) -> Number
+        ensures { result ≡ with_digit self b }
+    {
+        if self.digits < 7 && self.value <= 0xFFFFFF {
             return Number {
-                value: n.value * 16 + hex_value(b),
-                digits: n.digits + 1,
+                value: self.value * 16 + hex_value(b),
+                digits: self.digits + 1,
             };
         }
-        return n;
+        self
     }
-    n
-}
 
-fn is_scalar(n: Number) -> bool
-    ensures { result ≡ is_scalar n }
-{
-    (4 <= n.digits) & ((n.digits <= 6) & (n.value <= 0x10FFFF))
-}
-
-fn at_stage(l: Line, stage: u8) -> Line
-    ensures { result ≡ at_stage l stage }
-{
-    let mut r = l;
-    r.stage = stage;
-    r
-}
-
-fn in_comment(l: Line) -> Line
-    ensures { result ≡ in_comment l }
-{
-    let mut r = l;
-    r.comment = true;
-    r
-}
-
-fn with_low(l: Line, b: u8) -> Line
-    ensures { result ≡ with_low l b }
-{
-    let n = with_digit(l.low, b);
-    let mut r = l;
-    r.stage = 1;
-    r.low = n;
-    r
-}
-
-fn with_high(l: Line, b: u8) -> Line
-    ensures { result ≡ with_high l b }
-{
-    let n = with_digit(l.high, b);
-    let mut r = l;
-    r.stage = 5;
-    r.high = n;
-    r
-}
-
-// One byte more of the name. No name has more than 32.
-fn with_name(l: Line, stage: u8, b: u8) -> Line
-    ensures { result ≡ with_name l stage b }
-{
-    let at = l.count;
-    if at < 32 {
-        let mut r = l;
-        r.stage = stage;
-        r.name[at] = b;
-        r.count = at + 1;
-        return r;
-    }
-    at_stage(l, 10)
-}
-
-// A byte of the name: one of a word, or a `;` after the first.
-fn in_name(before: u8, after: u8, b: u8) -> bool
-    ensures { result ≡ in_name before after b }
-{
-    (after == 8) | ((after == 7) & ((b == 0x3B) & (7 <= before)))
-}
-
-// One byte more, no newline.
-pub fn with_byte(l: Line, b: u8) -> Line
-    ensures { result ≡ with_byte l b }
-{
-    if l.comment {
-        return l;
-    }
-    if b == 0x23 {
-        return in_comment(l);
-    }
-    let stage = next_stage(l.stage, b);
-    if stage == 1 {
-        return with_low(l, b);
-    }
-    if stage == 5 {
-        return with_high(l, b);
-    }
-    if in_name(l.stage, stage, b) {
-        return with_name(l, stage, b);
-    }
-    at_stage(l, stage)
-}
-
-fn other_form() -> Entry
-    ensures { result ≡ other_form }
-{
-    Entry {
-        kind: 2,
-        low: 0,
-        high: 0,
-        name: 0,
+    fn is_scalar(self) -> bool
+        ensures { result ≡ is_scalar self }
+    {
+        4 <= self.digits && (self.digits <= 6 && self.value <= 0x10FFFF)
     }
 }
 
-fn entry_from(low: usize, high: usize, name: usize) -> Entry
-    ensures { result ≡ entry low high name }
-{
-    Entry {
-        kind: 1,
-        low: low,
-        high: high,
-        name: name,
-    }
-}
-
-fn range_entry(low: Number, high: Number, name: usize) -> Entry
-    ensures { result ≡ ranged low high name }
-{
-    if is_scalar(low) {
-        if high.digits == 0 {
-            return entry_from(low.value, low.value, name);
+impl Line {
+    // Nothing read yet.
+    pub fn empty() -> Line
+        ensures { result ≡ empty }
+    {
+        let none = Number {
+            value: 0,
+            digits: 0,
+        };
+        Line {
+            stage: Stage::Start,
+            comment: false,
+            low: none,
+            high: none,
+            name: [0; 32],
+            count: 0,
         }
-        if is_scalar(high) {
-            if low.value < high.value {
-                return entry_from(low.value, high.value, name);
-            }
-            return other_form();
-        }
-        return other_form();
     }
-    other_form()
+
+    fn at_stage(self, stage: Stage) -> Line
+        ensures { result ≡ at_stage self stage }
+    {
+        Line { stage, ..self }
+    }
+
+    fn in_comment(self) -> Line
+        ensures { result ≡ in_comment self }
+    {
+        Line {
+            comment: true,
+            ..self
+        }
+    }
+
+    fn with_low(self, b: u8) -> Line
+        ensures { result ≡ with_low self b }
+    {
+        Line {
+            stage: Stage::Low,
+            low: self.low.with_digit(b),
+            ..self
+        }
+    }
+
+    fn with_high(self, b: u8) -> Line
+        ensures { result ≡ with_high self b }
+    {
+        Line {
+            stage: Stage::High,
+            high: self.high.with_digit(b),
+            ..self
+        }
+    }
+
+    // One byte more of the name. No name has more than 32.
+    fn with_name(self, stage: Stage, b: u8) -> Line
+        ensures { result ≡ with_name self stage b }
+    {
+        let at = self.count;
+        if at < 32 {
+            let mut longer = self.at_stage(stage);
+            longer.name[at] = b;
+            longer.count = at + 1;
+            return longer;
+        }
+        self.at_stage(Stage::OtherForm)
+    }
+
+    // One byte more, no newline.
+    #[tactic(auto, unfolding(crate::specs::Line::with_byte))]
+    pub fn with_byte(self, b: u8) -> Line
+        ensures { result ≡ with_byte self b }
+    {
+        if self.comment {
+            return self;
+        }
+        if b == b'#' {
+            return self.in_comment();
+        }
+        let stage = self.stage.after(Kind::of(b));
+        match stage {
+            Stage::Low => self.with_low(b),
+            Stage::High => self.with_high(b),
+            Stage::Word => self.with_name(stage, b),
+            Stage::BeforeWord if b == b';' && self.stage.is_in_name() => self.with_name(stage, b),
+            _ => self.at_stage(stage),
+        }
+    }
+
+    // The number of the name that was read.
+    fn name_number(self, file: usize) -> Option<usize>
+        ensures { result ≡ number_found (name_number file (take self.count self.name)) }
+    {
+        let n = self.count.min(32);
+        name_number(file, &self.name[..n])
+    }
+
+    // What the line is, at its end.
+    #[tactic(auto, unfolding(crate::specs::Line::entry_of))]
+    pub fn content(self, file: usize) -> Content
+        ensures { entry_in result ≡ entry_of file self }
+    {
+        match self.stage {
+            Stage::Start => Content::Nothing,
+            Stage::Word | Stage::AfterWord => match self.name_number(file) {
+                Some(name) => ranged(self.low, self.high, name),
+                None => Content::OtherForm,
+            },
+            _ => Content::OtherForm,
+        }
+    }
 }
 
-// The number of the name that was read.
-fn named(file: usize, name: [u8; 32], count: usize) -> usize
-    ensures { result ≡ name_number file (take count name) }
+#[tactic(auto, unfolding(crate::specs::Line::ranged))]
+fn ranged(low: Number, high: Number, name: usize) -> Content
+    ensures { entry_in result ≡ ranged low high name }
 {
-    let n = smaller(count, 32);
-    name_number(file, &name[..n])
-}
-
-// What the line is, at its end.
-pub fn entry_of(file: usize, l: Line) -> Entry
-    ensures { result ≡ entry_of file l }
-{
-    if l.stage == 0 {
-        return Entry {
-            kind: 0,
-            low: 0,
-            high: 0,
-            name: 0,
+    if !low.is_scalar() {
+        return Content::OtherForm;
+    }
+    if high.digits == 0 {
+        return Content::Entry {
+            low: low.value,
+            high: low.value,
+            name,
         };
     }
-    if (8 <= l.stage) & (l.stage <= 9) {
-        let name = l.name;
-        let number = named(file, name, l.count);
-        if number == 0 {
-            return other_form();
-        }
-        return range_entry(l.low, l.high, number);
+    if high.is_scalar() && low.value < high.value {
+        return Content::Entry {
+            low: low.value,
+            high: high.value,
+            name,
+        };
     }
-    other_form()
+    Content::OtherForm
 }

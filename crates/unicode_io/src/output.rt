@@ -1,37 +1,29 @@
 // The text of the constants.
-ghost use Rattle.std.specs.Prelude.{◌≡◌, ◌-◌, ◌≤◌};
+ghost use Rattle.std.specs.Prelude.{◌≡◌, ◌≤◌};
 ghost use Rattle.buffer.specs.Sink.{sink, emit};
 ghost use Rattle.unicode_io.specs.Digits.{decimal, hexadecimal};
 ghost use Rattle.unicode_io.specs.Output.{number_line, part_size, gap, head, numbers, head_of, foot_of, row_text, refusal};
+ghost use Rattle.unicode_io.specs.Reading.{number_of};
 
+use super::reading::Refusal;
 use super::rows::Row;
-use buffer::{push_bytes, smaller};
-
-// The difference, or 0.
-fn less(a: usize, b: usize) -> usize
-    ensures { result ≡ a - b }
-{
-    if b <= a {
-        return a - b;
-    }
-    0
-}
+use buffer::push_all;
 
 fn push_decimal(out: &mut [u8], at: usize, n: usize) -> usize
     ensures { sink out.new result ≡ emit (sink out.old at) (decimal n) }
 {
     let mut digits = [0u8; 20];
     let k = io::decimal(n as u64, &mut digits);
-    push_bytes(out, at, &digits[..k])
+    push_all(out, at, &digits[..k])
 }
 
 // A number on a line of its own.
 fn push_number(out: &mut [u8], at: usize, n: usize) -> usize
     ensures { sink out.new result ≡ emit (sink out.old at) (number_line n) }
 {
-    let a = push_bytes(out, at, b"    0x");
+    let a = push_all(out, at, b"    0x");
     let b = push_hexadecimal(out, a, n);
-    push_bytes(out, b, b",\n")
+    push_all(out, b, b",\n")
 }
 
 fn push_hexadecimal(out: &mut [u8], at: usize, n: usize) -> usize
@@ -39,14 +31,14 @@ fn push_hexadecimal(out: &mut [u8], at: usize, n: usize) -> usize
 {
     let mut digits = [0u8; 16];
     let k = io::hex(n as u64, 1, &mut digits);
-    push_bytes(out, at, &digits[..k])
+    push_all(out, at, &digits[..k])
 }
 
 fn push_numbers(out: &mut [u8], at: usize, row: Row) -> usize
     ensures { sink out.new result ≡ emit (sink out.old at) (numbers row) }
 {
     let a = push_number(out, at, row.low);
-    let b = push_number(out, a, less(row.end, 1));
+    let b = push_number(out, a, row.end.saturating_sub(1));
     push_number(out, b, row.kind as usize)
 }
 
@@ -57,7 +49,7 @@ fn push_gap(out: &mut [u8], at: usize, part: usize) -> usize
     if part == 0 {
         return at;
     }
-    push_bytes(out, at, b"\n")
+    push_all(out, at, b"\n")
 }
 
 fn push_head(out: &mut [u8], at: usize, part: usize, rows: usize) -> usize
@@ -65,11 +57,11 @@ fn push_head(out: &mut [u8], at: usize, part: usize, rows: usize) -> usize
     ensures { sink out.new result ≡ emit (sink out.old at) (head part rows) }
 {
     let g = push_gap(out, at, part);
-    let a = push_bytes(out, g, b"pub(crate) const PART_");
+    let a = push_all(out, g, b"pub(crate) const PART_");
     let b = push_decimal(out, a, part);
-    let c = push_bytes(out, b, b": [u32; ");
+    let c = push_all(out, b, b": [u32; ");
     let d = push_decimal(out, c, rows * 3);
-    push_bytes(out, d, b"] = [\n")
+    push_all(out, d, b"] = [\n")
 }
 
 fn part_size(total: usize) -> usize
@@ -83,7 +75,7 @@ fn push_head_of(out: &mut [u8], at: usize, total: usize, i: usize) -> usize
 {
     let size = part_size(total);
     if i % size == 0 {
-        let n = smaller(size, less(total, i));
+        let n = size.min(total.saturating_sub(i));
         return push_head(out, at, i / size, n);
     }
     at
@@ -93,9 +85,9 @@ fn push_foot_of(out: &mut [u8], at: usize, total: usize, i: usize) -> usize
     ensures { sink out.new result ≡ emit (sink out.old at) (foot_of total i) }
 {
     let size = part_size(total);
-    let rest = less(total, i);
+    let rest = total.saturating_sub(i);
     if (i % size + 1 == size) | (rest == 1) {
-        return push_bytes(out, at, b"];\n");
+        return push_all(out, at, b"];\n");
     }
     at
 }
@@ -109,10 +101,10 @@ pub fn push_row(out: &mut [u8], at: usize, total: usize, i: usize, row: Row) -> 
     push_foot_of(out, b, total, i)
 }
 
-pub fn push_refusal(out: &mut [u8], at: usize, number: usize) -> usize
-    ensures { sink out.new result ≡ emit (sink out.old at) (refusal number) }
+pub fn push_refusal(out: &mut [u8], at: usize, reason: Refusal) -> usize
+    ensures { sink out.new result ≡ emit (sink out.old at) (refusal (number_of reason)) }
 {
-    let a = push_bytes(out, at, b"refused ");
-    let b = push_decimal(out, a, number);
-    push_bytes(out, b, b"\n")
+    let a = push_all(out, at, b"refused ");
+    let b = push_decimal(out, a, reason.number());
+    push_all(out, b, b"\n")
 }

@@ -2,14 +2,32 @@
 ghost use Rattle.std.specs.Prelude.{◌≡◌, ◌≤◌, false};
 ghost use Rattle.unicode_io.specs.Cells.{Filled};
 ghost use Rattle.unicode_io.specs.Generator.{refusal_of};
-ghost use Rattle.unicode_io.specs.Line.{empty};
-ghost use Rattle.unicode_io.specs.Reading.{state_of, reading, fill_entry, taken_by_entry, with_entry, line_ended, byte_read, bytes_read, file_ended};
+ghost use Rattle.unicode_io.specs.Grammar.{entry};
+ghost use Rattle.unicode_io.specs.Line.{empty, entry_in};
+ghost use Rattle.unicode_io.specs.Reading.{state_of, reading, fill_entry, taken_by_entry, with_entry, line_ended, byte_read, bytes_read, file_ended, number_of, refusal_number};
 
 use super::cells::{bit_of, fill_range, next_file};
-use super::line::{Entry, Line, entry_of, nothing_read, with_byte};
+use super::line::{Content, Line};
 use super::names::{property, value};
 
-// The line so far, and what was found: a line of another form (13), two entries of one property that overlap (14).
+// What the files are refused for.
+#[derive(Clone, Copy, PartialEq, Eq, Debug)]
+pub enum Refusal {
+    // A line of another form.
+    OtherForm = 13,
+    // Two entries of one property that overlap.
+    Overlap = 14,
+}
+
+impl Refusal {
+    pub fn number(self) -> usize
+        ensures { result ≡ number_of self }
+    {
+        self as usize
+    }
+}
+
+// The line so far, and what was found that is refused.
 #[derive(Clone, Copy)]
 pub struct Reading {
     pub line: Line,
@@ -17,110 +35,99 @@ pub struct Reading {
     pub overlap: bool,
 }
 
-pub fn begin() -> Reading
-    ensures { result ≡ reading empty false false }
+#[tactic(auto, using(crate::specs::Reading::Laws::weight_fits, crate::specs::Reading::Laws::bit_above, crate::specs::Reading::Laws::property_small))]
+fn fill_entry(cells: &mut [u32], file: usize, low: usize, high: usize, name: usize) -> bool
+    requires { name ≤ 22 }
+    ensures { Filled (fill_entry file (entry low high name) cells.old) (taken_by_entry file (entry low high name) cells.old) cells.new result }
 {
-    Reading {
-        line: nothing_read(),
-        malformed: false,
-        overlap: false,
-    }
+    let bit = bit_of(property(file, name));
+    let weight = bit + value(file, name);
+    fill_range(cells, low, high, bit, weight)
 }
 
-fn fill_entry(cells: &mut [u32], file: usize, e: Entry) -> bool
-    requires { e.name ≤ 22 }
-    ensures { Filled (fill_entry file e cells.old) (taken_by_entry file e cells.old) cells.new result }
-{
-    let bit = bit_of(property(file, e.name));
-    let weight = bit + value(file, e.name);
-    fill_range(cells, e.low, e.high, bit, weight)
-}
+impl Reading {
+    pub fn begin() -> Reading
+        ensures { result ≡ reading empty false false }
+    {
+        Reading {
+            line: Line::empty(),
+            malformed: false,
+            overlap: false,
+        }
+    }
 
-fn with_entry(cells: &mut [u32], file: usize, e: Entry, r: Reading) -> Reading
-    requires { e.name ≤ 22 }
-    ensures { state_of result cells.new ≡ with_entry file e (state_of r cells.old) }
-{
-    if e.kind == 0 {
-        return Reading {
-            line: nothing_read(),
-            malformed: r.malformed,
-            overlap: r.overlap,
-        };
+    #[tactic(auto, unfolding(crate::specs::Reading::with_entry))]
+    fn with_entry(self, cells: &mut [u32], file: usize, content: Content) -> Reading
+        requires { (entry_in content).name ≤ 22 }
+        ensures { state_of result cells.new ≡ with_entry file (entry_in content) (state_of self cells.old) }
+    {
+        let line = Line::empty();
+        match content {
+            Content::Nothing => Reading { line, ..self },
+            Content::OtherForm => Reading {
+                line,
+                malformed: true,
+                ..self
+            },
+            Content::Entry { .. } if self.overlap => Reading { line, ..self },
+            Content::Entry { low, high, name } => Reading {
+                line,
+                overlap: fill_entry(cells, file, low, high, name),
+                ..self
+            },
+        }
     }
-    if e.kind == 2 {
-        return Reading {
-            line: nothing_read(),
-            malformed: true,
-            overlap: r.overlap,
-        };
-    }
-    if r.overlap {
-        return Reading {
-            line: nothing_read(),
-            malformed: r.malformed,
-            overlap: true,
-        };
-    }
-    let taken = fill_entry(cells, file, e);
-    Reading {
-        line: nothing_read(),
-        malformed: r.malformed,
-        overlap: taken,
-    }
-}
 
-fn end_line(cells: &mut [u32], file: usize, r: Reading) -> Reading
-    ensures { state_of result cells.new ≡ line_ended file (state_of r cells.old) }
-{
-    let e = entry_of(file, r.line);
-    with_entry(cells, file, e, r)
-}
+    #[tactic(auto, using(crate::specs::Reading::Laws::entry_few))]
+    fn end_line(self, cells: &mut [u32], file: usize) -> Reading
+        ensures { state_of result cells.new ≡ line_ended file (state_of self cells.old) }
+    {
+        self.with_entry(cells, file, self.line.content(file))
+    }
 
-fn read_byte(cells: &mut [u32], file: usize, r: Reading, b: u8) -> Reading
-    ensures { state_of result cells.new ≡ byte_read file (state_of r cells.old) b }
-{
-    if b == 0x0A {
-        return end_line(cells, file, r);
+    #[tactic(auto, unfolding(crate::specs::Reading::byte_read))]
+    fn read_byte(self, cells: &mut [u32], file: usize, b: u8) -> Reading
+        ensures { state_of result cells.new ≡ byte_read file (state_of self cells.old) b }
+    {
+        if b == b'\n' {
+            return self.end_line(cells, file);
+        }
+        Reading {
+            line: self.line.with_byte(b),
+            ..self
+        }
     }
-    let line = with_byte(r.line, b);
-    Reading {
-        line: line,
-        malformed: r.malformed,
-        overlap: r.overlap,
-    }
-}
 
-// Bytes more of a file.
-pub fn read_part(cells: &mut [u32], file: usize, start: Reading, part: &[u8]) -> Reading
-    ensures { state_of result cells.new ≡ bytes_read file (state_of start cells.old) part.now }
-{
-    let mut r = start;
-    let mut i: usize = 0;
-    while i < part.len() {
-        r = read_byte(cells, file, r, part[i]);
-        i += 1;
+    // Bytes more of a file.
+    pub fn read_part(self, cells: &mut [u32], file: usize, part: &[u8]) -> Reading
+        ensures { state_of result cells.new ≡ bytes_read file (state_of self cells.old) part.now }
+    {
+        let mut reading = self;
+        for b in part {
+            reading = reading.read_byte(cells, file, *b);
+        }
+        reading
     }
-    r
-}
 
-// The end of a file.
-pub fn end_file(cells: &mut [u32], file: usize, r: Reading) -> Reading
-    ensures { state_of result cells.new ≡ file_ended file (state_of r cells.old) }
-{
-    let a = end_line(cells, file, r);
-    next_file(cells);
-    a
-}
+    // The end of a file.
+    pub fn end_file(self, cells: &mut [u32], file: usize) -> Reading
+        ensures { state_of result cells.new ≡ file_ended file (state_of self cells.old) }
+    {
+        let ended = self.end_line(cells, file);
+        next_file(cells);
+        ended
+    }
 
-// The number of the refusal, after the last file; 0 where there is none.
-pub fn refusal_of(r: Reading) -> usize
-    ensures { result ≡ refusal_of r.malformed r.overlap }
-{
-    if r.malformed {
-        return 13;
+    // After the last file: may a table be made?
+    pub fn refusal(self) -> Result<(), Refusal>
+        ensures { refusal_number result ≡ refusal_of self.malformed self.overlap }
+    {
+        if self.malformed {
+            return Err(Refusal::OtherForm);
+        }
+        if self.overlap {
+            return Err(Refusal::Overlap);
+        }
+        Ok(())
     }
-    if r.overlap {
-        return 14;
-    }
-    0
 }

@@ -1,63 +1,59 @@
 // Rows: the ranges of equal kinds, without those of kind 45 (no class, width 1, no conjunct value).
-ghost use Rattle.std.specs.Prelude.{◌≡◌, ◌+◌, length, drop};
-ghost use Rattle.unicode_io.specs.Rows.{leading, next_row, rows_from};
+ghost use Rattle.std.specs.Prelude.{◌≡◌, ◌+◌, ◌≤◌, ◌==◌, length, drop};
+ghost use Rattle.std.specs.List.{prefix_len};
+ghost use Rattle.unicode_io.specs.Rows.{next_row, row_in, rows_from};
 
 // A row ends before `end`.
-#[derive(Clone, Copy)]
+#[derive(Clone, Copy, PartialEq, Eq, Debug)]
 pub struct Row {
     pub low: usize,
     pub end: usize,
     pub kind: u32,
 }
 
-// The first place from `at` on whose kind is another.
-fn run_end(kinds: &[u32], at: usize, kind: u32) -> usize
-    ensures { result ≡ at + leading kind (drop at kinds.now) }
+fn kinds_from(kinds: &[u32], at: usize) -> &[u32]
+    ensures { result.now ≡ drop at kinds.now }
 {
-    let mut i = at;
-    while i < kinds.len() {
-        if kinds[i] == kind {
-            i += 1;
-        } else {
-            return i;
-        }
-    }
-    i
+    kinds.get(at..).unwrap_or(&[])
 }
 
-// The first row from `at` on; an empty one where there is none.
-pub fn next_row(kinds: &[u32], at: usize) -> Row
-    ensures { result ≡ next_row at kinds.now }
+// How many kinds in front are this one.
+fn leading(kinds: &[u32], kind: u32) -> usize
+    ensures equal { result ≡ prefix_len (λ k. k == kind) kinds.now }
+    ensures inside { result ≤ length kinds.now }
+{
+    kinds.iter().take_while(|k| **k == kind).count()
+}
+
+// The first place from `at` on whose kind is another.
+fn run_end(kinds: &[u32], at: usize, kind: u32) -> usize
+    ensures { result ≡ at + prefix_len (λ k. k == kind) (drop at kinds.now) }
+{
+    let rest = kinds_from(kinds, at);
+    at + leading(rest, kind)
+}
+
+// The first row from `at` on.
+pub fn next_row(kinds: &[u32], at: usize) -> Option<Row>
+    ensures { result ≡ row_in (next_row at kinds.now) }
 {
     let low = run_end(kinds, at, 45);
-    if low < kinds.len() {
-        let kind = kinds[low];
-        let end = run_end(kinds, low, kind);
-        return Row {
-            low: low,
-            end: end,
-            kind: kind,
-        };
+    if kinds.len() <= low {
+        return None;
     }
-    Row {
-        low: low,
-        end: low,
-        kind: 45,
-    }
+    let kind = kinds[low];
+    let end = run_end(kinds, low, kind);
+    Some(Row { low, end, kind })
 }
 
 pub fn count_rows(kinds: &[u32]) -> usize
     ensures { result ≡ length (rows_from 0 kinds.now) }
 {
-    let mut n: usize = 0;
-    let mut at: usize = 0;
-    while at < kinds.len() {
-        let r = next_row(kinds, at);
-        if r.low == r.end {
-            return n;
-        }
+    let mut n = 0;
+    let mut at = 0;
+    while let Some(row) = next_row(kinds, at) {
         n += 1;
-        at = r.end;
+        at = row.end;
     }
     n
 }

@@ -3,7 +3,6 @@ use Rattle.std.specs.Prelude.{ℕ, suc, ◌≡◌, false, List, [], ◌∷◌, �
 use Rattle.unicode_io.specs.Line.{empty}
 use Rattle.unicode_io.specs.Reading.{State, state_of, reading, bytes_read, file_ended}
 use Rattle.unicode_io.specs.declared.reading.Reading.{Reading}
-use Rattle.unicode_table.specs.declared.files.Reach.{Reach}
 pub mod Laws
 
 -- a file's bytes, from the parts that the system hands over one by one: an empty part says that the file has ended
@@ -12,36 +11,24 @@ bytes_of [] = []
 bytes_of ([] ∷ ps) = []
 bytes_of ((b ∷ p) ∷ ps) = (b ∷ p) ++ bytes_of ps
 
--- one part more
-pub record PartRead (file : ℕ) (before : Reading) (cells after : List ℕ) (r : Reach) : Type 0 where
-  pub part : List ℕ
-  pub read : state_of r.reading after ≡ bytes_read file (state_of before cells) part
-  pub on : r.on ≡ ltb 0 (length part)
-
 -- all parts that are asked for, of as many as no run uses up
-pub record PartsRead (file : ℕ) (before : Reading) (cells after : List ℕ) (r : Reach) : Type 0 where
+pub record PartsRead (file : ℕ) (before : Reading) (cells after : List ℕ) (r : Reading) : Type 0 where
   pub parts : List (List ℕ)
   pub many : length parts ≡ 18446744073709551615
-  pub read : state_of r.reading after ≡ bytes_read file (state_of before cells) (bytes_of parts)
+  pub read : state_of r after ≡ bytes_read file (state_of before cells) (bytes_of parts)
 
 -- a file to its end
-pub record Whole (file : ℕ) (before : Reading) (cells after : List ℕ) (r : Reach) : Type 0 where
+pub record Whole (file : ℕ) (before : Reading) (cells after : List ℕ) (r : Reading) : Type 0 where
   pub parts : List (List ℕ)
   pub many : length parts ≡ 18446744073709551615
-  pub read : state_of r.reading after ≡ file_ended file (bytes_read file (state_of before cells) (bytes_of parts))
-
-pub record FileRead (file : ℕ) (before : Reading) (cells after : List ℕ) (r : Reach) : Type 0 where
-  pub unless_failed : r.failed ≡ false → Whole file before cells after r
+  pub read : state_of r after ≡ file_ended file (bytes_read file (state_of before cells) (bytes_of parts))
 
 -- files one after the other, numbered from k on
 unfoldable pub files_read : ℕ → State → List (List ℕ) → State
 files_read k s [] = s
 files_read k s (f ∷ fs) = files_read (suc k) (file_ended k (bytes_read k s f)) fs
 
-pub record Files (count : ℕ) (cells after : List ℕ) (r : Reach) : Type 0 where
+pub record Files (count : ℕ) (cells after : List ℕ) (r : Reading) : Type 0 where
   pub files : List (List ℕ)
   pub many : length files ≡ count
-  pub read : state_of r.reading after ≡ files_read 0 (state_of (reading empty false false) cells) files
-
-pub record AllRead (count : ℕ) (cells after : List ℕ) (r : Reach) : Type 0 where
-  pub unless_failed : r.failed ≡ false → Files count cells after r
+  pub read : state_of r after ≡ files_read 0 (state_of (reading empty false false) cells) files

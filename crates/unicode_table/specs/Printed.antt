@@ -1,9 +1,6 @@
 -- What the program prints: what it hands to the system for standard output, in order.
 use Rattle.std.specs.Prelude.{ℕ, ◌≤◌, ◌<◌, ◌≡◌, Bool, true, List, [], ◌∷◌, ◌++◌, length, get_or}
-use Rattle.unicode_io.specs.Rows.{next_row}
-use Rattle.unicode_io.specs.Output.{row_text}
 use Rattle.unicode_io.specs.Generator.{generated3, generated4}
-use Rattle.unicode_table.specs.declared.table.Turn.{Turn}
 use Rattle.unicode_table.specs.declared.Outcome.{Outcome}
 pub mod Laws
 
@@ -13,11 +10,6 @@ pub record Handed (text : List ℕ) (taken : Bool) : Type 0 where
   pub rest : List ℕ
   pub whole : given ++ rest ≡ text
   pub all : taken ≡ true → rest ≡ []
-
--- row i, the first from a place on
-pub record RowHanded (kinds : List ℕ) (total i place : ℕ) (r : Turn) : Type 0 where
-  pub end : r.end ≡ (next_row place kinds).end
-  pub handed : Handed (row_text total i (next_row place kinds)) r.taken
 
 -- the text for so many files; the program is not run for another number of them
 unfoldable pub generated : List (List ℕ) → List ℕ

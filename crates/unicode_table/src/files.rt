@@ -1,68 +1,37 @@
 // The files that the arguments name, in the parts that the system hands over.
-ghost use Rattle.std.specs.Prelude.{◌<◌, ◌≤◌, length};
-ghost use Rattle.unicode_table.specs.Files.{PartRead, PartsRead, FileRead, AllRead};
+ghost use Rattle.std.specs.Prelude.{◌<◌, ◌≤◌, IfOk, length};
+ghost use Rattle.unicode_table.specs.Files.{PartsRead, Whole, Files};
 
 use std::fs::File;
 use std::io::Read;
 use system::{PART_SIZE, PATH_MAX, fail, open_argument};
-use unicode_io::reading::{Reading, begin, end_file, read_part};
+use unicode_io::reading::Reading;
 
-// What was read, whether the file has more, and whether the system failed.
-#[derive(Clone, Copy)]
-pub(crate) struct Reach {
-    pub(crate) reading: Reading,
-    on: bool,
-    pub(crate) failed: bool,
-}
+// A file could not be opened or read, which was said on standard error.
+#[derive(Clone, Copy, PartialEq, Eq, Debug)]
+pub(crate) struct Unread;
 
-// How many bytes the system handed over, and whether it failed.
-#[derive(Clone, Copy)]
-struct Taken {
-    count: usize,
-    failed: bool,
-}
-
-fn take_part(rt: &HostRuntime, file: &mut File, path: &[u8], buf: &mut [u8]) -> Taken
-    ensures { result.count ≤ length buf.new }
+// How many bytes the system handed over.
+fn take_part(
+    rt: &HostRuntime,
+    file: &mut File,
+    path: &[u8],
+    buf: &mut [u8],
+) -> Result<usize, Unread>
+    ensures { IfOk result (λ n. n ≤ length buf.new) }
 {
     match file.read(buf) {
-        Ok(n) => Taken {
-            count: n,
-            failed: false,
-        },
+        Ok(n) => Ok(n),
         Err(error) => {
             fail(rt, path, error);
-            Taken {
-                count: 0,
-                failed: true,
-            }
+            Err(Unread)
         }
     }
 }
 
-// One part more; the file has ended where it is empty.
-fn more(
-    rt: &HostRuntime,
-    cells: &mut [u32],
-    opened: &mut File,
-    path: &[u8],
-    file: usize,
-    before: Reading,
-) -> Reach
-    ensures { PartRead file before cells.old cells.new result }
-{
-    let mut buf = [0u8; PART_SIZE];
-    let part = take_part(rt, opened, path, &mut buf);
-    let n = part.count;
-    let reading = read_part(cells, file, before, &buf[..n]);
-    Reach {
-        reading: reading,
-        on: 0 < n,
-        failed: part.failed,
-    }
-}
-
-// A file that is open. A proved loop has to end, so it counts its turns down, from a number that no run uses up.
+// A file that is open, until an empty part says that it has ended. A proved loop has to end, so it counts its turns, up to a number that no
+// run reaches.
+#[tactic(auto, using(crate::specs::Files::Laws::asking_begins, crate::specs::Files::Laws::asking_turn, crate::specs::Files::Laws::asking_stops, crate::specs::Files::Laws::asking_ends))]
 fn read_open(
     rt: &HostRuntime,
     cells: &mut [u32],
@@ -70,67 +39,51 @@ fn read_open(
     path: &[u8],
     file: usize,
     before: Reading,
-) -> Reach
-    ensures { PartsRead file before cells.old cells.new result }
+) -> Result<Reading, Unread>
+    ensures { IfOk result (λ r. PartsRead file before cells.old cells.new r) }
 {
-    let mut state = Reach {
-        reading: before,
-        on: true,
-        failed: false,
-    };
-    let mut turns: usize = usize::MAX;
-    while 0 < turns {
-        if state.on {
-            state = more(rt, cells, opened, path, file, state.reading);
-            turns -= 1;
-        } else {
-            return state;
+    let mut reading = before;
+    for _ in 0..usize::MAX {
+        let mut buf = [0u8; PART_SIZE];
+        let n = take_part(rt, opened, path, &mut buf)?;
+        if n == 0 {
+            return Ok(reading);
         }
+        reading = reading.read_part(cells, file, &buf[..n]);
     }
-    state
+    Ok(reading)
 }
 
 // The file that argument `file + 1` names.
-fn read_file(rt: &HostRuntime, cells: &mut [u32], file: usize, before: Reading) -> Reach
+#[tactic(auto, using(crate::specs::Files::Laws::whole_read))]
+fn read_file(
+    rt: &HostRuntime,
+    cells: &mut [u32],
+    file: usize,
+    before: Reading,
+) -> Result<Reading, Unread>
     requires { file < 4 }
-    ensures { FileRead file before cells.old cells.new result }
+    ensures { IfOk result (λ r. Whole file before cells.old cells.new r) }
 {
     let mut path = [0u8; PATH_MAX];
     match open_argument(rt, b"unicode_table", file + 1, &mut path) {
         Some((mut opened, name)) => {
-            let r = read_open(rt, cells, &mut opened, name, file, before);
-            let reading = end_file(cells, file, r.reading);
-            Reach {
-                reading: reading,
-                on: false,
-                failed: r.failed,
-            }
+            let reading = read_open(rt, cells, &mut opened, name, file, before)?;
+            Ok(reading.end_file(cells, file))
         }
-        None => Reach {
-            reading: before,
-            on: false,
-            failed: true,
-        },
+        None => Err(Unread),
     }
 }
 
 // All files, as many as there are arguments after the program's name.
-pub(crate) fn read_all(rt: &HostRuntime, cells: &mut [u32], count: usize) -> Reach
+#[tactic(auto, using(crate::specs::Files::Laws::files_begin, crate::specs::Files::Laws::files_more))]
+pub(crate) fn read_all(rt: &HostRuntime, cells: &mut [u32], count: usize) -> Result<Reading, Unread>
     requires { count ≤ 4 }
-    ensures { AllRead count cells.old cells.new result }
+    ensures { IfOk result (λ r. Files count cells.old cells.new r) }
 {
-    let mut state = Reach {
-        reading: begin(),
-        on: false,
-        failed: false,
-    };
-    let mut file: usize = 0;
-    while file < count {
-        if state.failed {
-            return state;
-        }
-        state = read_file(rt, cells, file, state.reading);
-        file += 1;
+    let mut reading = Reading::begin();
+    for file in 0..count {
+        reading = read_file(rt, cells, file, reading)?;
     }
-    state
+    Ok(reading)
 }

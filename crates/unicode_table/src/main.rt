@@ -7,11 +7,13 @@
 mod files;
 mod table;
 
-ghost use Rattle.unicode_table.specs.Printed.{Begun, Made};
+ghost use Rattle.unicode_table.specs.Printed.{Begun, Handed, Made};
+ghost use Rattle.unicode_io.specs.Generator.Laws.{printed_of};
+ghost use Rattle.unicode_io.specs.Reading.{state_of};
 
 use system::argument_count;
 use unicode_io::cells::classify;
-use unicode_io::reading::refusal_of;
+use unicode_io::reading::Reading;
 
 fn usage(rt: &HostRuntime) {
     let _ = rt.eprint(
@@ -26,39 +28,38 @@ struct Outcome {
     taken: bool,
 }
 
+// What was read as a table, or a refusal.
+fn print(rt: &HostRuntime, cells: &mut [u32], reading: Reading) -> bool
+    ensures { Handed (printed_of (state_of reading cells.old)) result }
+{
+    if let Err(reason) = reading.refusal() {
+        return table::refuse(rt, reason);
+    }
+    classify(cells);
+    table::print(rt, cells)
+}
+
 // The table that so many files make, or a refusal.
+#[tactic(auto, using(crate::specs::Printed::Laws::made, crate::specs::Printed::Laws::unmade))]
 fn make(rt: &HostRuntime, cells: &mut [u32], count: usize) -> Outcome
     requires { Begun cells.old count }
     ensures { Made count result }
 {
-    let r = files::read_all(rt, cells, count);
-    if r.failed {
-        return Outcome {
+    match files::read_all(rt, cells, count) {
+        Ok(reading) => Outcome {
+            read: true,
+            taken: print(rt, cells, reading),
+        },
+        Err(_) => Outcome {
             read: false,
             taken: false,
-        };
-    }
-    let refusal = refusal_of(r.reading);
-    if 0 < refusal {
-        return Outcome {
-            read: true,
-            taken: table::refuse(rt, refusal),
-        };
-    }
-    classify(cells);
-    Outcome {
-        read: true,
-        taken: table::print(rt, cells),
+        },
     }
 }
 
 fn main(rt: HostRuntime) {
     let count = argument_count(&rt);
-    if count < 4 {
-        usage(&rt);
-        return;
-    }
-    if 5 < count {
+    if count < 4 || 5 < count {
         usage(&rt);
         return;
     }

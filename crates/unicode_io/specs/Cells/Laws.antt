@@ -1,4 +1,5 @@
 -- Loops that change each element of a list in turn.
+use Rattle.std.proofs.Math.Nat.{mod-eq_of_lt}
 use Rattle.std.specs.Prelude.{◌≡◌, ℕ, zero, suc, ◌+◌, ◌-◌, ◌*◌, ◌/◌, ◌%◌, ◌^◌, ◌<◌, ◌≤◌, Bool, true, false, cond, ◌||◌, List, [], ◌∷◌, ◌++◌, map, length, take, drop, ◌==◌, nat_le, slice_index, slice_index_or, slice_set}
 use Rattle.std.proofs.Math.Path.{refl, sym, ap}
 use Rattle.std.proofs.Common.{◌∙◌, pow-suc, arith, drop_of_length-le, length-set, drop-cons}
@@ -120,6 +121,9 @@ bit_small bit i n e h k = let p : 2 ^ i ≤ 2 ^ 19 = pow-le-pow_right {n = 2} (o
 
 pub bit_end : (bit i n : ℕ) → bit ≡ bit_of i → i ≤ n → n ≤ i → bit ≡ bit_of n
 bit_end bit i n e h k = let q : i ≡ n = omega arith in rw q at e
+
+pub bit_fits : (n : ℕ) → n ≤ 20 → 256 * 2 ^ n % 2 ^ 32 ≡ bit_of n
+bit_fits n h = mod-eq_of_lt (let p : 2 ^ n ≤ 2 ^ 20 = pow-le-pow_right {n = 2} (omega arith) {i = n} {j = 20} h in omega arith)
 
 -- ---- kinds
 

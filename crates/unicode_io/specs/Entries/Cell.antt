@@ -10,7 +10,7 @@ use Rattle.unicode_io.specs.Reading.{weight_of}
 use Rattle.unicode_io.specs.Reading.Laws.{property_small, value_small}
 use Rattle.unicode_io.specs.Entries.{is_entry, says, name_at}
 use Rattle.unicode_io.specs.Entries.Laws.{bit_at, bit_set, bit_others, bit_within}
-use Rattle.unicode_io.specs.declared.line.Entry.{Entry}
+use Rattle.unicode_io.specs.Grammar.{Entry}
 
 unfoldable pub covered : ℕ → ℕ → List Entry → ℕ → Bool
 covered file p [] x = false

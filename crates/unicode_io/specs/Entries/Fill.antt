@@ -8,7 +8,7 @@ use Rattle.unicode_io.specs.Names.{property_of}
 use Rattle.unicode_io.specs.Cells.{is_taken, filled, taken_in, fill, taken}
 use Rattle.unicode_io.specs.Entries.{is_entry, says, meet, meets_any}
 use Rattle.unicode_io.specs.Entries.Cell.{covered}
-use Rattle.unicode_io.specs.declared.line.Entry.{Entry}
+use Rattle.unicode_io.specs.Grammar.{Entry}
 
 -- ---- n cells from the a-th on
 

@@ -11,7 +11,7 @@ use Rattle.unicode_io.specs.Reading.{weight_of, fill_entry, taken_by_entry}
 use Rattle.unicode_io.specs.Entries.{is_entry, says, meet, meets_any}
 use Rattle.unicode_io.specs.Entries.Cell.{covered, Holds, held_past, held_here}
 use Rattle.unicode_io.specs.Entries.Fill.{Found, met_at, meets_at, fill_in, fill_out, fill_length, taken_none, taken_some}
-use Rattle.unicode_io.specs.declared.line.Entry.{Entry}
+use Rattle.unicode_io.specs.Grammar.{Entry}
 
 -- what a line of a file can be
 pub record Good (file : ℕ) (e : Entry) : Type 0 where

@@ -6,7 +6,7 @@ use Rattle.std.proofs.Math.Nat.{div-div-eq-div-mul, div-eq_of_lt, zero-div}
 use Rattle.std.proofs.Math.ListN.{length-map, get_or-map}
 use Rattle.unicode_io.specs.Names.{value_of}
 use Rattle.unicode_io.specs.Names.Laws.{names_in}
-use Rattle.unicode_io.specs.Grammar.{line_of}
+use Rattle.unicode_io.specs.Grammar.{Entry, line_of}
 use Rattle.unicode_io.specs.Line.{empty, line_from, entry_of}
 use Rattle.unicode_io.specs.Cells.{bit_of, is_taken, kept_of, class_of, width_of, kind_of}
 use Rattle.unicode_io.specs.Reading.{State, state_of, reading, line_ended, bytes_read, file_ended}
@@ -17,7 +17,6 @@ use Rattle.unicode_io.specs.Entries.Cell.{covered, valued, Holds}
 use Rattle.unicode_io.specs.Entries.Steps.{AllGood}
 use Rattle.unicode_io.specs.Entries.Bytes.{Stands, file_stands, ended_line, good_of}
 use Rattle.unicode_io.specs.Generator.{refusal_of, kinds_from, answer, generated3, generated4}
-use Rattle.unicode_io.specs.declared.line.Entry.{Entry}
 
 -- ---- from file to file
 

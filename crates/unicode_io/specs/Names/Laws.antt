@@ -1,12 +1,12 @@
 -- The number of a word among names, which the code finds byte by byte; no file has more than 22 names.
-use Rattle.std.specs.Prelude.{◌≡◌, ℕ, suc, ◌+◌, ◌<◌, ◌≤◌, Bool, true, false, cond, ◌&&◌, List, [], ◌∷◌, ◌++◌, length, drop, ◌==◌, ◌≢◌, nat_le, nat_lt, slice_index}
+use Rattle.std.specs.Prelude.{◌≡◌, ℕ, suc, ◌+◌, ◌<◌, ◌≤◌, Bool, true, false, cond, ◌&&◌, List, [], ◌∷◌, ◌++◌, length, drop, ◌==◌, ◌≢◌, nat_le, nat_lt, slice_index, Option, Some, None}
 use Rattle.std.proofs.Math.Path.{refl, sym, ap}
 use Rattle.std.proofs.Common.{ap₂, ◌∙◌, length-drop, drop_of_length-le, drop-cons}
 use Rattle.std.proofs.Math.Numerals.{add-one}
 use native.Mathlib.Omega.{arith}
 use borrow.Author.Tests.{eq-eqb, ne_eqb, eqb-true, eqb-false, lt-ltb, le-ltb, ltb-true, ltb-false, lt-leb}
 use Rattle.unicode_io.specs.Tests.{never, and_both}
-use Rattle.unicode_io.specs.Names.{break_names, width_names, emoji_names, derived_names, names_of, agreeing, number_from, name_number, same, position, joined}
+use Rattle.unicode_io.specs.Names.{break_names, width_names, emoji_names, derived_names, names_of, agreeing, number_from, number_found, name_number, same, position, joined}
 
 module _ (word : List ℕ) (at b : ℕ) where
   pub agree_on : at < length word → slice_index word at ≡ b → at + 1 ≡ agreeing word at b
@@ -25,30 +25,33 @@ module _ (word : List ℕ) (at b : ℕ) where
 pub record Scanning (list word : List ℕ) (number at i : ℕ) : Type 0 where
   pub work : number_from word number at (drop i list) ≡ number_from word 1 0 list
   pub few : number ≤ i + 1
-  pub low : i ≤ length list
+  pub some : 0 < number
 
 pub scanning_begins : (list word : List ℕ) → Scanning list word 1 0 0
-scanning_begins list word = record { work = refl; few = omega arith; low = omega arith }
+scanning_begins list word = record { work = refl; few = omega arith; some = omega arith }
+
+found_some : (n : ℕ) → 0 < n → Some n ≡ number_found n
+found_some n h = rw (ne_eqb n 0 (λ z. omega (arith, z))) refl
 
 module _ (list word : List ℕ) (number at i : ℕ) (s : Scanning list word number at i) where
   next : i < length list → drop i list ≡ slice_index list i ∷ drop (i + 1) list
   next h = drop-cons list i 0 h ∙ ap (λ (n : ℕ). slice_index list i ∷ drop n list) (sym (add-one i))
 
-  pub scanning_found : i < length list → slice_index list i ≡ 0x20 → at ≡ length word → number ≡ number_from word 1 0 list
+  pub scanning_found : i < length list → slice_index list i ≡ 0x20 → at ≡ length word → Some number ≡ number_found (number_from word 1 0 list)
   unfolding number_from
-  scanning_found h e p = rw (next h, eq-eqb (slice_index list i) 0x20 e, eq-eqb at (length word) p) at s.work
+  scanning_found h e p = found_some number s.some ∙ ap number_found (rw (next h, eq-eqb (slice_index list i) 0x20 e, eq-eqb at (length word) p) at s.work)
 
   pub scanning_after : i < length list → slice_index list i ≡ 0x20 → (at ≢ length word) → Scanning list word (number + 1) 0 (i + 1)
   unfolding number_from
-  scanning_after h e p = record { work = rw (next h, eq-eqb (slice_index list i) 0x20 e, ne_eqb at (length word) p) at s.work; few = omega (arith, s.few); low = omega arith }
+  scanning_after h e p = record { work = rw (next h, eq-eqb (slice_index list i) 0x20 e, ne_eqb at (length word) p) at s.work; few = omega (arith, s.few); some = omega arith }
 
   pub scanning_within : (a : ℕ) → i < length list → (slice_index list i ≢ 0x20) → a ≡ agreeing word at (slice_index list i) → Scanning list word number a (i + 1)
   unfolding number_from
-  scanning_within a h e p = record { work = rw p (rw (next h, ne_eqb (slice_index list i) 0x20 e) at s.work); few = omega (arith, s.few); low = omega arith }
+  scanning_within a h e p = record { work = rw p (rw (next h, ne_eqb (slice_index list i) 0x20 e) at s.work); few = omega (arith, s.few); some = s.some }
 
-  pub scanning_ends : length list ≤ i → 0 ≡ number_from word 1 0 list
+  pub scanning_ends : length list ≤ i → None ≡ number_found (number_from word 1 0 list)
   unfolding number_from
-  scanning_ends h = rw (drop_of_length-le list h) at s.work
+  scanning_ends h = ap number_found (rw (drop_of_length-le list h) at s.work)
 
 -- ---- a word in the text of the names is found as in their list
 
@@ -156,22 +159,36 @@ module _ (word : List ℕ) where
 
 -- ---- the names of each file
 
-module _ (file : ℕ) (word : List ℕ) (z : ℕ) where
-  pub name_0 : file ≡ 0 → z ≡ number_from word 1 0 (joined break_names) → z ≡ name_number file word
-  unfolding name_number names_of break_names
-  name_0 e p = rw e (p ∙ joined_is word break_names 1 refl)
+names_unbroken : (file : ℕ) → all_of unbroken (names_of file) ≡ true
+unfolding names_of break_names width_names emoji_names derived_names
+names_unbroken file = by_cases (file == 0) (file == 1) (file == 2)
+  where
+    by_cases : (s t u : Bool) → all_of unbroken (cond s break_names (cond t width_names (cond u emoji_names derived_names))) ≡ true
+    by_cases true t u = refl
+    by_cases false true u = refl
+    by_cases false false true = refl
+    by_cases false false false = refl
 
-  pub name_1 : (file ≢ 0) → file ≡ 1 → z ≡ number_from word 1 0 (joined width_names) → z ≡ name_number file word
-  unfolding name_number names_of width_names
-  name_1 n e p = rw e (p ∙ joined_is word width_names 1 refl)
+name_in : (file : ℕ) (word names : List ℕ) (z : Option ℕ) → names ≡ joined (names_of file) → z ≡ number_found (number_from word 1 0 names) → z ≡ number_found (name_number file word)
+unfolding name_number
+name_in file word names z e p = p ∙ ap (λ (l : List ℕ). number_found (number_from word 1 0 l)) e ∙ ap number_found (joined_is word (names_of file) 1 (names_unbroken file))
 
-  pub name_2 : (file ≢ 0) → (file ≢ 1) → file ≡ 2 → z ≡ number_from word 1 0 (joined emoji_names) → z ≡ name_number file word
-  unfolding name_number names_of emoji_names
-  name_2 n m e p = rw e (p ∙ joined_is word emoji_names 1 refl)
+module _ (file : ℕ) (word : List ℕ) (z : Option ℕ) where
+  pub name_0 : file ≡ 0 → z ≡ number_found (number_from word 1 0 (joined break_names)) → z ≡ number_found (name_number file word)
+  unfolding names_of
+  name_0 e p = name_in file word (joined break_names) z (rw e refl) p
 
-  pub name_3 : (file ≢ 0) → (file ≢ 1) → (file ≢ 2) → z ≡ number_from word 1 0 (joined derived_names) → z ≡ name_number file word
-  unfolding name_number names_of derived_names
-  name_3 n m k p = rw (ne_eqb file 0 n, ne_eqb file 1 m, ne_eqb file 2 k) (p ∙ joined_is word derived_names 1 refl)
+  pub name_1 : file ≡ 1 → z ≡ number_found (number_from word 1 0 (joined width_names)) → z ≡ number_found (name_number file word)
+  unfolding names_of
+  name_1 e p = name_in file word (joined width_names) z (rw e refl) p
+
+  pub name_2 : file ≡ 2 → z ≡ number_found (number_from word 1 0 (joined emoji_names)) → z ≡ number_found (name_number file word)
+  unfolding names_of
+  name_2 e p = name_in file word (joined emoji_names) z (rw e refl) p
+
+  pub name_3 : (file ≢ 0) → (file ≢ 1) → (file ≢ 2) → z ≡ number_found (number_from word 1 0 (joined derived_names)) → z ≡ number_found (name_number file word)
+  unfolding names_of
+  name_3 n m k p = name_in file word (joined derived_names) z (rw (ne_eqb file 0 n, ne_eqb file 1 m, ne_eqb file 2 k) refl) p
 
 -- ---- how many names each file has
 

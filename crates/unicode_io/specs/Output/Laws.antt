@@ -14,41 +14,41 @@ use Rattle.unicode_io.specs.Digits.Laws.{fewest_decimal, fewest_hexadecimal, dec
 use Rattle.unicode_io.specs.Output.{number_line, part_size, head, foot, numbers, head_of, foot_of, gap, row_text, row_texts, table_text, refusal}
 use Rattle.unicode_io.specs.declared.rows.Row.{Row}
 
-pub decimal_pushed : (n k : ℕ) (ds : List ℕ) (s z : Sink) → n < 10 ^ 20 → IsDigitCount 10 1 n k → take k ds ≡ last_digits 10 k n → z ≡ emit s (take k ds) → z ≡ emit s (decimal n)
+pub decimal_pushed : (n k : ℕ) (ds : List ℕ) (s z : Sink ℕ) → n < 10 ^ 20 → IsDigitCount 10 1 n k → take k ds ≡ last_digits 10 k n → z ≡ emit s (take k ds) → z ≡ emit s (decimal n)
 decimal_pushed n k ds s z h few e p = p ∙ ap (emit s) (e ∙ fewest_decimal n k h few)
 
-pub hexadecimal_pushed : (n k : ℕ) (ds : List ℕ) (s z : Sink) → n < 16 ^ 16 → IsDigitCount 16 1 n k → take k ds ≡ last_digits 16 k n → z ≡ emit s (take k ds) → z ≡ emit s (hexadecimal n)
+pub hexadecimal_pushed : (n k : ℕ) (ds : List ℕ) (s z : Sink ℕ) → n < 16 ^ 16 → IsDigitCount 16 1 n k → take k ds ≡ last_digits 16 k n → z ≡ emit s (take k ds) → z ≡ emit s (hexadecimal n)
 hexadecimal_pushed n k ds s z h few e p = p ∙ ap (emit s) (e ∙ fewest_hexadecimal n k h few)
 
 -- three texts, one after the other
-three : (s a b z : Sink) (x y w : List ℕ) → a ≡ emit s x → b ≡ emit a y → z ≡ emit b w → z ≡ emit s (x ++ y ++ w)
+three : (s a b z : Sink ℕ) (x y w : List ℕ) → a ≡ emit s x → b ≡ emit a y → z ≡ emit b w → z ≡ emit s (x ++ y ++ w)
 three s a b z x y w p q r = then_emit s b z (x ++ y) w (then_emit s a b x y p q) r
 
-pub number_pushed : (n : ℕ) (s a b z : Sink) → a ≡ emit s (ascii "    0x") → b ≡ emit a (hexadecimal n) → z ≡ emit b (ascii ",\n") → z ≡ emit s (number_line n)
+pub number_pushed : (n : ℕ) (s a b z : Sink ℕ) → a ≡ emit s (ascii "    0x") → b ≡ emit a (hexadecimal n) → z ≡ emit b (ascii ",\n") → z ≡ emit s (number_line n)
 unfolding number_line
 number_pushed n s a b z p q r = three s a b z (ascii "    0x") (hexadecimal n) (ascii ",\n") p q r
 
-pub numbers_pushed : (row : Row) (s a b z : Sink) (last : ℕ) → last ≡ row.end - 1 → a ≡ emit s (number_line row.low) → b ≡ emit a (number_line last) → z ≡ emit b (number_line row.kind) → z ≡ emit s (numbers row)
+pub numbers_pushed : (row : Row) (s a b z : Sink ℕ) (last : ℕ) → last ≡ row.end - 1 → a ≡ emit s (number_line row.low) → b ≡ emit a (number_line last) → z ≡ emit b (number_line row.kind) → z ≡ emit s (numbers row)
 unfolding numbers
 numbers_pushed row s a b z last e p q r = three s a b z _ _ _ p (rw e at q) r
 
-pub gap_due : (part : ℕ) (s z : Sink) → (part ≢ 0) → z ≡ emit s (ascii "\n") → z ≡ emit s (gap part)
+pub gap_due : (part : ℕ) (s z : Sink ℕ) → (part ≢ 0) → z ≡ emit s (ascii "\n") → z ≡ emit s (gap part)
 unfolding gap
 gap_due part s z n p = rw (ne_eqb part 0 n) p
 
-pub no_gap : (part : ℕ) (s : Sink) → part ≡ 0 → s ≡ emit s (gap part)
+pub no_gap : (part : ℕ) (s : Sink ℕ) → part ≡ 0 → s ≡ emit s (gap part)
 unfolding gap
 no_gap part s e = rw (eq-eqb part 0 e) (sym (emit_none s))
 
-pub head_pushed : (part rows : ℕ) (s g a b c d z : Sink) → g ≡ emit s (gap part) → a ≡ emit g (ascii "pub(crate) const PART_") → b ≡ emit a (decimal part) → c ≡ emit b (ascii ": [u32; ") → d ≡ emit c (decimal (rows * 3)) → z ≡ emit d (ascii "] = [\n") → z ≡ emit s (head part rows)
+pub head_pushed : (part rows : ℕ) (s g a b c d z : Sink ℕ) → g ≡ emit s (gap part) → a ≡ emit g (ascii "pub(crate) const PART_") → b ≡ emit a (decimal part) → c ≡ emit b (ascii ": [u32; ") → d ≡ emit c (decimal (rows * 3)) → z ≡ emit d (ascii "] = [\n") → z ≡ emit s (head part rows)
 unfolding head
 head_pushed part rows s g a b c d z o p q r t u = three s c d z _ _ _ (three s a b c _ _ _ (then_emit s g a _ _ o p) q r) t u
 
-pub refusal_pushed : (n : ℕ) (s a b z : Sink) → a ≡ emit s (ascii "refused ") → b ≡ emit a (decimal n) → z ≡ emit b (ascii "\n") → z ≡ emit s (refusal n)
+pub refusal_pushed : (n m : ℕ) (s a b z : Sink ℕ) → m ≡ n → a ≡ emit s (ascii "refused ") → b ≡ emit a (decimal m) → z ≡ emit b (ascii "\n") → z ≡ emit s (refusal n)
 unfolding refusal
-refusal_pushed n s a b z p q r = three s a b z _ _ _ p q r
+refusal_pushed n m s a b z e p q r = three s a b z _ _ _ p (q ∙ ap (λ (k : ℕ). emit a (decimal k)) e) r
 
-module _ (total i : ℕ) (s z : Sink) (size : ℕ) (e : size ≡ part_size total) where
+module _ (total i : ℕ) (s z : Sink ℕ) (size : ℕ) (e : size ≡ part_size total) where
   pub head_due : (n rest : ℕ) → i % size ≡ 0 → rest ≡ total - i → n ≡ smaller_of size rest → z ≡ emit s (head (i / size) n) → z ≡ emit s (head_of total i)
   unfolding head_of
   head_due n rest h t k p = rw (← e, eq-eqb (i % size) 0 h, ← t, ← k) p
@@ -57,15 +57,15 @@ module _ (total i : ℕ) (s z : Sink) (size : ℕ) (e : size ≡ part_size total
   unfolding foot_of
   foot_due rest t h p = rw (← e, ← t, h) p
 
-pub no_head : (total i : ℕ) (s : Sink) (size : ℕ) → size ≡ part_size total → (i % size ≢ 0) → s ≡ emit s (head_of total i)
+pub no_head : (total i : ℕ) (s : Sink ℕ) (size : ℕ) → size ≡ part_size total → (i % size ≢ 0) → s ≡ emit s (head_of total i)
 unfolding head_of
 no_head total i s size e h = rw (← e, ne_eqb (i % size) 0 h) (sym (emit_none s))
 
-pub no_foot : (total i : ℕ) (s : Sink) (size rest : ℕ) → size ≡ part_size total → rest ≡ total - i → (i % size + 1 == size) || (rest == 1) ≡ false → s ≡ emit s (foot_of total i)
+pub no_foot : (total i : ℕ) (s : Sink ℕ) (size rest : ℕ) → size ≡ part_size total → rest ≡ total - i → (i % size + 1 == size) || (rest == 1) ≡ false → s ≡ emit s (foot_of total i)
 unfolding foot_of
 no_foot total i s size rest e t h = rw (← e, ← t, h) (sym (emit_none s))
 
-pub row_pushed : (total i : ℕ) (r : Row) (s a b z : Sink) → a ≡ emit s (head_of total i) → b ≡ emit a (numbers r) → z ≡ emit b (foot_of total i) → z ≡ emit s (row_text total i r)
+pub row_pushed : (total i : ℕ) (r : Row) (s a b z : Sink ℕ) → a ≡ emit s (head_of total i) → b ≡ emit a (numbers r) → z ≡ emit b (foot_of total i) → z ≡ emit s (row_text total i r)
 unfolding row_text
 row_pushed total i r s a b z p q t = three s a b z _ _ _ p q t
 

@@ -1,36 +1,19 @@
 -- One row after the other gives all rows.
-use Rattle.std.specs.Prelude.{◌≡◌, ℕ, suc, ◌+◌, ◌-◌, ◌<◌, ◌≤◌, Bool, true, false, cond, ◌⊎◌, List, [], ◌∷◌, length, drop, ◌==◌, ◌≢◌, slice_index, slice_index_or}
+use Rattle.std.specs.Prelude.{◌≡◌, ℕ, suc, ◌+◌, ◌-◌, ◌<◌, ◌≤◌, Bool, true, false, cond, ◌⊎◌, List, [], ◌∷◌, length, drop, ◌==◌, ◌≢◌, slice_index, slice_index_or, Option, Some, None, is_some}
+use Rattle.std.specs.List.{prefix_len}
 use Rattle.std.proofs.Math.Path.{refl}
-use Rattle.std.proofs.Common.{sym, ap, ◌∙◌, add-zero, add-one, arith, inl, inr, ⊎_elim, length-drop, drop_of_length-le, drop-cons, drop-drop, get_or-drop}
+use Rattle.std.proofs.Common.{sym, ap, ◌∙◌, add-zero, arith, inl, inr, ⊎_elim, length-drop, drop_of_length-le, drop-cons, drop-drop, get_or-drop}
 use borrow.Author.Tests.{eq-eqb, ne_eqb, eqb-true, eqb-false, lt-ltb, le-ltb}
-use Rattle.unicode_io.specs.Tests.{le_or_lt}
-use Rattle.unicode_io.specs.Rows.{row, grown, runs, shown, rows_from, leading, row_at, next_row}
+use Rattle.unicode_io.specs.Tests.{le_or_lt, never}
+use Rattle.unicode_io.specs.Rows.{row_in, row, grown, runs, shown, rows_from, leading, row_at, next_row}
 use Rattle.unicode_io.specs.declared.rows.Row.{Row}
 
--- ---- the end of a run, place by place
+-- ---- the kinds in front
 
-pub record Running (kinds : List ℕ) (at kind i : ℕ) : Type 0 where
-  pub work : i + leading kind (drop i kinds) ≡ at + leading kind (drop at kinds)
-
-pub running_begins : (kinds : List ℕ) (at kind : ℕ) → Running kinds at kind at
-running_begins kinds at kind = record { work = refl }
-
-module _ (kinds : List ℕ) (at kind i : ℕ) (s : Running kinds at kind i) where
-  pub running_turn : i < length kinds → slice_index kinds i ≡ kind → Running kinds at kind (i + 1)
-  unfolding leading
-  running_turn h e =
-      let p : leading kind (drop i kinds) ≡ suc (leading kind (drop (i + 1) kinds)) = rw (drop-cons kinds i 0 h, eq-eqb (slice_index kinds i) kind e, add-one) refl in
-      record { work = omega (arith, p, s.work) }
-
-  pub running_stops : i < length kinds → (slice_index kinds i ≢ kind) → i ≡ at + leading kind (drop at kinds)
-  unfolding leading
-  running_stops h e =
-      let p : leading kind (drop i kinds) ≡ 0 = rw (drop-cons kinds i 0 h, ne_eqb (slice_index kinds i) kind e) refl in
-      omega (arith, p, s.work)
-
-  pub running_ends : length kinds ≤ i → i ≡ at + leading kind (drop at kinds)
-  unfolding leading
-  running_ends h = let p : leading kind (drop i kinds) ≡ 0 = rw (drop_of_length-le kinds h) refl in omega (arith, p, s.work)
+leading_is : (k : ℕ) (l : List ℕ) → prefix_len (λ (x : ℕ). x == k) l ≡ leading k l
+unfolding leading
+leading_is k [] = refl
+leading_is k (x ∷ l) = let e : 1 + prefix_len (λ (y : ℕ). y == k) l ≡ suc (leading k l) = omega (arith, leading_is k l) in ap (λ (n : ℕ). cond (x == k) n 0) e
 
 -- ---- a row
 
@@ -42,6 +25,50 @@ module _ (kinds : List ℕ) (at low : ℕ) (e : low ≡ at + leading 45 (drop at
   pub row_none : length kinds ≤ low → row low low 45 ≡ next_row at kinds
   unfolding next_row row_at
   row_none h = rw (← e, le-ltb low (length kinds) h) refl
+
+-- ---- as the code answers
+
+not_empty : (low n k : ℕ) → row_in (row low (low + suc n) k) ≡ Some (row low (low + suc n) k)
+not_empty low n k = rw (ne_eqb low (low + suc n) (λ z. omega (arith, z))) refl
+
+none_in : (low k : ℕ) → None ≡ row_in (row low low k)
+none_in low k = rw (eq-eqb low low refl) refl
+
+module _ (kinds : List ℕ) (at : ℕ) where
+  module _ (low : ℕ) (e : low ≡ at + prefix_len (λ (x : ℕ). x == 45) (drop at kinds)) where
+    low_is : low ≡ at + leading 45 (drop at kinds)
+    low_is = e ∙ ap (λ (k : ℕ). at + k) (leading_is 45 (drop at kinds))
+
+    pub found_none : length kinds ≤ low → None ≡ row_in (next_row at kinds)
+    found_none h = none_in low 45 ∙ ap row_in (row_none kinds at low low_is h)
+
+    pub found_row : (end : ℕ) → low < length kinds → end ≡ low + prefix_len (λ (x : ℕ). x == slice_index kinds low) (drop low kinds) → Some (row low end (slice_index kinds low)) ≡ row_in (next_row at kinds)
+    unfolding leading
+    found_row end h p =
+        let k : ℕ = slice_index kinds low in
+        let n : ℕ = leading k (drop (suc low) kinds) in
+        let r : leading k (drop low kinds) ≡ suc n = rw (drop-cons kinds low 0 h, eq-eqb k k refl) refl in
+        let z : end ≡ low + suc n = p ∙ ap (λ (i : ℕ). low + i) (leading_is k (drop low kinds) ∙ r) in
+        rw z (sym (not_empty low n k) ∙ ap row_in (row_found kinds at low low_is k (low + suc n) h refl (ap (λ (i : ℕ). low + i) (sym r))))
+
+-- a row that is answered is not empty
+some_row : (r x : Row) → row_in r ≡ Some x → (x ≡ r) × (r.low ≢ r.end)
+some_row r x e = by_case (r.low == r.end) refl e
+  where
+    got : Option Row → Row
+    got None = r
+    got (Some y) = y
+
+    by_case : (t : Bool) → (r.low == r.end) ≡ t → cond t None (Some r) ≡ Some x → (x ≡ r) × (r.low ≢ r.end)
+    by_case true q p = absurd (never (ap is_some p))
+    by_case false q p = (sym (ap got p), eqb-false r.low r.end q)
+
+no_row : (r : Row) → row_in r ≡ None → r.low ≡ r.end
+no_row r e = by_case (r.low == r.end) refl e
+  where
+    by_case : (t : Bool) → (r.low == r.end) ≡ t → cond t None (Some r) ≡ None → r.low ≡ r.end
+    by_case true q p = eqb-true r.low r.end q
+    by_case false q p = absurd (never (sym (ap is_some p)))
 
 -- ---- a run is as long as its kind leads
 
@@ -190,6 +217,22 @@ module _ (kinds : List ℕ) (at : ℕ) (r : Row) (e : r ≡ next_row at kinds) w
       (λ (p : (low < length kinds) × (r ≡ row low (low + suc more) (slice_index kinds low))). omega (arith, ap (λ (x : Row). x.end) p.1, leading_most (slice_index kinds low) (drop (suc low) kinds), length-drop (suc low) kinds))
       (λ (p : (length kinds ≤ low) × (r ≡ row low low 45)). omega (arith, ap (λ (x : Row). x.end) p.1, leading_most 45 (drop at kinds), length-drop at kinds)) view
 
+-- a row that is answered is the first of those that are left
+pub record Answered (kinds : List ℕ) (at : ℕ) (r : Row) : Type 0 where
+  pub first : rows_from at (drop at kinds) ≡ r ∷ rows_from r.end (drop r.end kinds)
+  pub further : at < r.end
+  pub inside : at ≤ length kinds → r.end ≤ length kinds
+
+module _ (kinds : List ℕ) (at : ℕ) (o : Option Row) (e : o ≡ row_in (next_row at kinds)) where
+  pub answered : (r : Row) → o ≡ Some r → Answered kinds at r
+  answered r p =
+      let is : (r ≡ next_row at kinds) × ((next_row at kinds).low ≢ (next_row at kinds).end) = some_row (next_row at kinds) r (sym e ∙ p) in
+      let some : r.low ≢ r.end = λ z. is.1 (ap (λ (x : Row). x.low) (sym is.0) ∙ z ∙ ap (λ (x : Row). x.end) is.0) in
+      record { first = next_some kinds at r is.0 some; further = next_further kinds at r is.0 some; inside = next_within kinds at r is.0 }
+
+  pub none_left : o ≡ None → rows_from at (drop at kinds) ≡ []
+  none_left p = next_none kinds at (next_row at kinds) refl (no_row (next_row at kinds) (sym e ∙ p))
+
 pub no_rows_law : (rs : List Row) → length rs ≡ 0 → rs ≡ []
 no_rows_law [] e = refl
 no_rows_law (r ∷ rs) e = absurd (omega arith)
@@ -203,16 +246,18 @@ pub counting_begins : (kinds : List ℕ) → Counting kinds 0 0
 counting_begins kinds = record { work = omega arith; few = omega arith; within = omega arith }
 
 module _ (kinds : List ℕ) (n at : ℕ) (s : Counting kinds n at) where
-  pub counting_turn : (r : Row) → r ≡ next_row at kinds → (r.low ≢ r.end) → Counting kinds (n + 1) r.end
-  counting_turn r e p =
-      let q : length (rows_from at (drop at kinds)) ≡ suc (length (rows_from r.end (drop r.end kinds))) = ap (length {A = Row}) (next_some kinds at r e p) in
-      record { work = omega (arith, q, s.work); few = omega (arith, s.few, next_further kinds at r e p); within = next_within kinds at r e s.within }
+  module _ (o : Option Row) (e : o ≡ row_in (next_row at kinds)) where
+    module _ (r : Row) (p : o ≡ Some r) where
+      answer : Answered kinds at r
+      answer = answered kinds at o e r p
 
-  pub counting_stops : (r : Row) → r ≡ next_row at kinds → r.low ≡ r.end → n ≡ length (rows_from 0 kinds)
-  counting_stops r e p = let q : length (rows_from at (drop at kinds)) ≡ 0 = ap (length {A = Row}) (next_none kinds at r e p) in omega (arith, q, s.work)
+      pub counting_turn : Counting kinds (n + 1) r.end
+      counting_turn =
+          let q : length (rows_from at (drop at kinds)) ≡ suc (length (rows_from r.end (drop r.end kinds))) = ap (length {A = Row}) answer.first in
+          record { work = omega (arith, q, s.work); few = omega (arith, s.few, answer.further); within = answer.inside s.within }
 
-  pub counting_ends : length kinds ≤ at → n ≡ length (rows_from 0 kinds)
-  counting_ends h = let q : length (rows_from at (drop at kinds)) ≡ 0 = ap (λ (l : List ℕ). length (rows_from at l)) (drop_of_length-le kinds h) ∙ ap (length {A = Row}) (nothing_left at) in omega (arith, q, s.work)
+      pub counting_less : length kinds - r.end < length kinds - at
+      counting_less = omega (arith, answer.further, answer.inside s.within)
 
-  pub counting_less : (r : Row) → at < length kinds → r ≡ next_row at kinds → (r.low ≢ r.end) → length kinds - r.end < length kinds - at
-  counting_less r h e p = omega (arith, next_further kinds at r e p)
+    pub counting_stops : o ≡ None → n ≡ length (rows_from 0 kinds)
+    counting_stops p = let q : length (rows_from at (drop at kinds)) ≡ 0 = ap (length {A = Row}) (none_left kinds at o e p) in omega (arith, q, s.work)

@@ -1,11 +1,12 @@
+use Rattle.std.proofs.Common.{rules, refl}
 use Rattle.unicode_io.specs.Cells.Laws.{changing_begins, changing_turn, changing_ends}
 use Rattle.unicode_io.proofs.cells.next_file.Goals as goal
 
-pub loop-i-init : goal.loop-i-init
-loop-i-init c = search changing_begins
+pub loop-cell-init : goal.loop-cell-init
+loop-cell-init c = search changing_begins
 
-pub loop-i-preserved : goal.loop-i-preserved
-loop-i-preserved c = search changing_turn
+pub loop-cell-preserved : goal.loop-cell-preserved
+loop-cell-preserved c = changing_turn _ _ _ _ c.loop-cell.invariant _ (search rules) refl
 
 pub returns : goal.returns
-returns c = search changing_ends
+returns c = changing_ends _ _ _ _ c.loop-cell.invariant (search rules)

@@ -1,10 +1,6 @@
-use Rattle.std.proofs.Common.{◌-◌, length}
 use Rattle.unicode_io.specs.Cells.{kept_of}
 use Rattle.unicode_io.specs.Cells.Laws.{Changing}
 use Rattle.unicode_io.proofs.cells.next_file.Given as goal
 
-abbrev pub invariant-loop-i : goal.invariant-loop-i
-invariant-loop-i l = Changing kept_of l.initial.cells l.cells l.i
-
-abbrev pub decreases-loop-i : goal.decreases-loop-i
-decreases-loop-i l = length l.initial.cells - l.i
+abbrev pub invariant-loop-cell : goal.invariant-loop-cell
+invariant-loop-cell l = Changing kept_of l.initial.cell-items l.cell-items l.cell-index

@@ -1,8 +1,9 @@
-use Rattle.unicode_io.specs.Rows.Laws.{row_found, row_none}
+use Rattle.std.proofs.Common.{rules}
+use Rattle.unicode_io.specs.Rows.Laws.{found_none, found_row}
 use Rattle.unicode_io.proofs.rows.next_row.Goals as goal
 
-pub returns-then-low-kinds : goal.returns-then-low-kinds
-returns-then-low-kinds c = search row_found
+pub returns-then-kinds-low : goal.returns-then-kinds-low
+returns-then-kinds-low c = found_none c.args.kinds.now c.args.at c.run_end-low.result c.run_end-low.ensures (search rules)
 
 pub returns : goal.returns
-returns c = search row_none
+returns c = found_row c.args.kinds.now c.args.at c.run_end-low.result c.run_end-low.ensures c.run_end-end.result (search rules) c.run_end-end.ensures

@@ -1,15 +1,13 @@
-use Rattle.std.proofs.Common.{rules}
-use Rattle.unicode_table.specs.Files.Laws.{asking_begins, asking_turn, asking_stops, asking_ends}
+use Rattle.std.proofs.Common.{arith, rules, take, length-take-le}
+use Rattle.unicode_table.specs.Files.Laws.{asking_turn, asking_stops}
 use Rattle.unicode_table.proofs.files.read_open.Goals as goal
 
-pub loop-turns-init : goal.loop-turns-init
-loop-turns-init c = (search rules, search asking_begins)
+pub returns-then-n-eq0 : goal.returns-then-n-eq0
+returns-then-n-eq0 c = asking_stops c.args.file c.args.before c.loop.reading c.args.cells.now c.loop.cells c.loop.counter c.loop.invariant.1 (search rules)
 
-pub loop-turns-preserved : goal.loop-turns-preserved
-loop-turns-preserved c = (search rules, search asking_turn)
-
-pub returns-else-state : goal.returns-else-state
-returns-else-state c = search asking_stops
-
-pub returns : goal.returns
-returns c = search asking_ends
+pub loop-preserved : goal.loop-preserved
+loop-preserved c = (
+  search rules,
+  asking_turn c.args.file c.args.before c.loop.reading c.args.cells.now c.loop.cells c.loop.counter c.loop.invariant.1 c.read_part-reading.new.cells c.read_part-reading.result (take c.in_ok-n.n c.take_part.new.buf)
+      (omega (arith, c.if-n-eq0.false, length-take-le c.in_ok-n.n c.take_part.new.buf c.in_ok-n.ensures)) c.read_part-reading.ensures,
+)

@@ -1,9 +1,9 @@
-use Prim.Native.Nat.{◌-◌}
+use Rattle.std.proofs.Common.{◌-◌, length}
 use Rattle.unicode_table.specs.Printed.Laws.{Printing}
 use Rattle.unicode_table.proofs.table.print.Given as goal
 
-abbrev pub invariant-loop-i : goal.invariant-loop-i
-invariant-loop-i l = Printing l.kinds l.total l.i l.place
+abbrev pub invariant-loop-row : goal.invariant-loop-row
+invariant-loop-row l = Printing l.kinds l.total l.i l.place
 
-abbrev pub decreases-loop-i : goal.decreases-loop-i
-decreases-loop-i l = l.total - l.i
+abbrev pub decreases-loop-row : goal.decreases-loop-row
+decreases-loop-row l = length l.kinds - l.place
