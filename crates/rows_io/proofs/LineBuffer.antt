@@ -21,10 +21,10 @@ use Rattle.rows_io.specs.declared.first_line.Part.{Part}
 use Rattle.rows_io.specs.declared.input.Input.{Input}
 use Rattle.rows_io.specs.declared.first_line.FirstLine.{FirstLine}
 
-abbrev count_of : Sink → ℕ
+abbrev count_of : Sink ℕ → ℕ
 count_of (sink l r) = r
 
-abbrev list_of : Sink → List ℕ
+abbrev list_of : Sink ℕ → List ℕ
 list_of (sink l r) = l
 
 -- a buffer that takes only the front of xs

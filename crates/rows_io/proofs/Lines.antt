@@ -21,10 +21,10 @@ use Rattle.rows_io.specs.Output.{decimal, row_line, row_lines, refusal, answer_t
 use Rattle.rows_io.specs.declared.first_line.FirstLine.{FirstLine}
 use Rattle.rows_io.specs.Output.Laws.{fewest_digits}
 
-pub decimal_pushed : (n k : ℕ) (ds : List ℕ) (s z : Sink) → n < 10 ^ 20 → IsDigitCount 10 1 n k → take k ds ≡ last_digits 10 k n → z ≡ emit s (take k ds) → z ≡ emit s (decimal n)
+pub decimal_pushed : (n k : ℕ) (ds : List ℕ) (s z : Sink ℕ) → n < 10 ^ 20 → IsDigitCount 10 1 n k → take k ds ≡ last_digits 10 k n → z ≡ emit s (take k ds) → z ≡ emit s (decimal n)
 decimal_pushed n k ds s z h few e p = p ∙ ap (emit s) (e ∙ fewest_digits n k h few)
 
-pub row_pushed : (i start end : ℕ) (s a b c d e z : Sink) → a ≡ emit s (decimal i) → b ≡ put a 0x20 → c ≡ emit b (decimal start) → d ≡ put c 0x20 → e ≡ emit d (decimal end) → z ≡ put e 0x0A → z ≡ emit s (row_line i start end)
+pub row_pushed : (i start end : ℕ) (s a b c d e z : Sink ℕ) → a ≡ emit s (decimal i) → b ≡ put a 0x20 → c ≡ emit b (decimal start) → d ≡ put c 0x20 → e ≡ emit d (decimal end) → z ≡ put e 0x0A → z ≡ emit s (row_line i start end)
 unfolding row_line emit
 row_pushed i start end s a b c d e z p q p' q' p'' q'' =
     let space : List ℕ = 0x20 ∷ [] in
@@ -36,7 +36,7 @@ row_pushed i start end s a b c d e z p q p' q' p'' q'' =
     let t₃ : d ≡ emit s i₃ = then_emit s c d i₂ space t₂ q' in
     then_emit s e z (i₃ ++ decimal end) (0x0A ∷ []) (then_emit s d e i₃ (decimal end) t₃ p'') q''
 
-pub refusal_pushed : (n : ℕ) (s a b z : Sink) → a ≡ emit s (0x72 ∷ 0x65 ∷ 0x66 ∷ 0x75 ∷ 0x73 ∷ 0x65 ∷ 0x64 ∷ 0x20 ∷ []) → b ≡ emit a (decimal n) → z ≡ put b 0x0A → z ≡ emit s (refusal n)
+pub refusal_pushed : (n : ℕ) (s a b z : Sink ℕ) → a ≡ emit s (0x72 ∷ 0x65 ∷ 0x66 ∷ 0x75 ∷ 0x73 ∷ 0x65 ∷ 0x64 ∷ 0x20 ∷ []) → b ≡ emit a (decimal n) → z ≡ put b 0x0A → z ≡ emit s (refusal n)
 unfolding refusal emit
 refusal_pushed n s a b z p q r =
     let word : List ℕ = 0x72 ∷ 0x65 ∷ 0x66 ∷ 0x75 ∷ 0x73 ∷ 0x65 ∷ 0x64 ∷ 0x20 ∷ [] in
@@ -62,19 +62,19 @@ unfolding row_lines
 row_more i start end ns = refl
 
 -- what is left to write behind i rows
-pub record RowsLeft (s₀ : Sink) (ns : List ℕ) (s : Sink) (i : ℕ) : Type 0 where
+pub record RowsLeft (s₀ : Sink ℕ) (ns : List ℕ) (s : Sink ℕ) (i : ℕ) : Type 0 where
   pub work : emit s (row_lines i (drop (2 * i) ns)) ≡ emit s₀ (row_lines 0 ns)
 
-pub rows_begin : (s : Sink) (ns : List ℕ) → RowsLeft s ns s 0
+pub rows_begin : (s : Sink ℕ) (ns : List ℕ) → RowsLeft s ns s 0
 rows_begin s ns = record { work = refl }
 
-module _ (s₀ : Sink) (ns : List ℕ) (s : Sink) (i : ℕ) (left : RowsLeft s₀ ns s i) where
-  pub rows_turn : (s' : Sink) → i < length ns / 2 → s' ≡ emit s (row_line i (get_or ns (2 * i) 0) (get_or ns (2 * i + 1) 0)) → RowsLeft s₀ ns s' (i + 1)
+module _ (s₀ : Sink ℕ) (ns : List ℕ) (s : Sink ℕ) (i : ℕ) (left : RowsLeft s₀ ns s i) where
+  pub rows_turn : (s' : Sink ℕ) → i < length ns / 2 → s' ≡ emit s (row_line i (get_or ns (2 * i) 0) (get_or ns (2 * i + 1) 0)) → RowsLeft s₀ ns s' (i + 1)
   rows_turn s' h e =
       let line : List ℕ = row_line i (get_or ns (2 * i) 0) (get_or ns (2 * i + 1) 0) in
       let p : row_lines i (drop (2 * i) ns) ≡ line ++ row_lines (i + 1) (drop (2 * (i + 1)) ns) =
       ap (row_lines i) (pair_at_law ns i h) ∙ row_more i (get_or ns (2 * i) 0) (get_or ns (2 * i + 1) 0) (drop (2 * (i + 1)) ns) ∙ ap (λ (k : ℕ). line ++ row_lines k (drop (2 * (i + 1)) ns)) (sym (add-one i)) in
-      record { work = ap (λ (x : Sink). emit x (row_lines (i + 1) (drop (2 * (i + 1)) ns))) e ∙ sym (emit_append s line (row_lines (i + 1) (drop (2 * (i + 1)) ns))) ∙ ap (emit s) (sym p) ∙ left.work }
+      record { work = ap (λ (x : Sink ℕ). emit x (row_lines (i + 1) (drop (2 * (i + 1)) ns))) e ∙ sym (emit_append s line (row_lines (i + 1) (drop (2 * (i + 1)) ns))) ∙ ap (emit s) (sym p) ∙ left.work }
 
   pub rows_end : length ns / 2 ≤ i → s ≡ emit s₀ (row_lines 0 ns)
   rows_end h =
@@ -83,7 +83,7 @@ module _ (s₀ : Sink) (ns : List ℕ) (s : Sink) (i : ℕ) (left : RowsLeft s�
 
 -- ---- the answer
 
-module _ (number count : ℕ) (rows : List ℕ) (s z : Sink) where
+module _ (number count : ℕ) (rows : List ℕ) (s z : Sink ℕ) where
   pub accepted : (n : ℕ) → number ≡ 0 → n ≡ smaller_of (2 * count) (length rows) → z ≡ emit s (row_lines 0 (take n rows)) → z ≡ emit s (answer_text number count rows)
   unfolding answer_text
   accepted n e t p = rw (eq-eqb number 0 e) (p ∙ ap (λ (l : List ℕ). emit s (row_lines 0 l)) (take_smaller rows (2 * count) n t))
@@ -94,7 +94,7 @@ module _ (number count : ℕ) (rows : List ℕ) (s z : Sink) where
 
 -- ---- an input that was read
 
-pub printed_of_law : (f : FirstLine) (line : List ℕ) (n count width size places pairs m : ℕ) (a : Answer) (conv numbers rows : List ℕ) (s z : Sink) → n ≡ smaller_of count (length line) → width ≡ width_of f
+pub printed_of_law : (f : FirstLine) (line : List ℕ) (n count width size places pairs m : ℕ) (a : Answer) (conv numbers rows : List ℕ) (s z : Sink ℕ) → n ≡ smaller_of count (length line) → width ≡ width_of f
     → size ≡ 32768 → places ≡ 2048 → pairs ≡ 8192 → RowsNumbers (rows_call profile01 size places pairs width f.mode (take n line)) m a conv numbers rows
     → z ≡ emit s (answer_text a.number a.count rows) → z ≡ emit s (printed f (take count line))
 unfolding printed

@@ -3,7 +3,6 @@ ghost use Rattle.std.specs.Prelude.{◌≡◌};
 ghost use Rattle.rows_io.specs.Input.{start, state_of, with_part};
 
 use super::first_line::{FirstLine, nothing, read_part};
-use buffer::smaller;
 
 // The first line, how many bytes of the line were read, and whether more are wanted.
 #[derive(Clone, Copy)]
@@ -32,10 +31,10 @@ pub fn with_part(line: &mut [u8], state: Input, part: &[u8]) -> Input
     let p = read_part(state.first, part);
     let first = p.first;
     let at = p.at;
-    let end = buffer::push_bytes(line, state.count, &part[at..]);
+    let end = buffer::push_all(line, state.count, &part[at..]);
     Input {
-        first: first,
-        count: smaller(end, line.len()),
+        first,
+        count: end.min(line.len()),
         more: end < line.len(),
     }
 }

@@ -34,7 +34,7 @@ fn more<R: Read>(from: &mut R, line: &mut [u8], state: Input) -> Reading
     let n = read_full(from, &mut buf);
     let input = with_part(line, state, &buf[..n]);
     Reading {
-        input: input,
+        input,
         ended: n < 4096,
     }
 }

@@ -11,10 +11,10 @@ pub mod Buffers
 pub mod Laws
 
 -- what was printed, and the buffer for it
-abbrev pub text_of : Sink → List ℕ
+abbrev pub text_of : Sink ℕ → List ℕ
 text_of (sink l n) = take n l
 
-abbrev pub list_of : Sink → List ℕ
+abbrev pub list_of : Sink ℕ → List ℕ
 list_of (sink l n) = l
 
 module _ (name : List ℕ) (view : View) where

@@ -44,7 +44,7 @@ pub(crate) fn read(rt: &impl Env) -> Arguments
     };
     Arguments {
         ok: in_form(b) & (in_form(c) & in_range(view)),
-        view: view,
+        view,
         count: argument_count(rt),
     }
 }

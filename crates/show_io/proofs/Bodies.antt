@@ -109,28 +109,28 @@ number_past s at h = rw (drop_of_length-le s h) refl
 
 -- ---- push_uri
 
-pub uri_pushed : (line body : List ℕ) (p n : ℕ) (s z : Sink) → p ≡ little_endian (take 4 (drop 16 body)) → n ≡ little_endian (take 4 (drop 20 body)) → z ≡ emit s (take n (drop p line)) → z ≡ emit s (uri line body)
+pub uri_pushed : (line body : List ℕ) (p n : ℕ) (s z : Sink ℕ) → p ≡ little_endian (take 4 (drop 16 body)) → n ≡ little_endian (take 4 (drop 20 body)) → z ≡ emit s (take n (drop p line)) → z ≡ emit s (uri line body)
 unfolding uri
 uri_pushed line body p n s z place size e = e ∙ ap (emit s) (rw (place, size) refl)
 
 -- ---- changes
 
-pub link_pushed : (u : List ℕ) (s a b z : Sink) → a ≡ emit s (0x1B ∷ 0x5D ∷ 0x38 ∷ 0x3B ∷ 0x3B ∷ []) → b ≡ emit a u → z ≡ emit b (0x1B ∷ 0x5C ∷ []) → z ≡ emit s (link_order u)
+pub link_pushed : (u : List ℕ) (s a b z : Sink ℕ) → a ≡ emit s (0x1B ∷ 0x5D ∷ 0x38 ∷ 0x3B ∷ 0x3B ∷ []) → b ≡ emit a u → z ≡ emit b (0x1B ∷ 0x5C ∷ []) → z ≡ emit s (link_order u)
 unfolding link_order
 link_pushed u s a b z e f g = then_emit s a z (0x1B ∷ 0x5D ∷ 0x38 ∷ 0x3B ∷ 0x3B ∷ []) (u ++ (0x1B ∷ 0x5C ∷ [])) e (then_emit a b z u (0x1B ∷ 0x5C ∷ []) f g)
 
-module _ (a b : List ℕ) (x y : Bool) (p : x ≡ alike 16 0 a b) (q : y ≡ alike 1 24 a b) (s : Sink) where
+module _ (a b : List ℕ) (x y : Bool) (p : x ≡ alike 16 0 a b) (q : y ≡ alike 1 24 a b) (s : Sink ℕ) where
   pub style_none : (x && y) ≡ true → s ≡ emit s (style_change a b)
   style_none e = rw (← p, ← q, e) (sym (emit_none s))
 
-  pub style_some : (z : Sink) → (x && y) ≡ false → z ≡ emit s (style_order b) → z ≡ emit s (style_change a b)
+  pub style_some : (z : Sink ℕ) → (x && y) ≡ false → z ≡ emit s (style_order b) → z ≡ emit s (style_change a b)
   style_some z e w = rw (← p, ← q, e) w
 
-module _ (line a b : List ℕ) (x : Bool) (p : x ≡ alike 8 16 a b) (s : Sink) where
+module _ (line a b : List ℕ) (x : Bool) (p : x ≡ alike 8 16 a b) (s : Sink ℕ) where
   pub link_none : x ≡ true → s ≡ emit s (link_change line a b)
   link_none e = rw (← p, e) (sym (emit_none s))
 
-  pub link_some : (z : Sink) → x ≡ false → z ≡ emit s (link_order (uri line b)) → z ≡ emit s (link_change line a b)
+  pub link_some : (z : Sink ℕ) → x ≡ false → z ≡ emit s (link_order (uri line b)) → z ≡ emit s (link_change line a b)
   link_some z e w = rw (← p, e) w
 
 alike_each : (n at : ℕ) (a b : List ℕ) → T (alike n at a b) → (i : ℕ) → at ≤ i → i < at + n → get_or a i 0 ≡ get_or b i 0
@@ -148,7 +148,7 @@ same_bytes_law a b e i h = cases (eqb (length a) 25 && eqb (length b) 25)
     (λ w. absurd (true≢false (sym (rw w at e))))
 
 -- between two cells with the same body
-pub change_none : (line a b : List ℕ) (x : Bool) (s : Sink) → x ≡ same_body a b → x ≡ true → s ≡ emit s (change line a b)
+pub change_none : (line a b : List ℕ) (x : Bool) (s : Sink ℕ) → x ≡ same_body a b → x ≡ true → s ≡ emit s (change line a b)
 unfolding change
 change_none line a b x s p e =
     let f = same_bytes_law a b (sym p ∙ e) in
@@ -157,6 +157,6 @@ change_none line a b x s p e =
     let link : alike 8 16 a b ≡ true = is_true _ (alike_same 8 16 a b (λ i h k. f i (omega arith))) in
     rw (style, alignment, link) (sym (emit_none s))
 
-pub change_pushed : (line a b : List ℕ) (s m z : Sink) → m ≡ emit s (style_change a b) → z ≡ emit m (link_change line a b) → z ≡ emit s (change line a b)
+pub change_pushed : (line a b : List ℕ) (s m z : Sink ℕ) → m ≡ emit s (style_change a b) → z ≡ emit m (link_change line a b) → z ≡ emit s (change line a b)
 unfolding change
 change_pushed line a b s m z e f = then_emit s m z (style_change a b) (link_change line a b) e f

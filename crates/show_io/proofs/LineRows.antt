@@ -63,7 +63,7 @@ numbers_drawn d = record { read = record { number = d.read.number; count = d.rea
 -- ---- print_list
 
 module _ (line out : List ℕ) (t : Written) where
-  screen_printed : (n z : ℕ) (s a : Sink) → t.number ≡ 0 → n ≡ smaller_of t.count (length t.out) → a ≡ emit s (row_text line (cells (take n t.out))) → sink out z ≡ put a 0x0A → PrintedTo (screen_text line t) s out (record { number = 0; at = z })
+  screen_printed : (n z : ℕ) (s a : Sink ℕ) → t.number ≡ 0 → n ≡ smaller_of t.count (length t.out) → a ≡ emit s (row_text line (cells (take n t.out))) → sink out z ≡ put a 0x0A → PrintedTo (screen_text line t) s out (record { number = 0; at = z })
   unfolding screen_text
   screen_printed n z s a e m f g =
       rw (eq-eqb t.number 0 e)
@@ -74,7 +74,7 @@ module _ (line out : List ℕ) (t : Written) where
   screen_refused at e = rw (ne_eqb t.number 0 e) record { number = refl; text = sym (emit_none (sink out at)) }
 
 module _ (room columns : ℕ) (line list out : List ℕ) (t : Answer) (after : List ℕ) (is : written t after ≡ screen_call profile01 columns room list) where
-  pub list_printed : (n z : ℕ) (s a : Sink) → t.number ≡ 0 → n ≡ smaller_of t.count (length after) → a ≡ emit s (row_text line (cells (take n after))) → sink out z ≡ put a 0x0A → PrintedTo (list_text room columns line list) s out (record { number = 0; at = z })
+  pub list_printed : (n z : ℕ) (s a : Sink ℕ) → t.number ≡ 0 → n ≡ smaller_of t.count (length after) → a ≡ emit s (row_text line (cells (take n after))) → sink out z ≡ put a 0x0A → PrintedTo (list_text room columns line list) s out (record { number = 0; at = z })
   unfolding list_text
   list_printed n z s a e m f g = subst (λ (x : Written). PrintedTo (screen_text line x) s out (record { number = 0; at = z })) is (screen_printed line out (written t after) n z s a e m f g)
 
@@ -88,7 +88,7 @@ module _ (room columns : ℕ) (r : Answer) (conv list out : List ℕ) where
   abbrev drawn_text : Printed
   drawn_text = unless r.number (list_text room columns conv (take r.count list))
 
-  pub drawn_printed : (k : ℕ) (s : Sink) (q : RowPrinted) → r.number ≡ 0 → k ≡ smaller_of r.count (length list) → PrintedTo (list_text room columns conv (take k list)) s out q → PrintedTo drawn_text s out q
+  pub drawn_printed : (k : ℕ) (s : Sink ℕ) (q : RowPrinted) → r.number ≡ 0 → k ≡ smaller_of r.count (length list) → PrintedTo (list_text room columns conv (take k list)) s out q → PrintedTo drawn_text s out q
   drawn_printed k s q e m p = let same : take k list ≡ take r.count list = take_smaller list r.count k m in rw (eq-eqb r.number 0 e, ← same) p
 
   pub drawn_refused : (at : ℕ) → (r.number ≢ 0) → PrintedTo drawn_text (sink out at) out (record { number = r.number; at = at })
@@ -116,7 +116,7 @@ row_none room columns d h = cases (eqb d.number 0)
 
 -- ---- print_small, small_row, large_row, line_row
 
-module _ (view : View) (first room : ℕ) (line out : List ℕ) (s : Sink) (r : RowPrinted) where
+module _ (view : View) (first room : ℕ) (line out : List ℕ) (s : Sink ℕ) (r : RowPrinted) where
   abbrev small_of : Drawn
   small_of = drawn_row 2048 64 2048 view first line
 
@@ -138,7 +138,7 @@ module _ (view : View) (first room : ℕ) (line out : List ℕ) (s : Sink) (r : 
   unfolding small_row
   wide_printed h e p = rw (lt-leb view.width 128 h) (rw e at p)
 
-abbrev pub list_of : Sink → List ℕ
+abbrev pub list_of : Sink ℕ → List ℕ
 list_of (sink l r) = l
 
 module _ (view : View) (first : ℕ) (line out₀ out : List ℕ) (at : ℕ) (a : RowPrinted) (p : PrintedTo (small_row view line first) (sink out₀ at) out a) where
@@ -154,7 +154,7 @@ module _ (view : View) (first : ℕ) (line out₀ out : List ℕ) (at : ℕ) (a 
       let same : out ≡ out₀ = ap list_of (p.text ∙ ap (emit (sink out₀ at)) none ∙ emit_none (sink out₀ at)) in
       rw (le-ltb 256 (length line) h, ne_eqb (small_row view line first).number 0 differs) (rw same at q)
 
-pub line_long : (view : View) (first : ℕ) (line out : List ℕ) (s : Sink) (r : RowPrinted) → 256 < length line → PrintedTo (large_row view line first) s out r → PrintedTo (line_row view line first) s out r
+pub line_long : (view : View) (first : ℕ) (line out : List ℕ) (s : Sink ℕ) (r : RowPrinted) → 256 < length line → PrintedTo (large_row view line first) s out r → PrintedTo (line_row view line first) s out r
 unfolding line_row
 line_long view first line out s r h p = rw (lt-ltb 256 (length line) h) p
 
@@ -258,7 +258,7 @@ module _ (name : List ℕ) (number : ℕ) (view : View) (line : List ℕ) where
           record {
             within = omega arith;
             long = l ∙ w.long;
-            work = ap (λ (x : Sink). emit x (from (i + 1) (count - (i + 1)))) is.text ∙ sym (emit_append (sink out a) t (from (i + 1) (count - (i + 1))))
+            work = ap (λ (x : Sink ℕ). emit x (from (i + 1) (count - (i + 1)))) is.text ∙ sym (emit_append (sink out a) t (from (i + 1) (count - (i + 1))))
                 ∙ ap (λ (k : ℕ). emit (sink out a) (t ++ from k (count - (i + 1)))) next
                 ∙ ap (emit (sink out a)) (sym (from_more i (count - i) (count - (i + 1)) (omega arith) (sym is.number ∙ e))) ∙ w.work;
           }
@@ -267,7 +267,7 @@ module _ (name : List ℕ) (number : ℕ) (view : View) (line : List ℕ) where
       rows_refused out'' r e f =
           let row : Printed = line_row view line i in
           let differs : row.number ≢ 0 = λ z. e (is.number ∙ z) in
-          f ∙ ap₂ (λ (x : Sink) (k : ℕ). emit x (refusal_text name number k)) (is.text ∙ ap (emit (sink out a)) (refused_text_law view i line differs) ∙ emit_none (sink out a)) is.number
+          f ∙ ap₂ (λ (x : Sink ℕ) (k : ℕ). emit x (refusal_text name number k)) (is.text ∙ ap (emit (sink out a)) (refused_text_law view i line differs) ∙ emit_none (sink out a)) is.number
           ∙ ap (emit (sink out a)) (sym (from_refused i (count - i) (count - (i + 1)) (omega arith) differs)) ∙ w.work
 
 -- ---- push_line
@@ -294,7 +294,7 @@ module _ (name : List ℕ) (number : ℕ) (view : View) (line : List ℕ) where
   unfolding all_rows
   refusal_text_law h e = sym (ap (λ (b : Bool). cond b (rows_from name number view line 0 h.count) (refusal_text name number h.number)) (ne_eqb h.number 0 e))
 
-  module _ (s z : Sink) where
+  module _ (s z : Sink ℕ) where
     pub line_window : view.mode ≡ 0 → z ≡ emit s (rows_from name number view line 0 1) → z ≡ emit s (line_text name number view line)
     line_window e p = p ∙ ap (emit s) (line_chosen (eq-eqb view.mode 0 e) refl)
 

@@ -77,10 +77,12 @@ not_end (x ∷ piece) e = absurd (omega arith)
 -- ---- keep
 
 take_within : (m : ℕ) (l : List ℕ) → take (smaller_of (length l) m) l ≡ take m l
-take_within m l = cases (leb (length l) m) (λ e. let h = leb-true (length l) m e in rw e (take-length l ∙ sym (take_all m l (omega arith)))) (λ e. rw e refl)
+take_within m l = cases (leb (length l) m)
+    (λ e. let h = leb-true (length l) m e in let k : smaller_of (length l) m ≡ length l = omega arith in rw k (take-length l ∙ sym (take_all m l (omega arith))))
+    (λ e. let h = leb-false (length l) m e in ap (λ (k : ℕ). take k l) (omega arith))
 
 rest : (n m : ℕ) → m - smaller_of n m ≡ m - n
-rest n m = cases (leb n m) (λ e. rw e refl) (λ e. let h = leb-false n m e in rw e (omega arith))
+rest n m = omega arith
 
 module _ (before piece : List ℕ) (kept from n : ℕ) (is : from ≡ smaller_of kept (length before)) (size : n ≡ smaller_of (length piece) (length before - from)) where
   from_within : from ≤ length before
@@ -119,10 +121,10 @@ pub not_long : (before at : ℕ) → at ≤ before → false ≡ ltb 524288 (at 
 not_long before at h = sym (le-ltb 524288 (at - before) (omega arith))
 
 module _ (name : List ℕ) (number before at : ℕ) (out : List ℕ) (long : Bool) (is : long ≡ ltb 524288 (at - before)) where
-  abbrev refused : Sink
+  abbrev refused : Sink ℕ
   refused = emit (sink out before) (refusal_text name number 9)
 
-  pub fits_not : (z : Sink) → (ltb (length out) at || long) ≡ true → z ≡ refused → z ≡ fitted_of name number before (sink out at)
+  pub fits_not : (z : Sink ℕ) → (ltb (length out) at || long) ≡ true → z ≡ refused → z ≡ fitted_of name number before (sink out at)
   unfolding fitted_of
   fits_not z h e = e ∙ sym (ap (λ (x : Bool). cond x refused (sink out at)) (ap (λ (x : Bool). ltb (length out) at || x) (sym is) ∙ h))
 
@@ -156,7 +158,7 @@ module _ (name : List ℕ) (view : View) (room : ℕ) (t : State) (piece : List 
   piece_open e = sym (ap (λ (x : Bool). cond x ended goes_on) e)
 
 module _ (name : List ℕ) (view : View) (t : State) (line : List ℕ) where
-  pub line_printed : (number : ℕ) (s z : Sink) → number ≡ next_number t.number → s ≡ emit t.printed (line_text name number view line) → z ≡ fitted_of name number (count_of t.printed) s → z ≡ with_line name view t line
+  pub line_printed : (number : ℕ) (s z : Sink ℕ) → number ≡ next_number t.number → s ≡ emit t.printed (line_text name number view line) → z ≡ fitted_of name number (count_of t.printed) s → z ≡ with_line name view t line
   unfolding with_line
   line_printed number s z e f g =
       g ∙ ap (fitted_of name number (count_of t.printed)) f
@@ -174,7 +176,7 @@ module _ (name piece before after out₀ : List ℕ) (view : View) (st : Reading
   piece_ends out₁ out number at r e f g h =
       let l : List ℕ = begun name view (length before) (take st.kept before) piece in
       let z : sink out r ≡ with_line name view t₀ l = line_printed name view t₀ l number (sink out₁ at) (sink out r) f (g ∙ ap (λ (y : List ℕ). emit (sink out₀ st.at) (line_text name number view y)) kept_line) h in
-      ap₂ (λ (n : ℕ) (y : Sink). state n [] y) f z ∙ piece_end name view (length before) t₀ piece (sym test ∙ e)
+      ap₂ (λ (n : ℕ) (y : Sink ℕ). state n [] y) f z ∙ piece_end name view (length before) t₀ piece (sym test ∙ e)
 
   pub piece_goes_on : x ≡ false → state_of (record { number = st.number; kept = kept; at = st.at }) after out₀ ≡ with_piece name view (length before) t₀ piece
   piece_goes_on e = ap (λ (y : List ℕ). state st.number y (sink out₀ st.at)) kept_line ∙ piece_open name view (length before) t₀ piece (sym test ∙ e)
@@ -251,7 +253,7 @@ module _ (name line out : List ℕ) (view : View) (st : Reading) where
   pub last_none : st.kept ≡ 0 → sink out st.at ≡ last_of name view st line out
   last_none e = sym (ap (λ (x : Bool). cond x (sink out st.at) (with_line name view (state_of st line out) (take st.kept line))) (eq-eqb st.kept 0 e))
 
-  pub last_line : (kept number at : ℕ) (out₁ : List ℕ) (z : Sink) → (st.kept ≢ 0) → kept ≡ smaller_of st.kept (length line) → number ≡ next_number st.number → sink out₁ at ≡ emit (sink out st.at) (line_text name number view (take kept line)) → z ≡ fitted_of name number st.at (sink out₁ at) → z ≡ last_of name view st line out
+  pub last_line : (kept number at : ℕ) (out₁ : List ℕ) (z : Sink ℕ) → (st.kept ≢ 0) → kept ≡ smaller_of st.kept (length line) → number ≡ next_number st.number → sink out₁ at ≡ emit (sink out st.at) (line_text name number view (take kept line)) → z ≡ fitted_of name number st.at (sink out₁ at) → z ≡ last_of name view st line out
   last_line kept number at out₁ z e f g h i =
       let t : State = state_of st line out in
       let l : List ℕ = take st.kept line in

@@ -7,7 +7,7 @@ use mathlib.Core.List.{List, [], ◌∷◌, ◌++◌, append_assoc}
 use lib.ListN.{length, take, drop, get_or, drop_of_length-le}
 use lib.Seq.{drop-cons, drop-drop}
 use lib.Dec.{leb}
-use borrow.Author.Tests.{leb-false}
+use borrow.Author.Tests.{leb-true, leb-false}
 use Rattle.text.specs.Tests.{cases}
 use Rattle.buffer.specs.Sink.{Sink, sink, emit}
 use Rattle.buffer.specs.Sink.Laws.{then_emit, emit_append}
@@ -52,8 +52,12 @@ module _ (row : List ℕ) (at : ℕ) where
       same e f = rw (e, f)
 
   behind_is : drop (places_at row at).end row ≡ drop (at + 4 + n + body_size) row
-  behind_is = cases (leb (at + 4 + n + body_size) len) (λ e. rw e refl)
-      (λ e. let h = leb-false (at + 4 + n + body_size) len e in rw (e, drop_of_length-le row (let g : len ≤ len = omega arith in g), drop_of_length-le row (let g : len ≤ at + 4 + n + body_size = omega arith in g)) refl)
+  behind_is = cases (leb (at + 4 + n + body_size) len)
+      (λ e. let h = leb-true (at + 4 + n + body_size) len e in ap (λ (k : ℕ). drop k row) (omega arith))
+      (λ e.
+      let h = leb-false (at + 4 + n + body_size) len e in
+      let k : (places_at row at).end ≡ len = omega arith in
+      rw (k, drop_of_length-le row (let g : len ≤ len = omega arith in g), drop_of_length-le row (let g : len ≤ at + 4 + n + body_size = omega arith in g)) refl)
 
   cells_next : at < len → cells (drop at row) ≡ cell (cluster_in row (places_at row at)) (body_in row (places_at row at)) ∷ cells (drop (places_at row at).end row)
   cells_next h =
@@ -63,14 +67,14 @@ module _ (row : List ℕ) (at : ℕ) where
       ∙ ap₂ (λ (c : Cell) (s : List ℕ). c ∷ cells s) cell_is (drop-drop (n + body_size + 3) (suc at) row ∙ ap (λ (k : ℕ). drop k row) (let e : suc at + (n + body_size + 3) ≡ at + 4 + n + body_size = omega arith in e) ∙ sym behind_is)
 
   further_on : at < len → at < (places_at row at).end
-  further_on h = cases (leb (at + 4 + n + body_size) len) (λ e. rw e (omega arith)) (λ e. rw e h)
+  further_on h = omega arith
 
 -- ---- push_cell
 
-pub cell_pushed : (line row : List ℕ) (was next : Places) (s a z : Sink) → a ≡ emit s (change line (body_in row was) (body_in row next)) → z ≡ emit a (cluster_in row next) → z ≡ emit s (cell_text line row was next)
+pub cell_pushed : (line row : List ℕ) (was next : Places) (s a z : Sink ℕ) → a ≡ emit s (change line (body_in row was) (body_in row next)) → z ≡ emit a (cluster_in row next) → z ≡ emit s (cell_text line row was next)
 cell_pushed line row was next s a z e f = then_emit s a z _ _ e f
 
-pub cell_same : (line row : List ℕ) (was next : Places) (x : Bool) (s z : Sink) → x ≡ same_body (body_in row was) (body_in row next) → x ≡ true → z ≡ emit s (cluster_in row next) → z ≡ emit s (cell_text line row was next)
+pub cell_same : (line row : List ℕ) (was next : Places) (x : Bool) (s z : Sink ℕ) → x ≡ same_body (body_in row was) (body_in row next) → x ≡ true → z ≡ emit s (cluster_in row next) → z ≡ emit s (cell_text line row was next)
 cell_same line row was next x s z p e f = then_emit s s z _ _ (change_none line (body_in row was) (body_in row next) x s p e) f
 
 -- ---- push_row
@@ -115,5 +119,5 @@ module _ (out₀ : List ℕ) (at₀ : ℕ) (line row out : List ℕ) (a p : ℕ)
           inside = next_in.end;
           places = next_in;
           long = l ∙ w.long;
-          work = ap (λ (s : Sink). emit s (text_from line (body_in row next) cs)) e ∙ sym (emit_append (sink out a) (cell_text line row was next) (text_from line (body_in row next) cs)) ∙ ap (emit (sink out a)) (sym text) ∙ w.work;
+          work = ap (λ (s : Sink ℕ). emit s (text_from line (body_in row next) cs)) e ∙ sym (emit_append (sink out a) (cell_text line row was next) (text_from line (body_in row next) cs)) ∙ ap (emit (sink out a)) (sym text) ∙ w.work;
         }

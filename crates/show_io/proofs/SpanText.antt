@@ -38,17 +38,17 @@ use Rattle.buffer.specs.Numbers.Parts.{take_smaller}
 
 -- ---- kinds
 
-pub sequence_last : (n : ℕ) (s z : Sink) → (n ≢ 6) → (n ≢ 7) → (n ≢ 8) → (n ≢ 9) → z ≡ emit s (sequence_word 13) → z ≡ emit s (sequence_word n)
+pub sequence_last : (n : ℕ) (s z : Sink ℕ) → (n ≢ 6) → (n ≢ 7) → (n ≢ 8) → (n ≢ 9) → z ≡ emit s (sequence_word 13) → z ≡ emit s (sequence_word n)
 unfolding sequence_word
 sequence_last n s z a b c d p = rw (ne_eqb n 6 a, ne_eqb n 7 b, ne_eqb n 8 c, ne_eqb n 9 d) p
 
-pub kind_last : (n : ℕ) (s z : Sink) → (n ≢ 1) → (n ≢ 2) → (n ≢ 3) → (n ≢ 4) → (n ≢ 5) → (n ≢ 10) → (n ≢ 11) → (n ≢ 12) → z ≡ emit s (sequence_word n) → z ≡ emit s (kind_word n)
+pub kind_last : (n : ℕ) (s z : Sink ℕ) → (n ≢ 1) → (n ≢ 2) → (n ≢ 3) → (n ≢ 4) → (n ≢ 5) → (n ≢ 10) → (n ≢ 11) → (n ≢ 12) → z ≡ emit s (sequence_word n) → z ≡ emit s (kind_word n)
 unfolding kind_word
 kind_last n s z a b c d e f g h p = rw (ne_eqb n 1 a, ne_eqb n 2 b, ne_eqb n 3 c, ne_eqb n 4 d, ne_eqb n 5 e, ne_eqb n 10 f, ne_eqb n 11 g, ne_eqb n 12 h) p
 
 -- ---- bytes
 
-module _ (s z : Sink) (b : ℕ) where
+module _ (s z : Sink ℕ) (b : ℕ) where
   pub byte_plain : (leb 0x20 b && leb b 0x7E) ≡ true → z ≡ put s b → z ≡ emit s (visible_byte b)
   unfolding visible_byte
   byte_plain e p = rw e (emit_put s z b p)
@@ -66,24 +66,24 @@ unfolding visible
 visible_more b l = refl
 
 -- what is left to write behind i bytes
-pub record VisibleLeft (s₀ : Sink) (l : List ℕ) (s : Sink) (i : ℕ) : Type 0 where
+pub record VisibleLeft (s₀ : Sink ℕ) (l : List ℕ) (s : Sink ℕ) (i : ℕ) : Type 0 where
   pub work : emit s (visible (drop i l)) ≡ emit s₀ (visible l)
 
-pub visible_begin : (s : Sink) (l : List ℕ) → VisibleLeft s l s 0
+pub visible_begin : (s : Sink ℕ) (l : List ℕ) → VisibleLeft s l s 0
 visible_begin s l = record { work = refl }
 
-module _ (s₀ : Sink) (l : List ℕ) (s : Sink) (i : ℕ) (left : VisibleLeft s₀ l s i) where
-  pub visible_turn : (s' : Sink) → i < length l → s' ≡ emit s (visible_byte (get_or l i 0)) → VisibleLeft s₀ l s' (i + 1)
+module _ (s₀ : Sink ℕ) (l : List ℕ) (s : Sink ℕ) (i : ℕ) (left : VisibleLeft s₀ l s i) where
+  pub visible_turn : (s' : Sink ℕ) → i < length l → s' ≡ emit s (visible_byte (get_or l i 0)) → VisibleLeft s₀ l s' (i + 1)
   visible_turn s' h e =
       let b : ℕ = get_or l i 0 in
       let p : visible (drop i l) ≡ visible_byte b ++ visible (drop (i + 1) l) =
       ap visible (drop-cons l i 0 h ∙ ap (λ (k : ℕ). b ∷ drop k l) (sym (add-one i))) ∙ visible_more b (drop (i + 1) l) in
-      record { work = ap (λ (x : Sink). emit x (visible (drop (i + 1) l))) e ∙ sym (emit_append s (visible_byte b) (visible (drop (i + 1) l))) ∙ ap (emit s) (sym p) ∙ left.work }
+      record { work = ap (λ (x : Sink ℕ). emit x (visible (drop (i + 1) l))) e ∙ sym (emit_append s (visible_byte b) (visible (drop (i + 1) l))) ∙ ap (emit s) (sym p) ∙ left.work }
 
   pub visible_end : length l ≤ i → s ≡ emit s₀ (visible l)
   visible_end h = sym (emit_none s) ∙ ap (emit s) (sym (ap visible (drop_of_length-le l h) ∙ visible_none)) ∙ left.work
 
-module _ (s z : Sink) (kind : ℕ) (l : List ℕ) where
+module _ (s z : Sink ℕ) (kind : ℕ) (l : List ℕ) where
   pub shown_plain : kind ≡ 1 → z ≡ emit s l → z ≡ emit s (shown kind l)
   unfolding shown
   shown_plain e p = rw (eq-eqb kind 1 e) p
@@ -92,20 +92,20 @@ module _ (s z : Sink) (kind : ℕ) (l : List ℕ) where
   unfolding shown
   shown_visible e p = rw (ne_eqb kind 1 e) p
 
-pub part_pushed : (conv : List ℕ) (place len from n kind : ℕ) → from ≡ smaller_of place (length conv) → n ≡ smaller_of len (length conv - from) → (s z : Sink) → z ≡ emit s (shown kind (take (from + n - from) (drop from conv))) → z ≡ emit s (shown kind (take len (drop place conv)))
+pub part_pushed : (conv : List ℕ) (place len from n kind : ℕ) → from ≡ smaller_of place (length conv) → n ≡ smaller_of len (length conv - from) → (s z : Sink ℕ) → z ≡ emit s (shown kind (take (from + n - from) (drop from conv))) → z ≡ emit s (shown kind (take len (drop place conv)))
 part_pushed conv place len from n kind is cut s z p = p ∙ ap (λ (l : List ℕ). emit s (shown kind l)) (part_is conv place from is len n cut)
 
 -- ---- a span
 
-pub head_pushed : (number kind : ℕ) (s a b c z : Sink) → a ≡ emit s (decimal number) → b ≡ emit a (0x3A ∷ 0x20 ∷ []) → c ≡ emit b (kind_word kind) → z ≡ put c 0x20 → z ≡ emit s (head_text number kind)
+pub head_pushed : (number kind : ℕ) (s a b c z : Sink ℕ) → a ≡ emit s (decimal number) → b ≡ emit a (0x3A ∷ 0x20 ∷ []) → c ≡ emit b (kind_word kind) → z ≡ put c 0x20 → z ≡ emit s (head_text number kind)
 unfolding head_text
 head_pushed number kind s a b c z e f g h = then_emit s a z (decimal number) _ e (then_emit a b z (0x3A ∷ 0x20 ∷ []) _ f (then_put b c z (kind_word kind) 0x20 g h))
 
-pub place_pushed : (place len : ℕ) (s a b c z : Sink) → a ≡ emit s (decimal place) → b ≡ put a 0x20 → c ≡ emit b (decimal len) → z ≡ put c 0x20 → z ≡ emit s (place_text place len)
+pub place_pushed : (place len : ℕ) (s a b c z : Sink ℕ) → a ≡ emit s (decimal place) → b ≡ put a 0x20 → c ≡ emit b (decimal len) → z ≡ put c 0x20 → z ≡ emit s (place_text place len)
 unfolding place_text
 place_pushed place len s a b c z e f g h = then_emit s a z (decimal place) _ e (then_emit a b z (0x20 ∷ []) _ (emit_put a b 0x20 f) (then_put b c z (decimal len) 0x20 g h))
 
-pub span_pushed : (number : ℕ) (conv : List ℕ) (kind place len : ℕ) (s a b c z : Sink) → a ≡ emit s (head_text number kind) → b ≡ emit a (place_text place len) → c ≡ emit b (shown kind (take len (drop place conv))) → z ≡ put c 0x0A → z ≡ emit s (span_text number conv kind place len)
+pub span_pushed : (number : ℕ) (conv : List ℕ) (kind place len : ℕ) (s a b c z : Sink ℕ) → a ≡ emit s (head_text number kind) → b ≡ emit a (place_text place len) → c ≡ emit b (shown kind (take len (drop place conv))) → z ≡ put c 0x0A → z ≡ emit s (span_text number conv kind place len)
 unfolding span_text
 span_pushed number conv kind place len s a b c z e f g h =
     then_emit s a z (head_text number kind) _ e (then_emit a b z (place_text place len) _ f (then_put b c z (shown kind (take len (drop place conv))) 0x0A g h))
@@ -134,19 +134,19 @@ module _ (number : ℕ) (conv : List ℕ) where
   numbers_more k p n m ns = refl
 
   -- what is left to write behind i spans
-  pub record NumbersLeft (s₀ : Sink) (ns : List ℕ) (s : Sink) (i : ℕ) : Type 0 where
+  pub record NumbersLeft (s₀ : Sink ℕ) (ns : List ℕ) (s : Sink ℕ) (i : ℕ) : Type 0 where
     pub work : emit s (numbers_text number conv (drop (4 * i) ns)) ≡ emit s₀ (numbers_text number conv ns)
 
-  pub numbers_begin : (s : Sink) (ns : List ℕ) → NumbersLeft s ns s 0
+  pub numbers_begin : (s : Sink ℕ) (ns : List ℕ) → NumbersLeft s ns s 0
   numbers_begin s ns = record { work = refl }
 
-  module _ (s₀ : Sink) (ns : List ℕ) (s : Sink) (i : ℕ) (left : NumbersLeft s₀ ns s i) where
-    pub numbers_turn : (s' : Sink) → i < length ns / 4 → s' ≡ emit s (span_text number conv (get_or ns (4 * i) 0) (get_or ns (4 * i + 1) 0) (get_or ns (4 * i + 2) 0)) → NumbersLeft s₀ ns s' (i + 1)
+  module _ (s₀ : Sink ℕ) (ns : List ℕ) (s : Sink ℕ) (i : ℕ) (left : NumbersLeft s₀ ns s i) where
+    pub numbers_turn : (s' : Sink ℕ) → i < length ns / 4 → s' ≡ emit s (span_text number conv (get_or ns (4 * i) 0) (get_or ns (4 * i + 1) 0) (get_or ns (4 * i + 2) 0)) → NumbersLeft s₀ ns s' (i + 1)
     numbers_turn s' h e =
         let t : List ℕ = span_text number conv (get_or ns (4 * i) 0) (get_or ns (4 * i + 1) 0) (get_or ns (4 * i + 2) 0) in
         let more : List ℕ = numbers_text number conv (drop (4 * (i + 1)) ns) in
         let p : numbers_text number conv (drop (4 * i) ns) ≡ t ++ more = ap (numbers_text number conv) (four_at ns i h) ∙ numbers_more _ _ _ _ _ in
-        record { work = ap (λ (x : Sink). emit x more) e ∙ sym (emit_append s t more) ∙ ap (emit s) (sym p) ∙ left.work }
+        record { work = ap (λ (x : Sink ℕ). emit x more) e ∙ sym (emit_append s t more) ∙ ap (emit s) (sym p) ∙ left.work }
 
     pub numbers_end : length ns / 4 ≤ i → s ≡ emit s₀ (numbers_text number conv ns)
     numbers_end h =
@@ -163,7 +163,7 @@ numbers_few n count h = sym (smaller_second (4 * count) n (omega arith))
 
 -- ---- an answer
 
-module _ (name : List ℕ) (number refusal count : ℕ) (conv ns : List ℕ) (s z : Sink) where
+module _ (name : List ℕ) (number refusal count : ℕ) (conv ns : List ℕ) (s z : Sink ℕ) where
   pub answer_spans : (n : ℕ) → refusal ≡ 0 → n ≡ smaller_of (4 * count) (length ns) → z ≡ emit s (numbers_text number conv (take n ns)) → z ≡ emit s (answer_text name number refusal count conv ns)
   unfolding answer_text
   answer_spans n e f p = rw (eq-eqb refusal 0 e) (p ∙ ap (λ (l : List ℕ). emit s (numbers_text number conv l)) (take_smaller ns (4 * count) n f))
@@ -215,7 +215,7 @@ module _ (line : List ℕ) where
       (λ e. rw (is.number, is.count, is.bytes, is.records, e) (ap (numbers_text number call.conv) (numbers_front (eqb-true call.number 0 e)) ∙ numbers_text_law number call.conv (take call.count call.spans)))
       (λ e. rw (is.number, e) refl)
 
-pub spans_pushed : (name : List ℕ) (number c n m : ℕ) (line : List ℕ) (a : Answer) (conv ns : List ℕ) (s z : Sink) → c ≡ 32768 → n ≡ 8192 → m ≡ 8192 → ReadNumbers (read_call profile01 c (places_in n) [] line) m a conv ns → z ≡ emit s (answer_text name number a.number a.count conv ns) → z ≡ emit s (spans_text name number line)
+pub spans_pushed : (name : List ℕ) (number c n m : ℕ) (line : List ℕ) (a : Answer) (conv ns : List ℕ) (s z : Sink ℕ) → c ≡ 32768 → n ≡ 8192 → m ≡ 8192 → ReadNumbers (read_call profile01 c (places_in n) [] line) m a conv ns → z ≡ emit s (answer_text name number a.number a.count conv ns) → z ≡ emit s (spans_text name number line)
 unfolding spans_text
 spans_pushed name number c n m line a conv ns s z e f g is p =
     let r : ReadNumbers (read_call profile01 32768 2048 [] line) 8192 a conv ns = rw (e, f, g) at is in

@@ -38,9 +38,9 @@ is_end s = eqb (get_or s (length s - 1) 0) 0x0A
 pub record State : Type 0 where
   pub number : ℕ
   pub line : List ℕ
-  pub printed : Sink
+  pub printed : Sink ℕ
 
-abbrev pub state : ℕ → List ℕ → Sink → State
+abbrev pub state : ℕ → List ℕ → Sink ℕ → State
 state n l s = record { number = n; line = l; printed = s }
 
 -- what was read of a part, and the pieces that are left of it
@@ -55,17 +55,17 @@ read t ps = record { state = t; rest = ps }
 abbrev pub next_number : ℕ → ℕ
 next_number n = cond (ltb n 0xFFFFFFFFFFFFFFFF) (n + 1) n
 
-abbrev pub count_of : Sink → ℕ
+abbrev pub count_of : Sink ℕ → ℕ
 count_of (sink l r) = r
 
 -- a line printed behind a count, or a refusal there where it printed more than 524,288 bytes or did not fit
-unfoldable pub fitted_of : (name : List ℕ) (number before : ℕ) → Sink → Sink
+unfoldable pub fitted_of : (name : List ℕ) (number before : ℕ) → Sink ℕ → Sink ℕ
 unfolding refusal_text
 fitted_of name number before (sink l r) = cond (ltb (length l) r || ltb 524288 (r - before)) (emit (sink l before) (refusal_text name number 9)) (sink l r)
 
 module _ (name : List ℕ) (view : View) where
   -- a whole line
-  unfoldable pub with_line : State → List ℕ → Sink
+  unfoldable pub with_line : State → List ℕ → Sink ℕ
   unfolding fitted_of line_text
   with_line t line = fitted_of name (next_number t.number) (count_of t.printed) (emit t.printed (line_text name (next_number t.number) view line))
 

@@ -5,7 +5,7 @@ ghost use Rattle.show_io.specs.Input.{line_length, pieces, is_end, next_number, 
 ghost use Rattle.show_io.specs.Input.Contracts.{Kept, state_of, read_of, last_of};
 
 use super::lines::{View, push_line, push_refusal};
-use buffer::{push_bytes, smaller};
+use buffer::push_all;
 
 // From so many printed bytes on, no further line is begun.
 const ENOUGH: usize = 65536;
@@ -64,9 +64,9 @@ fn next_number(n: usize) -> usize
 fn keep(line: &mut [u8], kept: usize, piece: &[u8]) -> usize
     ensures { Kept line.old kept piece.now line.new result }
 {
-    let from = smaller(kept, line.len());
-    let n = smaller(piece.len(), line.len() - from);
-    push_bytes(line, from, &piece[..n])
+    let from = kept.min(line.len());
+    let n = piece.len().min(line.len() - from);
+    push_all(line, from, &piece[..n])
 }
 
 // Did a line print more than it may?
@@ -105,14 +105,14 @@ fn with_piece(
         let number = next_number(state.number);
         let at = push_line(out, state.at, name, number, view, &line[..kept]);
         return Reading {
-            number: number,
+            number,
             kept: 0,
             at: fitted(out, at, name, number, state.at),
         };
     }
     Reading {
         number: state.number,
-        kept: kept,
+        kept,
         at: state.at,
     }
 }
@@ -133,19 +133,13 @@ pub fn with_part(
     let mut p = from;
     while p < part.len() {
         if ENOUGH <= reading.at {
-            return Progress {
-                reading: reading,
-                place: p,
-            };
+            return Progress { reading, place: p };
         }
         let e = line_end(part, p);
         reading = with_piece(name, view, reading, &part[p..e], line, out);
         p = e;
     }
-    Progress {
-        reading: reading,
-        place: p,
-    }
+    Progress { reading, place: p }
 }
 
 // The last line, where no newline ends it.
@@ -155,7 +149,7 @@ pub fn with_last(name: &[u8], view: View, state: Reading, line: &[u8], out: &mut
     if state.kept == 0 {
         return state.at;
     }
-    let kept = smaller(state.kept, line.len());
+    let kept = state.kept.min(line.len());
     let number = next_number(state.number);
     let at = push_line(out, state.at, name, number, view, &line[..kept]);
     fitted(out, at, name, number, state.at)

@@ -13,7 +13,7 @@ ghost use Rattle.show_io.specs.Lines.Contracts.{PrintedTo, AnswerOf, answer_text
 use super::ansi::push_row;
 use super::few_spans;
 use super::span_text::push_numbers;
-use buffer::{push_byte, push_bytes, smaller};
+use buffer::{push, push_all};
 use drawing::numbers::{draw_row_numbers, draw_window_numbers};
 use rows::numbers::{height_numbers, rows_numbers};
 use rows_io::output::push_decimal;
@@ -63,16 +63,16 @@ fn print_list(
 {
     let t = screen_row(list, columns, cells);
     if t.number == 0 {
-        let n = smaller(t.count, cells.len());
+        let n = t.count.min(cells.len());
         let a = push_row(out, at, line, &cells[..n]);
         return RowPrinted {
             number: 0,
-            at: push_byte(out, a, 0x0A),
+            at: push(out, a, 0x0A),
         };
     }
     RowPrinted {
         number: t.number,
-        at: at,
+        at,
     }
 }
 
@@ -89,12 +89,12 @@ fn print_drawn(
     ensures { PrintedTo (unless drawn.number (list_text (length cells.old) columns conv.now (take drawn.count list.now))) (sink out.old at) out.new result }
 {
     if drawn.number == 0 {
-        let n = smaller(drawn.count, list.len());
+        let n = drawn.count.min(list.len());
         return print_list(&list[..n], columns, conv, cells, out, at);
     }
     RowPrinted {
         number: drawn.number,
-        at: at,
+        at,
     }
 }
 
@@ -291,40 +291,40 @@ fn push_words(out: &mut [u8], at: usize, number: usize) -> usize
     ensures { sink out.new result ≡ emit (sink out.old at) (words number) }
 {
     if number == 1 {
-        return push_bytes(out, at, b"the line has more than 4,096 bytes");
+        return push_all(out, at, b"the line has more than 4,096 bytes");
     }
     if number == 4 {
-        return push_bytes(out, at, b"more spans than the list has places");
+        return push_all(out, at, b"more spans than the list has places");
     }
     if number == 5 {
-        return push_bytes(out, at, b"a number beyond its limit");
+        return push_all(out, at, b"a number beyond its limit");
     }
     if number == 8 {
-        return push_bytes(out, at, b"a cluster wider than the window");
+        return push_all(out, at, b"a cluster wider than the window");
     }
     if number == 9 {
-        return push_bytes(out, at, b"more to print than there is room for");
+        return push_all(out, at, b"more to print than there is room for");
     }
-    push_bytes(out, at, b"not drawn")
+    push_all(out, at, b"not drawn")
 }
 
 // `refused`, a refusal's number and its words.
 fn push_refused(out: &mut [u8], at: usize, number: usize) -> usize
     ensures { sink out.new result ≡ emit (sink out.old at) (refused_text number) }
 {
-    let a = push_bytes(out, at, b": refused ");
+    let a = push_all(out, at, b": refused ");
     let b = push_decimal(out, a, number);
-    let c = push_bytes(out, b, b": ");
+    let c = push_all(out, b, b": ");
     let d = push_words(out, c, number);
-    push_byte(out, d, 0x0A)
+    push(out, d, 0x0A)
 }
 
 // `NAME:LINE: refused N: words`.
 pub fn push_refusal(out: &mut [u8], at: usize, name: &[u8], line: usize, number: usize) -> usize
     ensures { sink out.new result ≡ emit (sink out.old at) (refusal_text name.now line number) }
 {
-    let a = push_bytes(out, at, name);
-    let b = push_byte(out, a, 0x3A);
+    let a = push_all(out, at, name);
+    let b = push(out, a, 0x3A);
     let c = push_decimal(out, b, line);
     push_refused(out, c, number)
 }

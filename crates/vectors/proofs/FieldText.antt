@@ -182,11 +182,11 @@ list_some : (s : List ℕ) (b : ℕ) → b ≡ get_or s 0 0 → (b ≡ 0x2D → 
 unfolding listed
 list_some s b p q = rw (ne_eqb (get_or s 0 0) 0x2D (λ e. q (p ∙ e)))
 
-pub list_begins : (k : Sink) (s : List ℕ) (b : ℕ) → b ≡ get_or s 0 0 → (b ≡ 0x2D → ⊥) → emit k (listed_from 0 s) ≡ emit k (listed s)
+pub list_begins : (k : Sink ℕ) (s : List ℕ) (b : ℕ) → b ≡ get_or s 0 0 → (b ≡ 0x2D → ⊥) → emit k (listed_from 0 s) ≡ emit k (listed s)
 list_begins k s b p q = ap (emit k) (list_some s b p q)
 
-module _ (s : List ℕ) (k : Sink) (n i : ℕ) {e : Sink} (p : emit k (listed_from n (drop i s)) ≡ e) where
-  pub list_comma : (k' : Sink) → i < length s → get_or s i 0 ≡ 0x2C → k' ≡ put k n → emit k' (listed_from 0 (drop (i + 1) s)) ≡ e
+module _ (s : List ℕ) (k : Sink ℕ) (n i : ℕ) {e : Sink ℕ} (p : emit k (listed_from n (drop i s)) ≡ e) where
+  pub list_comma : (k' : Sink ℕ) → i < length s → get_or s i 0 ≡ 0x2C → k' ≡ put k n → emit k' (listed_from 0 (drop (i + 1) s)) ≡ e
   unfolding listed_from emit
   list_comma k' h q r = rw r (rw (at_byte s i h, eq-eqb (get_or s i 0) 0x2C q) at p)
 
@@ -194,7 +194,7 @@ module _ (s : List ℕ) (k : Sink) (n i : ℕ) {e : Sink} (p : emit k (listed_fr
   unfolding listed_from
   list_digit n' h q r = rw r (rw (at_byte s i h, ne_eqb (get_or s i 0) 0x2C q) at p)
 
-  pub list_end : (k' : Sink) → length s ≤ i → k' ≡ put k n → k' ≡ e
+  pub list_end : (k' : Sink ℕ) → length s ≤ i → k' ≡ put k n → k' ≡ e
   unfolding listed_from emit
   list_end k' h r = r ∙ (rw (drop_of_length-le s h) at p)
 
@@ -211,8 +211,8 @@ hex_past [] h = refl
 hex_past (b ∷ []) h = refl
 hex_past (b ∷ b' ∷ s) h = absurd (omega arith)
 
-module _ (s : List ℕ) (k : Sink) (i : ℕ) {e : Sink} (p : emit k (hex_bytes (drop (2 * i) s)) ≡ e) where
-  pub hex_turn : (k' : Sink) (b : ℕ) → i < length s / 2 → b ≡ hex_byte (get_or s (2 * i) 0) (get_or s (2 * i + 1) 0) → k' ≡ put k b → emit k' (hex_bytes (drop (2 * (i + 1)) s)) ≡ e
+module _ (s : List ℕ) (k : Sink ℕ) (i : ℕ) {e : Sink ℕ} (p : emit k (hex_bytes (drop (2 * i) s)) ≡ e) where
+  pub hex_turn : (k' : Sink ℕ) (b : ℕ) → i < length s / 2 → b ≡ hex_byte (get_or s (2 * i) 0) (get_or s (2 * i + 1) 0) → k' ≡ put k b → emit k' (hex_bytes (drop (2 * (i + 1)) s)) ≡ e
   unfolding hex_bytes emit
   hex_turn k' b h q r = rw (r, q) (rw (pair_at_law s i h) at p)
 

@@ -8,8 +8,8 @@ use Rattle.buffer.specs.Numbers.{smaller_of}
 use Rattle.vectors.specs.Program.{part_of, input_len}
 use Rattle.buffer.specs.Numbers.Laws.{smaller_right}
 
-module _ (f : ℕ → ℕ) (k : Sink) (i end : ℕ) {e : Sink} (p : emit k (part_of f i (end - i)) ≡ e) where
-  pub part_turn : (k' : Sink) (b : ℕ) → i < end → b ≡ f i → k' ≡ put k b → emit k' (part_of f (i + 1) (end - (i + 1))) ≡ e
+module _ (f : ℕ → ℕ) (k : Sink ℕ) (i end : ℕ) {e : Sink ℕ} (p : emit k (part_of f i (end - i)) ≡ e) where
+  pub part_turn : (k' : Sink ℕ) (b : ℕ) → i < end → b ≡ f i → k' ≡ put k b → emit k' (part_of f (i + 1) (end - (i + 1))) ≡ e
   unfolding part_of emit
   part_turn k' b h q r =
       let m : end - i ≡ suc (end - (i + 1)) = omega arith in

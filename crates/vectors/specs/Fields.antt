@@ -60,7 +60,7 @@ hex_bytes (high ∷ []) = []
 hex_bytes (high ∷ low ∷ s) = hex_byte high low ∷ hex_bytes s
 
 -- a count that ends with the buffer
-abbrev pub clipped : Sink → Sink
+abbrev pub clipped : Sink ℕ → Sink ℕ
 clipped (sink l n) = sink l (smaller_of n (length l))
 
 -- xs in the front of a buffer, as many as it holds, and how many

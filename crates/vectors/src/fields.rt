@@ -3,7 +3,7 @@
 ghost use Rattle.std.specs.Prelude.{◌≡◌, ◌+◌, drop};
 ghost use Rattle.vectors.specs.Fields.{start_of, field_of, digit_of, index_of, with_digit, decimal, listed, hex_byte, hex_bytes, Filled};
 
-use buffer::{byte_at, push_byte, push_number, smaller};
+use buffer::{byte_at, push};
 
 // Where the n-th field begins, or the end where there are fewer.
 fn field_start(s: &[u8], n: usize) -> usize
@@ -79,10 +79,8 @@ pub(crate) fn number(s: &[u8], n: usize) -> usize
 {
     let digits = field(s, n);
     let mut v = 0;
-    let mut i = 0;
-    while i < digits.len() {
-        v = with_digit(v, digits[i]);
-        i += 1;
+    for b in digits {
+        v = with_digit(v, *b);
     }
     v
 }
@@ -96,18 +94,15 @@ pub(crate) fn numbers(text: &[u8], out: &mut [usize]) -> usize
     }
     let mut at = 0;
     let mut n = 0;
-    let mut i = 0;
-    while i < text.len() {
-        let b = text[i];
-        i += 1;
-        if b == b',' {
-            at = push_number(out, at, n);
+    for b in text {
+        if *b == b',' {
+            at = push(out, at, n);
             n = 0;
             continue;
         }
-        n = with_digit(n, b);
+        n = with_digit(n, *b);
     }
-    smaller(push_number(out, at, n), out.len())
+    push(out, at, n).min(out.len())
 }
 
 fn hex_byte(high: u8, low: u8) -> u8
@@ -121,10 +116,8 @@ pub(crate) fn bytes(text: &[u8], out: &mut [u8]) -> usize
     ensures { Filled out.old out.new (hex_bytes text.now) result }
 {
     let mut at = 0;
-    let mut i = 0;
-    while i < text.len() / 2 {
-        at = push_byte(out, at, hex_byte(text[2 * i], text[2 * i + 1]));
-        i += 1;
+    for i in 0..text.len() / 2 {
+        at = push(out, at, hex_byte(text[2 * i], text[2 * i + 1]));
     }
-    smaller(at, out.len())
+    at.min(out.len())
 }

@@ -22,10 +22,8 @@ pub(crate) fn print_comma(i: usize) {
 
 // The bytes from one place to another, in hexadecimal.
 pub(crate) fn print_hex(bytes: &[u8], from: usize, end: usize) {
-    let mut i = from;
-    while i < end {
+    for i in from..end {
         io::print_hex(STDOUT_FILENO, byte_at(bytes, i) as u64, 2);
-        i += 1;
     }
 }
 
@@ -46,19 +44,14 @@ pub(crate) fn print_bytes(bytes: &[u8; 32776], n: usize) {
 fn number_at(numbers: &[usize], at: usize) -> usize
     ensures { result ≡ get_or numbers.now at 0 }
 {
-    if at < numbers.len() {
-        return numbers[at];
-    }
-    0
+    numbers.get(at).copied().unwrap_or(0)
 }
 
 // The first n numbers, parted by commas.
 fn print_list(numbers: &[usize], n: usize) {
-    let mut i = 0;
-    while i < n {
+    for i in 0..n {
         print_comma(i);
         print_number(number_at(numbers, i));
-        i += 1;
     }
 }
 

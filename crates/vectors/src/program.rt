@@ -7,7 +7,7 @@ ghost use Rattle.vectors.specs.Program.{input_at, input_len, part_of};
 use super::fields;
 use super::fields::{field, number};
 use super::output::{print, print_hex, print_number};
-use buffer::{byte_at, push_byte, smaller};
+use buffer::{byte_at, push};
 use rows_io::input::{Input, begin, with_part};
 
 // The byte at a place of the input.
@@ -28,7 +28,7 @@ fn input_byte(prefix: &[u8], byte: u8, times: usize, suffix: &[u8], at: usize) -
 fn input_len(prefix: usize, times: usize, suffix: usize) -> usize
     ensures { result ≡ input_len prefix times suffix }
 {
-    smaller(prefix, 64) + smaller(times, 10000000) + smaller(suffix, 64)
+    prefix.min(64) + times.min(10000000) + suffix.min(64)
 }
 
 // The bytes from `at` to `end`, as many as `part` holds; how many.
@@ -44,12 +44,10 @@ fn fill(
     ensures { Filled part.old part.new (part_of (input_at prefix.now byte times suffix.now) at (end - at)) result }
 {
     let mut n = 0;
-    let mut i = at;
-    while i < end {
-        n = push_byte(part, n, input_byte(prefix, byte, times, suffix, i));
-        i += 1;
+    for i in at..end {
+        n = push(part, n, input_byte(prefix, byte, times, suffix, i));
     }
-    smaller(n, part.len())
+    n.min(part.len())
 }
 
 // How many bytes the program prints for what it has read, and the last 64 of them at most.
@@ -71,21 +69,13 @@ fn print_rows(prefix: &[u8], byte: u8, times: usize, suffix: &[u8], first: usize
     let mut line = [170u8; 4097];
     let mut part = io::buffer();
     let total = input_len(prefix.len(), times, suffix.len());
-    let mut at = fill(
-        prefix,
-        byte,
-        times,
-        suffix,
-        0,
-        smaller(first, total),
-        &mut part,
-    );
+    let mut at = fill(prefix, byte, times, suffix, 0, first.min(total), &mut part);
     let mut state = with_part(&mut line, begin(), &part[..at]);
     while at <= total {
         if !state.more {
             return print_text(&line, state);
         }
-        let end = at + smaller(later, total - at);
+        let end = at + later.min(total - at);
         let n = fill(prefix, byte, times, suffix, at, end, &mut part);
         state = with_part(&mut line, state, &part[..n]);
         if n < later {

@@ -12,18 +12,19 @@ fn print_scalars(line: &[u8]) {
     let mut i = 0;
     while i < line.len() {
         print_comma(i);
-        let unit = first_sequence(&line[i..]);
-        let n = unit.len;
-        if n == 0 {
-            print(b"-");
-            i += 1;
-            continue;
+        match first_sequence(&line[i..]) {
+            Some(unit) => {
+                if line.len() - i < unit.len {
+                    return;
+                }
+                print_number(unit.code as usize);
+                i += unit.len;
+            }
+            None => {
+                print(b"-");
+                i += 1;
+            }
         }
-        if line.len() - i < n {
-            return;
-        }
-        print_number(unit.code as usize);
-        i += n;
     }
 }
 

@@ -28,7 +28,7 @@ use Rattle.text.specs.Overstrike.Orders.{WithOrders, bytes, ordered}
 use Rattle.text.specs.Segmentation.Boundaries.{lone_joins}
 use Rattle.spans.specs.Sequence.{Sequence, Found, found, missing, parse}
 use Rattle.spans.specs.Sequence.Laws.{parse_stable}
-use Rattle.spans.specs.Spans.{Content, text, control, invalid, unprintable, escape, tab, crlf, lf, Span, span, ClusterKind, plain, special, escape_kind, control_kind, join_text, add_text, add_cluster, cluster_kind, read_from, read_pieces, spans_at, spans}
+use Rattle.spans.specs.Spans.{Content, text, control, invalid, unprintable, escape, tab, crlf, lf, Span, ClusterKind, plain, special, escape_kind, control_kind, join_text, add_text, add_cluster, cluster_kind, read_from, read_pieces, spans_at, spans}
 use Rattle.spans.specs.Spans.AroundSequences.{esc, kind_before, read_sequence}
 use Rattle.spans.specs.Spans.Inside.{AtMost, kind_most}
 use Rattle.columns.specs.Heights.{parts_of, parts}

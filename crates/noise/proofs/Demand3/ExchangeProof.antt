@@ -1,8 +1,8 @@
 -- Exchange: the proof.
-use Rattle.std.specs.Prelude.{◌≡◌, ◌≢◌, true, false, cond, get_or, T, eqb, leb}
+use Rattle.std.specs.Prelude.{◌≡◌, ◌≢◌, cond, get_or, T, eqb, leb}
 use Rattle.std.proofs.Math.Path.{refl, ap₂}
 use Rattle.std.proofs.Common.{sym, ap, ◌∙◌, arith, true≢false, eqb→eq}
-use Prim.Native.Nat.{ℕ, zero, suc, ◌+◌, ◌-◌}
+use Prim.Native.Nat.{ℕ, zero, suc}
 use mathlib.Core.List.{List, [], ◌∷◌, ◌++◌, append-nil}
 use Rattle.std.proofs.Math.ListN.{length}
 use Rattle.std.proofs.Math.Dec.{eqb_refl, eqb-suc-zero}

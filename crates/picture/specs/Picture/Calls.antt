@@ -22,7 +22,7 @@ use Rattle.rows.specs.Calls.Laws.{height_accepted}
 use Rattle.drawing.specs.Change.{Change, whole, encode}
 use Rattle.drawing.specs.Draw.{render_wrapped}
 use Rattle.drawing.specs.Reader.{seen_by}
-use Rattle.drawing.specs.Calls.{Drawn, row_questions, row_call}
+use Rattle.drawing.specs.Calls.{Drawn, row_questions}
 use Rattle.drawing.specs.Calls.Laws.{drawing_accepted, none_torn, row_torn}
 use Rattle.picture.specs.Picture.{row_changes, RowsShow, Picture, DrawsRow, PagingShows}
 

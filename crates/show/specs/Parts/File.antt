@@ -48,7 +48,7 @@ pieces_few (b ∷ s) =
     cases (eqb b 0x0A) (λ e. rw e (omega arith)) (λ e. rw e (omega (arith, joined_few b (pieces s))))
 
 -- with the last line, where no newline ends it
-abbrev pub ended : List ℕ → View → State → Sink
+abbrev pub ended : List ℕ → View → State → Sink ℕ
 ended name view t = cond (eqb (length t.line) 0) t.printed (with_line name view t t.line)
 
 module _ (name : List ℕ) (view : View) (short : ShortName name) where

@@ -30,7 +30,7 @@ abbrev pub told_of : List ℕ → State → Told
 told_of h t = told t.number t.line (h ++ text_of t.printed)
 
 -- in a buffer as the program lends it, with room for a line
-abbrev pub Roomy : Sink → Type 0
+abbrev pub Roomy : Sink ℕ → Type 0
 Roomy s = length (list_of s) ≡ 589824
 
 module _ (name : List ℕ) (view : View) where
@@ -59,8 +59,8 @@ module _ (name : List ℕ) (view : View) where
   -- ---- a line, a piece, pieces until enough is printed
 
   module _ (short : ShortName name) where
-    line_told : (s : Sink) (n : ℕ) (line h : List ℕ) → Roomy s → count_of s < 65536
-        → let z : Sink = fitted_of name n (count_of s) (emit s (line_text name n view line)) in (h ++ text_of z ≡ (h ++ text_of s) ++ line_shown name view n line) × Roomy z
+    line_told : (s : Sink ℕ) (n : ℕ) (line h : List ℕ) → Roomy s → count_of s < 65536
+        → let z : Sink ℕ = fitted_of name n (count_of s) (emit s (line_text name n view line)) in (h ++ text_of z ≡ (h ++ text_of s) ++ line_shown name view n line) × Roomy z
     unfolding line_shown
     line_told (sink l c) n line h size few =
         let z = fitted_text name short n (line_text name n view line) l c size few in

@@ -20,5 +20,5 @@ abbrev pub read_of : Progress → List ℕ → List ℕ → List ℕ → Read
 read_of r part line out = read (state_of r.reading line out) (pieces (drop r.place part))
 
 -- what the last line prints, where no newline ends it
-abbrev pub last_of : List ℕ → View → Reading → List ℕ → List ℕ → Sink
+abbrev pub last_of : List ℕ → View → Reading → List ℕ → List ℕ → Sink ℕ
 last_of name view r line out = cond (eqb r.kept 0) (sink out r.at) (with_line name view (state_of r line out) (take r.kept line))

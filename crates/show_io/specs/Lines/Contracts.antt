@@ -8,7 +8,7 @@ use Rattle.show_io.specs.Lines.{Printed, refusal_text}
 use Rattle.show_io.specs.declared.lines.RowPrinted.{RowPrinted}
 
 -- a refusal's number, and what is printed written to a buffer
-pub record PrintedTo (p : Printed) (before : Sink) (out : List ℕ) (r : RowPrinted) : Type 0 where
+pub record PrintedTo (p : Printed) (before : Sink ℕ) (out : List ℕ) (r : RowPrinted) : Type 0 where
   pub number : r.number ≡ p.number
   pub text : sink out r.at ≡ emit before p.text
 

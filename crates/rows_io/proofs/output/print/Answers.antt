@@ -11,4 +11,4 @@ pub slice_bounds-rows_numbers-end : goal.slice_bounds-rows_numbers-end
 slice_bounds-rows_numbers-end c = sym (length-take-le _ _ (search smaller_right))
 
 pub returns : goal.returns
-returns c = printed_of_law c.args.state.first _ c.smaller-n.result _ _ _ _ _ _ _ _ _ _ _ _ c.smaller-n.ensures c.width_of.ensures (length-replicate {A = ℕ} 32768 0) (ap places_in (length-replicate {A = ℕ} 8192 0)) (length-replicate {A = ℕ} 8192 0) c.rows_numbers-a.ensures c.push_answer.ensures
+returns c = printed_of_law c.args.state.first _ c.min-n.result _ _ _ _ _ _ _ _ _ _ _ _ c.min-n.ensures c.width_of.ensures (length-replicate {A = ℕ} 32768 0) (ap places_in (length-replicate {A = ℕ} 8192 0)) (length-replicate {A = ℕ} 8192 0) c.rows_numbers-a.ensures c.push_answer.ensures
