@@ -31,19 +31,15 @@ fn compare(code: u32, mark: &[u8], offset: u8, width: u8) {
 }
 
 fn compare_widths(code: u32, mark: &[u8], offset: u8) {
-    let mut width = 0;
-    while width <= 10 {
+    for width in 0..=10 {
         compare(code, mark, offset, width);
-        width += 1;
     }
 }
 
 // Every offset with every width.
 fn compare_mark(code: u32, mark: &[u8]) {
-    let mut offset = 0;
-    while offset <= 10 {
+    for offset in 0..=10 {
         compare_widths(code, mark, offset);
-        offset += 1;
     }
 }
 
@@ -60,19 +56,15 @@ fn compare_scalar(code: u32) {
 }
 
 pub(crate) fn compare_bytes() {
-    let mut byte: u32 = 0;
-    while byte < 256 {
-        compare_byte((byte % 256) as u8);
-        byte += 1;
+    for byte in 0..=0xFF {
+        compare_byte(byte);
     }
 }
 
 // Scalars of four, five and six digits.
 pub(crate) fn compare_scalars() {
-    let mut code: u32 = 0;
-    while code < 0x110000 {
+    for code in (0..0x110000).step_by(255) {
         compare_scalar(code);
-        code += 255;
     }
 }
 

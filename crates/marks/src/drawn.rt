@@ -4,16 +4,13 @@ ghost use Rattle.marks.specs.Composed.{continuation_of};
 
 use super::STDOUT_FILENO;
 use super::composed::{push_byte_mark, push_drawing, push_scalar_mark};
-use buffer::byte_at;
 use check::same;
 use drawing::numbers::draw_window_numbers;
 use std::num::wrapping_add_u32;
 
 fn print_line(line: &[u8]) {
-    let mut i = 0;
-    while i < line.len() {
-        io::print_hex(STDOUT_FILENO, byte_at(line, i) as u64, 2);
-        i += 1;
+    for byte in line {
+        io::print_hex(STDOUT_FILENO, *byte as u64, 2);
     }
 }
 
@@ -59,11 +56,9 @@ fn compare(line: &[u8], mark: &[u8], column: usize, start: u8, end: u8) {
 fn compare_starts(line: &[u8], mark: &[u8], column: usize, end: u8) -> u32 {
     compare(line, mark, column, 0, end);
     let mut n = 1;
-    let mut start = 1;
-    while start < end {
+    for start in 1..end {
         compare(line, mark, column, start, end);
         n = wrapping_add_u32(n, 1);
-        start += 1;
     }
     n
 }
@@ -71,10 +66,8 @@ fn compare_starts(line: &[u8], mark: &[u8], column: usize, end: u8) -> u32 {
 // Every window up to 12 columns, past the longest mark.
 fn compare_line(line: &[u8], mark: &[u8], column: usize) -> u32 {
     let mut n = 0;
-    let mut end = 0;
-    while end <= 12 {
+    for end in 0..=12 {
         n = wrapping_add_u32(n, compare_starts(line, mark, column, end));
-        end += 1;
     }
     n
 }
@@ -99,10 +92,8 @@ fn compare_byte(byte: u8) -> u32 {
 
 fn compare_byte_range(first: u8, last: u8) -> u32 {
     let mut n = 0;
-    let mut byte = first as u32;
-    while byte <= last as u32 {
-        n = wrapping_add_u32(n, compare_byte((byte % 256) as u8));
-        byte += 1;
+    for byte in first..=last {
+        n = wrapping_add_u32(n, compare_byte(byte));
     }
     n
 }
@@ -164,10 +155,8 @@ fn compare_range(first: u32, last: u32, joins: bool) -> u32
     requires { last ≤ 0x10FFFF }
 {
     let mut n = 0;
-    let mut code = first;
-    while code <= last {
+    for code in first..=last {
         n = wrapping_add_u32(n, compare_code(code, joins));
-        code += 1;
     }
     n
 }
