@@ -57,7 +57,8 @@ module _ (start : FirstLine) (s : List ℕ) (f : FirstLine) (i : ℕ) (z : Readi
   pub reading_ended : f.ended ≡ true → ◌≡◌ {A = Part} (record { first = f; at = i }) (part_of start s)
   reading_ended e = same_part (sym (bytes_ended (drop i s) f e)) (read_ended (drop i s) f e)
 
-  pub reading_past : length s ≤ i → ◌≡◌ {A = Part} (record { first = f; at = i }) (part_of start s)
+  pub reading_past : length s ≤ i → ◌≡◌ {A = Part} (record { first = f; at = length s }) (part_of start s)
   reading_past h =
       let d : drop i s ≡ [] = drop_of_length-le s h in
-      same_part (sym (bytes_none f) ∙ ap (with_bytes f) (sym d)) (ap (read_of f) d ∙ read_none f)
+      let e : length s ≡ i = omega (arith, z.low) in
+      ap (λ (n : ℕ). record { first = f; at = n }) e ∙ same_part (sym (bytes_none f) ∙ ap (with_bytes f) (sym d)) (ap (read_of f) d ∙ read_none f)

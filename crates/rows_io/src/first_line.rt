@@ -112,15 +112,16 @@ pub fn read_part(start: FirstLine, s: &[u8]) -> Part
     ensures { result ≡ part_of start s.now }
 {
     let mut f = start;
-    let mut i = 0;
-    while i < s.len() {
+    for i in 0..s.len() {
         if f.ended {
             return Part { first: f, at: i };
         }
         f = with_byte(f, s[i]);
-        i += 1;
     }
-    Part { first: f, at: i }
+    Part {
+        first: f,
+        at: s.len(),
+    }
 }
 
 // Is it width, space, mode, newline?

@@ -33,10 +33,8 @@ fn push_rows(out: &mut [u8], at: usize, pairs: &[usize]) -> usize
     ensures { sink out.new result ≡ emit (sink out.old at) (row_lines 0 pairs.now) }
 {
     let mut a = at;
-    let mut i: usize = 0;
-    while i < pairs.len() / 2 {
+    for i in 0..pairs.len() / 2 {
         a = push_row(out, a, i, pairs[2 * i], pairs[2 * i + 1]);
-        i += 1;
     }
     a
 }

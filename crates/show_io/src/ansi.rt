@@ -143,11 +143,8 @@ fn are_alike(n: usize, from: usize, a: &[u8], b: &[u8]) -> bool
     requires { from + n ≤ 25 }
     ensures { result ≡ alike n from a.now b.now }
 {
-    let mut i = 0;
-    while i < n {
-        if byte_at(a, from + i) == byte_at(b, from + i) {
-            i += 1;
-        } else {
+    for i in 0..n {
+        if byte_at(a, from + i) != byte_at(b, from + i) {
             return false;
         }
     }
@@ -180,10 +177,8 @@ fn are_same(a: &[u8], b: &[u8]) -> bool
 {
     if (a.len() == BODY_SIZE) & (b.len() == BODY_SIZE) {
         let mut same = true;
-        let mut i = 0;
-        while i < BODY_SIZE {
+        for i in 0..BODY_SIZE {
             same = same & (a[i] == b[i]);
-            i += 1;
         }
         return same;
     }

@@ -342,15 +342,12 @@ fn push_rows(
     ensures { sink out.new result ≡ emit (sink out.old at) (rows_from name.now number view line.now 0 count) }
 {
     let mut a = at;
-    let mut i = 0;
-    while i < count {
+    for i in 0..count {
         let p = line_row(line, view, i, out, a);
-        if p.number == 0 {
-            a = p.at;
-            i += 1;
-        } else {
+        if p.number != 0 {
             return push_refusal(out, p.at, name, number, p.number);
         }
+        a = p.at;
     }
     a
 }

@@ -71,10 +71,8 @@ fn push_visible(out: &mut [u8], at: usize, s: &[u8]) -> usize
     ensures { sink out.new result ≡ emit (sink out.old at) (visible s.now) }
 {
     let mut a = at;
-    let mut i = 0;
-    while i < s.len() {
-        a = push_visible_byte(out, a, s[i]);
-        i += 1;
+    for b in s {
+        a = push_visible_byte(out, a, *b);
     }
     a
 }
@@ -146,8 +144,7 @@ pub(crate) fn push_numbers(
     ensures { sink out.new result ≡ emit (sink out.old at) (numbers_text number conv.now numbers.now) }
 {
     let mut a = at;
-    let mut i: usize = 0;
-    while i < numbers.len() / 4 {
+    for i in 0..numbers.len() / 4 {
         a = push_span(
             out,
             a,
@@ -157,7 +154,6 @@ pub(crate) fn push_numbers(
             numbers[4 * i + 1],
             numbers[4 * i + 2],
         );
-        i += 1;
     }
     a
 }

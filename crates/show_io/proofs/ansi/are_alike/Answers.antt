@@ -7,8 +7,8 @@ loop-i-init c = search comparing_begins
 pub loop-i-preserved : goal.loop-i-preserved
 loop-i-preserved c = search comparing_turn
 
-pub returns-else-byte_at : goal.returns-else-byte_at
-returns-else-byte_at c = search comparing_differs
+pub returns-then-byte_at : goal.returns-then-byte_at
+returns-then-byte_at c = search comparing_differs
 
 pub returns : goal.returns
 returns c = search comparing_ends

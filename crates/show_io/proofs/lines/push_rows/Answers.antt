@@ -7,8 +7,8 @@ loop-i-init c = search rows_begin
 pub loop-i-preserved : goal.loop-i-preserved
 loop-i-preserved c = search rows_turn
 
-pub returns-else-p-eq0 : goal.returns-else-p-eq0
-returns-else-p-eq0 c = search rows_refused
+pub returns-then-p-ne0 : goal.returns-then-p-ne0
+returns-then-p-ne0 c = search rows_refused
 
 pub returns : goal.returns
 returns c = search rows_end
