@@ -8,8 +8,7 @@ use mathlib.Core.List.{List, [], ◌++◌}
 use mathlib.Core.Option.{none}
 use lib.ListN.{length, take, get_or, get_or-eq_default}
 use lib.Dec.{eqb}
-use borrow.Author.Tests.{eq-eqb, ne_eqb, le-leb, lt-leb, lt-ltb, le-ltb, eqb-true}
-use Rattle.text.specs.Tests.{cases}
+use borrow.Author.Tests.{eq-eqb, ne_eqb, le-leb, lt-leb, lt-ltb, le-ltb}
 use Rattle.text.specs.Width.{profile01}
 use Rattle.text.specs.declared.Answer.{Answer}
 use Rattle.buffer.specs.Numbers.Parts.{take_smaller}
@@ -27,10 +26,10 @@ use Rattle.text.specs.Calls.{Written}
 use Rattle.text.specs.Calls.Code.{written}
 use Rattle.show_io.specs.Ansi.{cells, row_text}
 use Rattle.show_io.specs.declared.lines.View.{View}
-use Rattle.show_io.specs.Lines.{Printed, unless, bench, window_end, drawn_row, screen_text, list_text, row_of, is_long, cells_room, columns_in, columns_of, small_row, large_row, line_row, height_of, rows_from, all_rows, line_text, refusal_text, spans_text}
+use Rattle.show_io.specs.Lines.{Printed, unless, bench, window_end, drawn_row, screen_text, list_text, row_of, columns_in, columns_of, small_row, large_row, line_row, height_of, rows_from, all_rows, line_text, refusal_text, spans_text}
 use Rattle.show_io.specs.FewSpans.{DrawnTo}
+use Rattle.std.specs.Prelude.{Result, Ok, Err}
 use Rattle.show_io.specs.Lines.Contracts.{PrintedTo, AnswerOf}
-use Rattle.show_io.specs.declared.lines.RowPrinted.{RowPrinted}
 
 -- ---- draw_small, draw_large
 
@@ -62,25 +61,26 @@ numbers_drawn d = record { read = record { number = d.read.number; count = d.rea
 
 -- ---- print_list
 
-module _ (line out : List ℕ) (t : Written) where
-  screen_printed : (n z : ℕ) (s a : Sink ℕ) → t.number ≡ 0 → n ≡ smaller_of t.count (length t.out) → a ≡ emit s (row_text line (cells (take n t.out))) → sink out z ≡ put a 0x0A → PrintedTo (screen_text line t) s out (record { number = 0; at = z })
+module _ (line out₀ out : List ℕ) (at : ℕ) (t : Written) where
+  screen_printed : (n z : ℕ) (a : Sink ℕ) → t.number ≡ 0 → n ≡ smaller_of t.count (length t.out) → a ≡ emit (sink out₀ at) (row_text line (cells (take n t.out))) → sink out z ≡ put a 0x0A → PrintedTo (screen_text line t) out₀ at out (Ok z)
   unfolding screen_text
-  screen_printed n z s a e m f g =
+  screen_printed n z a e m f g =
+      let s : Sink ℕ = sink out₀ at in
       rw (eq-eqb t.number 0 e)
-      record { number = refl; text = then_put s a (sink out z) (row_text line (cells (take t.count t.out))) 0x0A (f ∙ ap (λ (l : List ℕ). emit s (row_text line (cells l))) (take_smaller t.out t.count n m)) g }
+      (refl, then_put s a (sink out z) (row_text line (cells (take t.count t.out))) 0x0A (f ∙ ap (λ (l : List ℕ). emit s (row_text line (cells l))) (take_smaller t.out t.count n m)) g)
 
-  screen_refused : (at : ℕ) → (t.number ≢ 0) → PrintedTo (screen_text line t) (sink out at) out (record { number = t.number; at = at })
+  screen_refused : (t.number ≢ 0) → PrintedTo (screen_text line t) out at out (Err t.number)
   unfolding screen_text
-  screen_refused at e = rw (ne_eqb t.number 0 e) record { number = refl; text = sym (emit_none (sink out at)) }
+  screen_refused e = rw (ne_eqb t.number 0 e) (refl, e, refl)
 
-module _ (room columns : ℕ) (line list out : List ℕ) (t : Answer) (after : List ℕ) (is : written t after ≡ screen_call profile01 columns room list) where
-  pub list_printed : (n z : ℕ) (s a : Sink ℕ) → t.number ≡ 0 → n ≡ smaller_of t.count (length after) → a ≡ emit s (row_text line (cells (take n after))) → sink out z ≡ put a 0x0A → PrintedTo (list_text room columns line list) s out (record { number = 0; at = z })
+module _ (room columns : ℕ) (line list out₀ out : List ℕ) (at : ℕ) (t : Answer) (after : List ℕ) (is : written t after ≡ screen_call profile01 columns room list) where
+  pub list_printed : (n z : ℕ) (a : Sink ℕ) → t.number ≡ 0 → n ≡ smaller_of t.count (length after) → a ≡ emit (sink out₀ at) (row_text line (cells (take n after))) → sink out z ≡ put a 0x0A → PrintedTo (list_text room columns line list) out₀ at out (Ok z)
   unfolding list_text
-  list_printed n z s a e m f g = subst (λ (x : Written). PrintedTo (screen_text line x) s out (record { number = 0; at = z })) is (screen_printed line out (written t after) n z s a e m f g)
+  list_printed n z a e m f g = subst (λ (x : Written). PrintedTo (screen_text line x) out₀ at out (Ok z)) is (screen_printed line out₀ out at (written t after) n z a e m f g)
 
-  pub list_refused : (at : ℕ) → (t.number ≢ 0) → PrintedTo (list_text room columns line list) (sink out at) out (record { number = t.number; at = at })
+  pub list_refused : (t.number ≢ 0) → PrintedTo (list_text room columns line list) out at out (Err t.number)
   unfolding list_text
-  list_refused at e = subst (λ (x : Written). PrintedTo (screen_text line x) (sink out at) out (record { number = t.number; at = at })) is (screen_refused line out (written t after) at e)
+  list_refused e = subst (λ (x : Written). PrintedTo (screen_text line x) out at out (Err t.number)) is (screen_refused line out₀ out at (written t after) e)
 
 -- ---- print_drawn
 
@@ -88,86 +88,54 @@ module _ (room columns : ℕ) (r : Answer) (conv list out : List ℕ) where
   abbrev drawn_text : Printed
   drawn_text = unless r.number (list_text room columns conv (take r.count list))
 
-  pub drawn_printed : (k : ℕ) (s : Sink ℕ) (q : RowPrinted) → r.number ≡ 0 → k ≡ smaller_of r.count (length list) → PrintedTo (list_text room columns conv (take k list)) s out q → PrintedTo drawn_text s out q
-  drawn_printed k s q e m p = let same : take k list ≡ take r.count list = take_smaller list r.count k m in rw (eq-eqb r.number 0 e, ← same) p
+  pub drawn_printed : (k : ℕ) (out₀ : List ℕ) (at : ℕ) (q : Result ℕ ℕ) → r.number ≡ 0 → k ≡ smaller_of r.count (length list) → PrintedTo (list_text room columns conv (take k list)) out₀ at out q → PrintedTo drawn_text out₀ at out q
+  drawn_printed k out₀ at q e m p = let same : take k list ≡ take r.count list = take_smaller list r.count k m in rw (eq-eqb r.number 0 e, ← same) p
 
-  pub drawn_refused : (at : ℕ) → (r.number ≢ 0) → PrintedTo drawn_text (sink out at) out (record { number = r.number; at = at })
-  drawn_refused at e = rw (ne_eqb r.number 0 e) record { number = refl; text = sym (emit_none (sink out at)) }
+  pub drawn_refused : (at : ℕ) → (r.number ≢ 0) → PrintedTo drawn_text out at out (Err r.number)
+  drawn_refused at e = rw (ne_eqb r.number 0 e) (refl, e, refl)
 
   drawn_row_law : (d : Drawn) → DrawnTo d r conv list → drawn_text ≡ row_of room columns d
   unfolding row_of
   drawn_row_law d is = rw (is.read.number, is.read.count, is.read.line, is.changes) refl
 
--- ---- a refused row prints nothing
-
-screen_none : (line : List ℕ) (t : Written) → ((screen_text line t).number ≢ 0) → (screen_text line t).text ≡ []
-unfolding screen_text
-screen_none line t h = cases (eqb t.number 0) (λ e. absurd (h (rw e refl))) (λ e. rw e refl)
-
-list_none : (room columns : ℕ) (line list : List ℕ) → ((list_text room columns line list).number ≢ 0) → (list_text room columns line list).text ≡ []
-unfolding list_text
-list_none room columns line list h = screen_none line (screen_call profile01 columns room list) h
-
-row_none : (room columns : ℕ) (d : Drawn) → ((row_of room columns d).number ≢ 0) → (row_of room columns d).text ≡ []
-unfolding row_of
-row_none room columns d h = cases (eqb d.number 0)
-    (λ e. rw e (list_none room columns d.conv (take d.count d.list) (rw e at h)))
-    (λ e. rw e refl)
-
 -- ---- print_small, small_row, large_row, line_row
 
-module _ (view : View) (first room : ℕ) (line out : List ℕ) (s : Sink ℕ) (r : RowPrinted) where
+module _ (view : View) (first room : ℕ) (line out₀ out : List ℕ) (at : ℕ) (r : Result ℕ ℕ) where
   abbrev small_of : Drawn
   small_of = drawn_row 2048 64 2048 view first line
 
   module _ (c l : ℕ) (a : Answer) (conv list : List ℕ) where
-    pub small_printed : c ≡ 2048 → l ≡ 2048 → DrawnTo (drawn_row c 64 l view first line) a conv list → PrintedTo (drawn_text room view.width a conv list out) s out r → PrintedTo (row_of room view.width small_of) s out r
-    small_printed e f d p = subst (λ (x : Printed). PrintedTo x s out r) (drawn_row_law room view.width a conv list out small_of (rw (e, f) at d)) p
+    pub small_printed : c ≡ 2048 → l ≡ 2048 → DrawnTo (drawn_row c 64 l view first line) a conv list → PrintedTo (drawn_text room view.width a conv list out) out₀ at out r → PrintedTo (row_of room view.width small_of) out₀ at out r
+    small_printed e f d p = subst (λ (x : Printed). PrintedTo x out₀ at out r) (drawn_row_law room view.width a conv list out small_of (rw (e, f) at d)) p
 
     pub large_printed : (columns n m : ℕ) (numbers : List ℕ) → columns ≡ columns_of view first line → c ≡ 32768 → n ≡ 8192 → l ≡ 131072 → room ≡ 262144 → DrawnNumbers (drawn_row c (places_in n) l view first line) m a conv numbers list
-        → PrintedTo (drawn_text room columns a conv list out) s out r → PrintedTo (large_row view line first) s out r
+        → PrintedTo (drawn_text room columns a conv list out) out₀ at out r → PrintedTo (large_row view line first) out₀ at out r
     unfolding large_row
     large_printed columns n m numbers k e f g h d p =
-        subst (λ (x : Printed). PrintedTo x s out r) (drawn_row_law room columns a conv list out (drawn_row 32768 2048 131072 view first line) (numbers_drawn (rw (e, f, g) at d)) ∙ ap₂ (λ (i j : ℕ). row_of i j (drawn_row 32768 2048 131072 view first line)) h k) p
+        subst (λ (x : Printed). PrintedTo x out₀ at out r) (drawn_row_law room columns a conv list out (drawn_row 32768 2048 131072 view first line) (numbers_drawn (rw (e, f, g) at d)) ∙ ap₂ (λ (i j : ℕ). row_of i j (drawn_row 32768 2048 131072 view first line)) h k) p
 
-  pub narrow_printed : view.width ≤ 128 → room ≡ 4096 → PrintedTo (row_of room view.width small_of) s out r → PrintedTo (small_row view line first) s out r
+  pub narrow_printed : view.width ≤ 128 → room ≡ 4096 → PrintedTo (row_of room view.width small_of) out₀ at out r → PrintedTo (small_row view line first) out₀ at out r
   unfolding small_row
   narrow_printed h e p = rw (le-leb view.width 128 h) (rw e at p)
 
-  pub wide_printed : 128 < view.width → room ≡ 16384 → PrintedTo (row_of room view.width small_of) s out r → PrintedTo (small_row view line first) s out r
+  pub wide_printed : 128 < view.width → room ≡ 16384 → PrintedTo (row_of room view.width small_of) out₀ at out r → PrintedTo (small_row view line first) out₀ at out r
   unfolding small_row
   wide_printed h e p = rw (lt-leb view.width 128 h) (rw e at p)
 
-abbrev pub list_of : Sink ℕ → List ℕ
-list_of (sink l r) = l
-
-module _ (view : View) (first : ℕ) (line out₀ out : List ℕ) (at : ℕ) (a : RowPrinted) (p : PrintedTo (small_row view line first) (sink out₀ at) out a) where
-  pub line_small : length line ≤ 256 → a.number ≡ 0 → PrintedTo (line_row view line first) (sink out₀ at) out a
+module _ (view : View) (first : ℕ) (line out₀ out : List ℕ) (at n : ℕ) where
+  pub line_small : length line ≤ 256 → PrintedTo (small_row view line first) out₀ at out (Ok n) → PrintedTo (line_row view line first) out₀ at out (Ok n)
   unfolding line_row
-  line_small h e = rw (le-ltb 256 (length line) h, eq-eqb (small_row view line first).number 0 (sym p.number ∙ e)) p
+  line_small h p = rw (le-ltb 256 (length line) h, eq-eqb (small_row view line first).number 0 p.0) p
 
-  pub line_large : (out' : List ℕ) (r : RowPrinted) → length line ≤ 256 → (a.number ≢ 0) → PrintedTo (large_row view line first) (sink out at) out' r → PrintedTo (line_row view line first) (sink out₀ at) out' r
-  unfolding line_row small_row
-  line_large out' r h e q =
-      let differs : (small_row view line first).number ≢ 0 = λ z. e (p.number ∙ z) in
-      let none : (small_row view line first).text ≡ [] = row_none (cells_room view.width) view.width (drawn_row 2048 64 2048 view first line) differs in
-      let same : out ≡ out₀ = ap list_of (p.text ∙ ap (emit (sink out₀ at)) none ∙ emit_none (sink out₀ at)) in
-      rw (le-ltb 256 (length line) h, ne_eqb (small_row view line first).number 0 differs) (rw same at q)
+  pub line_large : (out' : List ℕ) (r : Result ℕ ℕ) → length line ≤ 256 → PrintedTo (small_row view line first) out₀ at out (Err n) → PrintedTo (large_row view line first) out at out' r → PrintedTo (line_row view line first) out₀ at out' r
+  unfolding line_row
+  line_large out' r h p q =
+      let differs : (small_row view line first).number ≢ 0 = λ z. p.1 (sym p.0 ∙ z) in
+      rw (le-ltb 256 (length line) h, ne_eqb (small_row view line first).number 0 differs) (rw p.2 at q)
 
-pub line_long : (view : View) (first : ℕ) (line out : List ℕ) (s : Sink ℕ) (r : RowPrinted) → 256 < length line → PrintedTo (large_row view line first) s out r → PrintedTo (line_row view line first) s out r
+pub line_long : (view : View) (first : ℕ) (line out₀ out : List ℕ) (at : ℕ) (r : Result ℕ ℕ) → 256 < length line → PrintedTo (large_row view line first) out₀ at out r → PrintedTo (line_row view line first) out₀ at out r
 unfolding line_row
-line_long view first line out s r h p = rw (lt-ltb 256 (length line) h) p
-
--- a refused row prints nothing
-refused_text_law : (view : View) (first : ℕ) (line : List ℕ) → ((line_row view line first).number ≢ 0) → (line_row view line first).text ≡ []
-unfolding line_row small_row large_row
-refused_text_law view first line h =
-    let none : ((large_row view line first).number ≢ 0) → (large_row view line first).text ≡ [] = row_none 262144 (columns_of view first line) (drawn_row 32768 2048 131072 view first line) in
-    cases (is_long line)
-    (λ l. rw l (none (rw l at h)))
-    (λ l. cases (eqb (small_row view line first).number 0)
-    (λ e. absurd (h (rw (l, e) (eqb-true (small_row view line first).number 0 e))))
-    (λ e. rw (l, e) (none (rw (l, e) at h))))
+line_long view first line out₀ out at r h p = rw (lt-ltb 256 (length line) h) p
 
 -- ---- columns
 
@@ -250,24 +218,23 @@ module _ (name : List ℕ) (number : ℕ) (view : View) (line : List ℕ) where
     pub rows_end : count ≤ i → sink out a ≡ emit (sink out₀ at₀) (from 0 count)
     rows_end h = sym (ap (emit (sink out a)) (from_none i (count - i) (omega arith)) ∙ emit_none (sink out a)) ∙ w.work
 
-    module _ (less : i < count) (out' : List ℕ) (p : RowPrinted) (is : PrintedTo (line_row view line i) (sink out a) out' p) where
-      pub rows_turn : p.number ≡ 0 → length out' ≡ length out → Rows out₀ at₀ count out' p.at (i + 1)
-      rows_turn e l =
+    module _ (less : i < count) (out' : List ℕ) (n : ℕ) where
+      pub rows_turn : PrintedTo (line_row view line i) out a out' (Ok n) → length out' ≡ length out → Rows out₀ at₀ count out' n (i + 1)
+      rows_turn is l =
           let t : List ℕ = (line_row view line i).text in
           let next : i + 1 ≡ suc i = omega arith in
           record {
             within = omega arith;
             long = l ∙ w.long;
-            work = ap (λ (x : Sink ℕ). emit x (from (i + 1) (count - (i + 1)))) is.text ∙ sym (emit_append (sink out a) t (from (i + 1) (count - (i + 1))))
+            work = ap (λ (x : Sink ℕ). emit x (from (i + 1) (count - (i + 1)))) is.1 ∙ sym (emit_append (sink out a) t (from (i + 1) (count - (i + 1))))
                 ∙ ap (λ (k : ℕ). emit (sink out a) (t ++ from k (count - (i + 1)))) next
-                ∙ ap (emit (sink out a)) (sym (from_more i (count - i) (count - (i + 1)) (omega arith) (sym is.number ∙ e))) ∙ w.work;
+                ∙ ap (emit (sink out a)) (sym (from_more i (count - i) (count - (i + 1)) (omega arith) is.0)) ∙ w.work;
           }
 
-      pub rows_refused : (out'' : List ℕ) (r : ℕ) → (p.number ≢ 0) → sink out'' r ≡ emit (sink out' p.at) (refusal_text name number p.number) → sink out'' r ≡ emit (sink out₀ at₀) (from 0 count)
-      rows_refused out'' r e f =
-          let row : Printed = line_row view line i in
-          let differs : row.number ≢ 0 = λ z. e (is.number ∙ z) in
-          f ∙ ap₂ (λ (x : Sink ℕ) (k : ℕ). emit x (refusal_text name number k)) (is.text ∙ ap (emit (sink out a)) (refused_text_law view i line differs) ∙ emit_none (sink out a)) is.number
+      pub rows_refused : PrintedTo (line_row view line i) out a out' (Err n) → (out'' : List ℕ) (r : ℕ) → sink out'' r ≡ emit (sink out' a) (refusal_text name number n) → sink out'' r ≡ emit (sink out₀ at₀) (from 0 count)
+      rows_refused is out'' r f =
+          let differs : (line_row view line i).number ≢ 0 = λ z. is.1 (sym is.0 ∙ z) in
+          f ∙ ap₂ (λ (o : List ℕ) (k : ℕ). emit (sink o a) (refusal_text name number k)) is.2 (sym is.0)
           ∙ ap (emit (sink out a)) (sym (from_refused i (count - i) (count - (i + 1)) (omega arith) differs)) ∙ w.work
 
 -- ---- push_line

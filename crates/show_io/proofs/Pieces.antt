@@ -21,7 +21,9 @@ use Rattle.show_io.specs.Input.Contracts.{Kept, state_of, read_of, last_of}
 use Rattle.show_io.specs.declared.lines.View.{View}
 use Rattle.show_io.specs.declared.input.Reading.{Reading}
 use Rattle.buffer.specs.Numbers.Parts.{take_smaller}
-use Rattle.show_io.proofs.LineRows.{list_of}
+
+abbrev list_of : Sink ℕ → List ℕ
+list_of (sink l r) = l
 
 -- ---- line_end
 

@@ -30,13 +30,6 @@ pub struct View {
     pub width: usize,
 }
 
-// A refusal's number, 0 for none, and the count behind what was printed.
-#[derive(Clone, Copy)]
-struct RowPrinted {
-    number: usize,
-    at: usize,
-}
-
 // The reader, who sees the links.
 const BENCH: usize = 0;
 
@@ -50,7 +43,7 @@ fn window_end(view: View) -> usize
     usize::MAX
 }
 
-// A change list in a screen row.
+// A change list in a screen row: the count after what was printed, or a refusal's number.
 fn print_list(
     list: &[u8],
     columns: usize,
@@ -58,22 +51,16 @@ fn print_list(
     cells: &mut [u8],
     out: &mut [u8],
     at: usize,
-) -> RowPrinted
-    ensures { PrintedTo (list_text (length cells.old) columns line.now list.now) (sink out.old at) out.new result }
+) -> Result<usize, usize>
+    ensures { PrintedTo (list_text (length cells.old) columns line.now list.now) out.old at out.new result }
 {
     let t = screen_row(list, columns, cells);
-    if t.number == 0 {
-        let n = t.count.min(cells.len());
-        let a = push_row(out, at, line, &cells[..n]);
-        return RowPrinted {
-            number: 0,
-            at: push(out, a, 0x0A),
-        };
+    if t.number != 0 {
+        return Err(t.number);
     }
-    RowPrinted {
-        number: t.number,
-        at,
-    }
+    let n = t.count.min(cells.len());
+    let a = push_row(out, at, line, &cells[..n]);
+    Ok(push(out, a, 0x0A))
 }
 
 // The same of a drawing, by its answer.
@@ -85,17 +72,14 @@ fn print_drawn(
     cells: &mut [u8],
     out: &mut [u8],
     at: usize,
-) -> RowPrinted
-    ensures { PrintedTo (unless drawn.number (list_text (length cells.old) columns conv.now (take drawn.count list.now))) (sink out.old at) out.new result }
+) -> Result<usize, usize>
+    ensures { PrintedTo (unless drawn.number (list_text (length cells.old) columns conv.now (take drawn.count list.now))) out.old at out.new result }
 {
-    if drawn.number == 0 {
-        let n = drawn.count.min(list.len());
-        return print_list(&list[..n], columns, conv, cells, out, at);
+    if drawn.number != 0 {
+        return Err(drawn.number);
     }
-    RowPrinted {
-        number: drawn.number,
-        at,
-    }
+    let n = drawn.count.min(list.len());
+    print_list(&list[..n], columns, conv, cells, out, at)
 }
 
 // The window in mode 0, or else a row.
@@ -137,8 +121,8 @@ fn print_small(
     cells: &mut [u8],
     out: &mut [u8],
     at: usize,
-) -> RowPrinted
-    ensures { PrintedTo (row_of (length cells.old) view.width (drawn_row 2048 64 2048 view first line.now)) (sink out.old at) out.new result }
+) -> Result<usize, usize>
+    ensures { PrintedTo (row_of (length cells.old) view.width (drawn_row 2048 64 2048 view first line.now)) out.old at out.new result }
 {
     let mut conv = [0u8; 2048];
     let mut list = [0u8; 2048];
@@ -146,8 +130,14 @@ fn print_small(
     print_drawn(d, &conv, &list, view.width, cells, out, at)
 }
 
-fn small_row(line: &[u8], view: View, first: usize, out: &mut [u8], at: usize) -> RowPrinted
-    ensures { PrintedTo (small_row view line.now first) (sink out.old at) out.new result }
+fn small_row(
+    line: &[u8],
+    view: View,
+    first: usize,
+    out: &mut [u8],
+    at: usize,
+) -> Result<usize, usize>
+    ensures { PrintedTo (small_row view line.now first) out.old at out.new result }
 {
     if view.width <= 128 {
         let mut cells = [0u8; 4096];
@@ -232,8 +222,14 @@ fn draw_large(
     )
 }
 
-fn large_row(line: &[u8], view: View, first: usize, out: &mut [u8], at: usize) -> RowPrinted
-    ensures { PrintedTo (large_row view line.now first) (sink out.old at) out.new result }
+fn large_row(
+    line: &[u8],
+    view: View,
+    first: usize,
+    out: &mut [u8],
+    at: usize,
+) -> Result<usize, usize>
+    ensures { PrintedTo (large_row view line.now first) out.old at out.new result }
 {
     let columns = row_columns(line, view, first);
     let mut conv = [0u8; 32768];
@@ -245,15 +241,20 @@ fn large_row(line: &[u8], view: View, first: usize, out: &mut [u8], at: usize) -
 }
 
 // A row of a line: with little memory, and where that is refused, as it is for a long line, with more.
-fn line_row(line: &[u8], view: View, first: usize, out: &mut [u8], at: usize) -> RowPrinted
-    ensures { PrintedTo (line_row view line.now first) (sink out.old at) out.new result }
+fn line_row(
+    line: &[u8],
+    view: View,
+    first: usize,
+    out: &mut [u8],
+    at: usize,
+) -> Result<usize, usize>
+    ensures { PrintedTo (line_row view line.now first) out.old at out.new result }
 {
     if 256 < line.len() {
         return large_row(line, view, first, out, at);
     }
-    let a = small_row(line, view, first, out, at);
-    if a.number == 0 {
-        return a;
+    if let Ok(end) = small_row(line, view, first, out, at) {
+        return Ok(end);
     }
     large_row(line, view, first, out, at)
 }
@@ -343,11 +344,10 @@ fn push_rows(
 {
     let mut a = at;
     for i in 0..count {
-        let p = line_row(line, view, i, out, a);
-        if p.number != 0 {
-            return push_refusal(out, p.at, name, number, p.number);
+        match line_row(line, view, i, out, a) {
+            Ok(end) => a = end,
+            Err(refusal) => return push_refusal(out, a, name, number, refusal),
         }
-        a = p.at;
     }
     a
 }

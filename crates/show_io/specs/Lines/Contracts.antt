@@ -1,16 +1,15 @@
 -- What the contracts of src/lines.rt say.
-use Rattle.std.specs.Prelude.{◌≡◌, List, ℕ, ◌*◌, cond, take, eqb}
+use Rattle.std.specs.Prelude.{◌≡◌, ◌≢◌, List, ℕ, ◌*◌, cond, take, eqb, Result, MatchResult}
 use Rattle.text.specs.declared.Answer.{Answer}
-use Rattle.buffer.specs.Sink.{Sink, sink, emit}
+use Rattle.buffer.specs.Sink.{sink, emit}
 use Rattle.spans.specs.Calls.{Read}
 use Rattle.show_io.specs.SpanText.Contracts.{numbers_text}
 use Rattle.show_io.specs.Lines.{Printed, refusal_text}
-use Rattle.show_io.specs.declared.lines.RowPrinted.{RowPrinted}
 
--- a refusal's number, and what is printed written to a buffer
-pub record PrintedTo (p : Printed) (before : Sink ℕ) (out : List ℕ) (r : RowPrinted) : Type 0 where
-  pub number : r.number ≡ p.number
-  pub text : sink out r.at ≡ emit before p.text
+-- what is printed written to a buffer, up to the count; or the refusal's number, and the buffer as it was
+abbrev pub PrintedTo : Printed → (out₀ : List ℕ) (at : ℕ) (out : List ℕ) → Result ℕ ℕ → Type 0
+PrintedTo p out₀ at out r =
+    MatchResult r (λ n. (p.number ≡ 0) × (sink out n ≡ emit (sink out₀ at) p.text)) (λ refusal. (p.number ≡ refusal) × (refusal ≢ 0) × (out ≡ out₀))
 
 -- the answer alone
 pub record AnswerOf (c : Read) (a : Answer) : Type 0 where

@@ -7,11 +7,11 @@ use Rattle.show_io.proofs.lines.print_list.Goals as goal
 pub slice_bounds-push_row-end : goal.slice_bounds-push_row-end
 slice_bounds-push_row-end c = search smaller_right
 
-pub slice_bounds-push_row-end-then-t-eq0 : goal.slice_bounds-push_row-end-then-t-eq0
-slice_bounds-push_row-end-then-t-eq0 c = sym (length-take-le _ _ (search smaller_right))
+pub slice_bounds-push_row-end-2 : goal.slice_bounds-push_row-end-2
+slice_bounds-push_row-end-2 c = sym (length-take-le _ _ (search smaller_right))
 
-pub returns-then-t-eq0 : goal.returns-then-t-eq0
-returns-then-t-eq0 c = search list_printed
+pub returns-then-t-ne0 : goal.returns-then-t-ne0
+returns-then-t-ne0 c = search list_refused
 
 pub returns : goal.returns
-returns c = search list_refused
+returns c = search list_printed
