@@ -11,6 +11,7 @@ mod program;
 mod published;
 mod recorded;
 
+ghost use Rattle.std.specs.Prelude.{IfSome};
 ghost use Rattle.io.specs.Counts.{IsPrefixLen};
 
 use check::same;
@@ -21,39 +22,23 @@ const STDIN_FILENO: i32 = 0;
 
 const STDOUT_FILENO: i32 = 1;
 
-// A line's length, and whether the input ended before its newline.
-#[derive(Clone, Copy)]
-struct Line {
-    len: usize,
-    ended: bool,
-}
-
-// The next line of standard input, without its newline.
-fn read_line(line: &mut [u8]) -> Line
-    ensures { IsPrefixLen result.len line.new }
+// The length of the next line of standard input, without its newline; none where the input ends before that.
+fn read_line(line: &mut [u8]) -> Option<usize>
+    ensures { IfSome result (λ n. IsPrefixLen n line.new) }
 {
     let mut byte = [0u8; 1];
     let mut n = 0;
     while n < line.len() {
         if io::read_full(STDIN_FILENO, &mut byte) == 0 {
-            return Line {
-                len: n,
-                ended: true,
-            };
+            return None;
         }
         if byte[0] == b'\n' {
-            return Line {
-                len: n,
-                ended: false,
-            };
+            return Some(n);
         }
         line[n] = byte[0];
         n += 1;
     }
-    Line {
-        len: n,
-        ended: false,
-    }
+    Some(n)
 }
 
 // The case and its answer; a line that is no case alone.
@@ -78,11 +63,9 @@ fn main() {
     let mut buf = [0u8; 16384];
     let mut turns = usize::MAX;
     while 0 < turns {
-        let line = read_line(&mut buf);
-        let n = line.len;
-        if line.ended {
+        let Some(n) = read_line(&mut buf) else {
             return;
-        }
+        };
         answer(&buf[..n]);
         turns -= 1;
     }
