@@ -1,14 +1,15 @@
 -- The rows of a line, one after the other.
 use mathlib.Core.Path.{◌≡◌, refl, sym, ap, ap₂, subst, ◌∙◌}
 use mathlib.Core.Logic.{◌≢◌}
-use Prim.Native.Nat.{ℕ, suc, ◌+◌, ◌-◌, ◌*◌, ◌/◌, ◌≤◌, ◌<◌}
+use Prim.Native.Nat.{ℕ, suc, min, ◌+◌, ◌-◌, ◌*◌, ◌/◌, ◌^◌, ◌≤◌, ◌<◌}
 use native.Mathlib.Omega.{arith}
 use mathlib.Core.Bool.{Bool, cond}
 use mathlib.Core.List.{List, [], ◌++◌}
 use mathlib.Core.Option.{none}
 use lib.ListN.{length, take, get_or, get_or-eq_default}
-use lib.Dec.{eqb}
-use borrow.Author.Tests.{eq-eqb, ne_eqb, le-leb, lt-leb, lt-ltb, le-ltb}
+use lib.Dec.{eqb, leb}
+use borrow.Author.Tests.{eq-eqb, ne_eqb, le-leb, lt-leb, lt-ltb, le-ltb, leb-true, leb-false}
+use Rattle.text.specs.Tests.{cases}
 use Rattle.text.specs.Width.{profile01}
 use Rattle.text.specs.declared.Answer.{Answer}
 use Rattle.buffer.specs.Numbers.Parts.{take_smaller}
@@ -136,6 +137,13 @@ module _ (view : View) (first : ℕ) (line out₀ out : List ℕ) (at n : ℕ) w
 pub line_long : (view : View) (first : ℕ) (line out₀ out : List ℕ) (at : ℕ) (r : Result ℕ ℕ) → 256 < length line → PrintedTo (large_row view line first) out₀ at out r → PrintedTo (line_row view line first) out₀ at out r
 unfolding line_row
 line_long view first line out₀ out at r h p = rw (lt-ltb 256 (length line) h) p
+
+-- ---- window_end
+
+pub window_sum : (v : View) (n : ℕ) → v.start < 2 ^ 64 → n ≡ min (v.start + v.width) 0xFFFFFFFFFFFFFFFF → n ≡ window_end v
+window_sum v n h e = cases (leb v.width (0xFFFFFFFFFFFFFFFF - v.start))
+    (λ f. let k : v.width ≤ 0xFFFFFFFFFFFFFFFF - v.start = leb-true _ _ f in rw f (omega arith))
+    (λ f. let k : 0xFFFFFFFFFFFFFFFF - v.start < v.width = leb-false _ _ f in rw f (omega arith))
 
 -- ---- columns
 

@@ -37,10 +37,7 @@ const BENCH: usize = 0;
 fn window_end(view: View) -> usize
     ensures { result ≡ window_end view }
 {
-    if view.width <= usize::MAX - view.start {
-        return view.start + view.width;
-    }
-    usize::MAX
+    view.start.saturating_add(view.width)
 }
 
 // A change list in a screen row: the count after what was printed, or a refusal's number.
