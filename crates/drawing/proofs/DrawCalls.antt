@@ -11,6 +11,7 @@ use Rattle.text.specs.Tests.{cases, and_T, true_T, is_true, or_false}
 use Rattle.text.specs.Calls.{Question, decide}
 use Rattle.text.specs.Calls.Code.{number_of, answer_of}
 use Rattle.text.specs.Width.{profile01}
+use Rattle.text.specs.Calls.Code.Laws.{number_some}
 use Rattle.text.specs.declared.refusal.Refusal.{Refusal}
 use Rattle.spans.specs.Spans.{Span, Record, records}
 use Rattle.spans.specs.Spans.RecordSpans.{HasContents, spans_in, spans_in_records}
@@ -34,22 +35,8 @@ use Rattle.drawing.specs.declared.Part.{Part}
 use Rattle.drawing.specs.declared.Part.TheVariants.{Window, Rows}
 use Rattle.drawing.specs.declared.state.Drawn.{Drawn}
 
-number_some : (e : Refusal) → (r : ℕ) × (number_of e ≡ suc r)
-number_some Refusal.LineTooLong = (0, refl)
-number_some Refusal.ConvTooShort = (1, refl)
-number_some Refusal.MatchesNotInOrder = (2, refl)
-number_some Refusal.SpansTooFew = (3, refl)
-number_some Refusal.OutOfRange = (4, refl)
-number_some Refusal.RowsTooFew = (5, refl)
-number_some Refusal.WindowEmpty = (6, refl)
-number_some Refusal.ClusterWiderThanWindow = (7, refl)
-number_some Refusal.OutputTooShort = (8, refl)
-number_some Refusal.ListMalformed = (9, refl)
-number_some Refusal.TextPassesLastColumn = (10, refl)
-number_some Refusal.BodyTooLong = (11, refl)
-number_some Refusal.CellsMalformed = (15, refl)
-number_some Refusal.ReportTooShort = (16, refl)
-number_some Refusal.NoSuchReader = (17, refl)
+number_next : (e : Refusal) → (r : ℕ) × (number_of e ≡ suc r)
+number_next e = (number_of e - 1, omega (arith, number_some e))
 
 -- ---- questions 5 and 7
 
@@ -171,7 +158,7 @@ module _ (reader size places room : ℕ) (current : Option ℕ) (part : Part) (m
 
     pub unread : reader ≤ 1 → (e : Refusal) (cs' : List ℕ) (rs' : List Record) → read_as (answer_of (Err e)) cs' rs' ≡ read_call profile01 size places matches line → Left e cs rs l
     unread h e cs' rs' read =
-        let r = number_some e in
+        let r = number_next e in
         rw (c, d, k, r.1) (sym (call_is reader size places room current part matches line ∙ drawing_unread profile01 reader size places room matches (questions_of part) (none_torn (changes_of reader current part)) (changes_of reader current part) line (le-leb reader 1 h) r.0 (sym (ap (λ (x : Read). x.number) read) ∙ r.1)))
 
 -- ---- a call that `read` accepts
@@ -221,11 +208,11 @@ module _ (size places : ℕ) (matches line : List ℕ) (n : ℕ) (cs : List ℕ)
 
       refused : (e : Refusal) → later ≡ number_of e → (l : List ℕ) → length l ≡ room → Left reader size places room current part matches line e cs rs l
       refused e f l k =
-          let r = number_some e in
+          let r = number_next e in
           rw (c, d, k, r.1) (sym (call_is reader size places room current part matches line ∙ drawing_refused profile01 reader size places room matches (questions_of part) (none_torn (changes_of reader current part)) (changes_of reader current part) line (le-leb reader 1 h) fine r.0 (f ∙ r.1)))
 
       pub not_asked : (e : Refusal) → number_of e ≡ asked_of part → (l : List ℕ) → length l ≡ room → Left reader size places room current part matches line e cs rs l
-      not_asked e f l k = let r = number_some e in refused e (later_is ∙ rw (← f, r.1, lt-ltb 0 (suc r.0) (omega arith)) refl) l k
+      not_asked e f l k = let r = number_next e in refused e (later_is ∙ rw (← f, r.1, lt-ltb 0 (suc r.0) (omega arith)) refl) l k
 
       -- questions 8 and 9 of a part that passes 5 and 7
       module _ (asked : asked_of part ≡ 0) (l l' : List ℕ) (made : Drawn) (drew : Drew (changes_of reader current part (spans_in the_line (take n rs))) l l' made) (k : length l ≡ room) (k' : length l' ≡ length l) where

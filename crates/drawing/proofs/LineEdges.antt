@@ -9,7 +9,7 @@ use Rattle.buffer.specs.Sink.{Sink, sink, emit}
 use Rattle.buffer.specs.Sink.Laws.{emit_none, then_emit}
 use Rattle.drawing.specs.Attributes.{plain}
 use Rattle.drawing.specs.Change.{Change, all_attributes, clear_to_end, encode_one, encode}
-use Rattle.drawing.specs.Draw.{State, left_arrow, right_arrow, close_window, close_rows}
+use Rattle.drawing.specs.Draw.{State, right_arrow, close_window, close_rows}
 use Rattle.drawing.specs.State.{state_of}
 use Rattle.drawing.specs.Rendering.{opening, closing_window, closing_rows, closing_edge, closing, Closed}
 use Rattle.drawing.specs.declared.state.AttributeState.{AttributeState}
@@ -22,9 +22,6 @@ use Rattle.drawing.proofs.WindowTexts.{encode_append}
 -- ---- before them
 
 module _ (l : List ℕ) (edges : Edges) where
-  pub opened_arrow : (l' : List ℕ) (n : ℕ) (arrow : Bool) → edges ≡ Window arrow → arrow ≡ true → sink l' n ≡ emit (sink l 0) (encode left_arrow) → sink l' n ≡ emit (sink l 0) (encode (opening edges))
-  opened_arrow l' n arrow e t p = rw (e, t) p
-
   pub opened_bare : (arrow : Bool) → edges ≡ Window arrow → arrow ≡ false → sink l 0 ≡ emit (sink l 0) (encode (opening edges))
   unfolding encode
   opened_bare arrow e t = rw (e, t) (sym (emit_none (sink l 0)))

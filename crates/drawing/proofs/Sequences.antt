@@ -47,9 +47,6 @@ linkable line place q h k e =
 
 -- ---- the state after a hyperlink
 
-pub link_fits : (place : ℕ) (q : sequence.Sequence) (p n k : ℕ) → Linkable place q → q ≡ sequences.Hyperlink p n k → place + p < 18446744073709551616
-link_fits place q p n k l e = omega (arith, l.near, l.from p n k e)
-
 pub link_told : (crew : Bool) (t : AttributeState) (place : ℕ) (q : sequence.Sequence) (r : AttributeState) (p n k m : ℕ) → q ≡ sequences.Hyperlink p n k → m ≡ uri_length crew n → r ≡ linked_to t (record { place = record { 0 = place + p }; len = m }) → r ≡ linked_by crew t place q
 unfolding linked_by
 link_told crew t place q r p n k m e g f = rw (e, f, g) refl

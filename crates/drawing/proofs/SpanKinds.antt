@@ -1,7 +1,7 @@
 -- One span, by its kind.
 use mathlib.Core.Path.{◌≡◌, refl, sym, ap}
 use mathlib.Core.Logic.{◌≢◌, ◌⊎◌, inl, inr}
-use Prim.Native.Nat.{ℕ, ◌+◌, ◌*◌, ◌≤◌, ◌<◌, ◌^◌}
+use Prim.Native.Nat.{ℕ, ◌+◌, ◌*◌, ◌≤◌, ◌<◌}
 use native.Mathlib.Omega.{arith}
 use mathlib.Core.Bool.{Bool, false, ◌||◌}
 use mathlib.Core.List.{List, [], append-nil}
@@ -55,9 +55,6 @@ module _ (d : Rendering) (line l : List ℕ) (at : ℕ) (t : AttributeState) (r 
 
   pub text_ready : (s : List ℕ) → s ≡ part → WriteReady s t
   text_ready s e = record { short = omega (arith, part_length s e, ready.short); room = omega (arith, part_length s e, ready.room) }
-
-  pub marks_ready : (s : List ℕ) → s ≡ part → t.position.0 + 20 * length s < 2 ^ 64
-  marks_ready s e = omega (arith, part_length s e, ready.room)
 
   -- ---- by the kind
 

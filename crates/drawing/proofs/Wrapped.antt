@@ -28,7 +28,7 @@ use Rattle.drawing.specs.Straddled.Laws.{arrow_whole, window_whole, rows_whole}
 use Rattle.drawing.specs.Reader.HiddenUris.{hidden, seen_append, arrow_seen, window_seen, rows_seen}
 use Rattle.drawing.specs.State.{state_of, new_state}
 use Rattle.drawing.specs.Attributes.Code.{style_of}
-use Rattle.drawing.specs.Rendering.{reader_number, is_crew, current_in, opening, closing, RenderRoom, Rendered, render_records}
+use Rattle.drawing.specs.Rendering.{reader_number, is_crew, current_in, opening, closing, Rendered, render_records}
 use Rattle.drawing.specs.Requests.{bounds_end, bounds_of, InLimits, DrawRoom, changes_of, Drew}
 use Rattle.drawing.specs.declared.Part.{Part}
 use Rattle.drawing.specs.declared.Part.TheVariants.{Window, Rows}
@@ -118,9 +118,6 @@ module _ (rs : List Record) (line : List ℕ) (enough : DrawRoom rs line) where
 
   held : HasContents line ss
   held = spans_in_contents line rs enough.held
-
-  pub render_room : RenderRoom rs line
-  render_room = record { few = enough.few; short = enough.short }
 
   drew : (part : Part) (d : Rendering) → Changes part d ss → (l l' : List ℕ) (r : Drawn) → Rendered d line rs l l' r → Drew (changes_of (reader_number d.view.reader) (current_in d.view.current) part ss) l l' r
   drew part d same l l' r k =

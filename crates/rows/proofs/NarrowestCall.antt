@@ -20,7 +20,7 @@ use Rattle.rows.specs.Narrowest.Laws.{narrowest_refused, narrowest_five, narrowe
 use Rattle.rows.specs.Widths.{Widths, widths_to, tried_from, fits_at, narrowed}
 use Rattle.rows.specs.Widths.Laws.{found_at, answer, tried_first}
 use Rattle.rows.specs.declared.modes.Mode.{Mode}
-use Rattle.rows.proofs.RowsCall.{number_some, the_line, line_is, spans_are}
+use Rattle.rows.proofs.RowsCall.{number_next, the_line, line_is, spans_are}
 
 found_is : (w : ℕ) → unwrap_or (found_at w) 0 ≡ w
 found_is zero = refl
@@ -36,7 +36,7 @@ module _ (size places mode wanted greatest : ℕ) (line : List ℕ) where
 
   pub widths_refused : (e : Refusal) (cs : List ℕ) (rs : List Record) → read_as (answer_of (Err e)) cs rs ≡ read_call profile01 size places [] line → cleared e ≡ call
   widths_refused e cs rs read =
-      let r = number_some e in
+      let r = number_next e in
       rw r.1 (sym (narrowest_refused profile01 size places mode wanted greatest line r.0 (sym (ap (λ (x : Read). x.number) read) ∙ r.1)))
 
   module _ (n : ℕ) (cs : List ℕ) (rs : List Record) (read : read_as (answer_of (Ok n)) cs rs ≡ read_call profile01 size places [] line) where

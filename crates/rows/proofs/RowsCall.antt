@@ -12,6 +12,7 @@ use Rattle.text.specs.Tests.{cases, and_T, true_T, is_true}
 use Rattle.text.specs.Calls.Code.{number_of, answer_of}
 use Rattle.text.specs.Width.{profile01}
 use Rattle.text.specs.Overstrike.{convert}
+use Rattle.text.specs.Calls.Code.Laws.{number_some}
 use Rattle.text.specs.declared.refusal.Refusal.{Refusal}
 use Rattle.spans.specs.Spans.{Span, spans, Record, records}
 use Rattle.spans.specs.Spans.Laws.{unmatched_spans}
@@ -29,22 +30,8 @@ use Rattle.rows.specs.declared.Request.{Request}
 use Rattle.rows.specs.declared.modes.Mode.{Mode}
 use Rattle.rows.specs.declared.wrap.RowCounts.{RowCounts}
 
-pub number_some : (e : Refusal) → (r : ℕ) × (number_of e ≡ suc r)
-number_some Refusal.LineTooLong = (0, refl)
-number_some Refusal.ConvTooShort = (1, refl)
-number_some Refusal.MatchesNotInOrder = (2, refl)
-number_some Refusal.SpansTooFew = (3, refl)
-number_some Refusal.OutOfRange = (4, refl)
-number_some Refusal.RowsTooFew = (5, refl)
-number_some Refusal.WindowEmpty = (6, refl)
-number_some Refusal.ClusterWiderThanWindow = (7, refl)
-number_some Refusal.OutputTooShort = (8, refl)
-number_some Refusal.ListMalformed = (9, refl)
-number_some Refusal.TextPassesLastColumn = (10, refl)
-number_some Refusal.BodyTooLong = (11, refl)
-number_some Refusal.CellsMalformed = (15, refl)
-number_some Refusal.ReportTooShort = (16, refl)
-number_some Refusal.NoSuchReader = (17, refl)
+pub number_next : (e : Refusal) → (r : ℕ) × (number_of e ≡ suc r)
+number_next e = (number_of e - 1, omega (arith, number_some e))
 
 -- ---- a call that `read` refuses
 
@@ -58,7 +45,7 @@ module _ (q : Request) (size places numbers : ℕ) (line : List ℕ) (e : Refusa
 
   pub line_refused : (cs' : List ℕ) (rs' : List Record) → refused_read cs' rs' → length cs ≡ size → length rs ≡ places → (l : List ℕ) → length l ≡ numbers → cleared_all l ≡ answered q size places numbers line
   line_refused cs' rs' read c d l k =
-      let r = number_some e in
+      let r = number_next e in
       rw (c, d, k, r.1) (sym (answered_refused q size places numbers line r.0 (sym (ap (λ (x : Read). x.number) read) ∙ r.1)))
 
 -- ---- a call that `read` accepts
