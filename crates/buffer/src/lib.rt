@@ -12,16 +12,34 @@ pub fn byte_at(s: &[u8], at: usize) -> u8
     s.get(at).copied().unwrap_or(0)
 }
 
+// What is written into lent memory: any count of such elements is a usize.
+pub trait Element: Copy {
+    // The count past the end.
+    fn past(out: &[Self]) -> usize
+        ensures { result ≡ length out.now + 1 };
+}
+
+impl Element for u8 {
+    fn past(out: &[u8]) -> usize {
+        out.len() + 1
+    }
+}
+
+impl Element for usize {
+    fn past(out: &[usize]) -> usize {
+        out.len() + 1
+    }
+}
+
 // Writes one more element at the count `at`, and returns the next count.
-pub fn push<T: Copy>(out: &mut [T], at: usize, x: T) -> usize
-    requires { length out.old + 1 < 2 ^ 64 }
+pub fn push<T: Element>(out: &mut [T], at: usize, x: T) -> usize
     ensures { sink out.new result ≡ put (sink out.old at) x }
 {
     if at < out.len() {
         out[at] = x;
         at + 1
     } else {
-        out.len() + 1
+        T::past(out)
     }
 }
 
@@ -36,8 +54,7 @@ pub fn copy<T: Copy>(out: &mut [T], at: usize, src: &[T]) -> usize
 }
 
 // The elements one by one, where they may not fit.
-fn push_each<T: Copy>(out: &mut [T], at: usize, src: &[T]) -> usize
-    requires { length out.old + 1 < 2 ^ 64 }
+fn push_each<T: Element>(out: &mut [T], at: usize, src: &[T]) -> usize
     ensures { sink out.new result ≡ emit (sink out.old at) src.now }
 {
     let mut end = at;
@@ -48,8 +65,7 @@ fn push_each<T: Copy>(out: &mut [T], at: usize, src: &[T]) -> usize
 }
 
 // Writes the elements of src in order.
-pub fn push_all<T: Copy>(out: &mut [T], at: usize, src: &[T]) -> usize
-    requires { length out.old + 1 < 2 ^ 64 }
+pub fn push_all<T: Element>(out: &mut [T], at: usize, src: &[T]) -> usize
     ensures { sink out.new result ≡ emit (sink out.old at) src.now }
 {
     if at <= out.len() {
