@@ -16,7 +16,7 @@ use Rattle.screen.specs.WellFormed.{color, fields, body_size, body_sizes, of_kin
 use Rattle.screen.specs.Records.Contracts.{record_of}
 use Rattle.screen.specs.Row.{Screen, with_attributes, clear, right, on_record}
 use Rattle.screen.specs.Row.Contracts.{part}
-use Rattle.screen.specs.Screen.{with_at, with_attributes_at, row_of, screen_of, formed, text_on, record_on, BodyReady, Moved, Stepped}
+use Rattle.screen.specs.Screen.{with_at, with_attributes_at, row_of, screen_at, formed, text_on, record_on, BodyReady, Moved, Stepped}
 use Rattle.std.specs.Prelude as std
 use Rattle.std.specs.Prelude.{None, Some}
 use Rattle.screen.specs.Screen.Laws.{text_record_law, body_record}
@@ -39,23 +39,23 @@ module _ (P : Profile) (list : List ℕ) (width : ℕ) (row : List ℕ) (t : cod
   size = length-take-le h.len (drop h.start list) (omega (arith, length-drop h.start list, ready.inside))
 
   -- a step of the kind's own is one of the record
-  stepped : (k : ℕ) (f : Option Screen → Option Screen) → h.kind ≡ k → record_on P width (record { whole = true; kind = k; body = body }) (some (screen_of list width row t)) ≡ f (some (screen_of list width row t))
+  stepped : (k : ℕ) (f : Option Screen → Option Screen) → h.kind ≡ k → record_on P width (record { whole = true; kind = k; body = body }) (some (screen_at list width row t)) ≡ f (some (screen_at list width row t))
       → (row' : List ℕ) (r : std.Option code.Screen) → Stepped list width row t f row' r → Stepped list width row t (record_on P width (record_of list h)) row' r
   stepped k f e is row' r s = record { same = s.same ∙ sym is ∙ sym (rw (whole, e) refl); ready = s.ready }
 
   pub record_text : (row' : List ℕ) (r : std.Option code.Screen) → h.kind ≡ 1 → Stepped list width row t (text_on P width (part list h.start (h.start + h.len - h.start))) row' r → Stepped list width row t (record_on P width (record_of list h)) row' r
   record_text row' r e s =
       stepped 1 (text_on P width (part list h.start (h.start + h.len - h.start))) e
-      (text_record_law P width body (some (screen_of list width row t)) ∙ ap (λ (l : List ℕ). text_on P width l (some (screen_of list width row t))) (sym (body_is list h.start h.len))) row' r s
+      (text_record_law P width body (some (screen_at list width row t)) ∙ ap (λ (l : List ℕ). text_on P width l (some (screen_at list width row t))) (sym (body_is list h.start h.len))) row' r s
 
   set_attributes : Moved list width row t (λ u. with_attributes u (part list h.start body_size)) row (with_attributes_at t h.start)
-  unfolding screen_of row_of with_attributes
+  unfolding screen_at row_of with_attributes
   set_attributes =
       let n : eqb h.start 0 ≡ false = ne_eqb h.start 0 (λ z. omega (arith, z, ready.place)) in
       record { same = rw n refl; ready = record { some = ready.ready.some; at = ready.ready.at; end = ready.ready.end; room = ready.ready.room } }
 
   moved : Moved list width row t (right width) row (with_at t (cond (ltb (t.at + 1) width) (t.at + 1) t.at))
-  unfolding screen_of row_of right
+  unfolding screen_at row_of right
   moved =
       let at : ℕ = t.at in
       let low : at ≤ width = ready.ready.at in
@@ -81,7 +81,7 @@ module _ (P : Profile) (list : List ℕ) (width : ℕ) (row : List ℕ) (t : cod
     stepped_body : (row' : List ℕ) (r : std.Option code.Screen) → Stepped list width row t (formed ok (λ u. on_record P width u (record { whole = true; kind = h.kind; body = body }))) row' r → Stepped list width row t (record_on P width (record_of list h)) row' r
     stepped_body row' r s =
         stepped h.kind (formed ok (λ u. on_record P width u (record { whole = true; kind = h.kind; body = body }))) refl
-        (body_record P width body (some (screen_of list width row t)) h.kind other ∙ ap (λ (x : Bool). formed x (λ u. on_record P width u (record { whole = true; kind = h.kind; body = body })) (some (screen_of list width row t))) (sym test_body)) row' r s
+        (body_record P width body (some (screen_at list width row t)) h.kind other ∙ ap (λ (x : Bool). formed x (λ u. on_record P width u (record { whole = true; kind = h.kind; body = body })) (some (screen_at list width row t))) (sym test_body)) row' r s
 
     pub record_malformed : ok ≡ false → Stepped list width row t (record_on P width (record_of list h)) row None
     unfolding formed
@@ -92,7 +92,7 @@ module _ (P : Profile) (list : List ℕ) (width : ℕ) (row : List ℕ) (t : cod
       stepped_kind : (k : ℕ) (f : Screen → Screen) → h.kind ≡ k → ((u : Screen) → on_record P width u (record { whole = true; kind = k; body = body }) ≡ f u)
           → (row' : List ℕ) (r : code.Screen) → Moved list width row t f row' r → Stepped list width row t (record_on P width (record_of list h)) row' (Some r)
       unfolding formed
-      stepped_kind k f e is row' r m = let s = moved_step m in stepped_body row' (Some r) record { same = s.same ∙ same (some (screen_of list width row t)); ready = s.ready }
+      stepped_kind k f e is row' r m = let s = moved_step m in stepped_body row' (Some r) record { same = s.same ∙ same (some (screen_at list width row t)); ready = s.ready }
         where
           same : (o : Option Screen) → formed true f o ≡ formed ok (λ u. on_record P width u (record { whole = true; kind = h.kind; body = body })) o
           same none = refl

@@ -9,7 +9,7 @@ use lib.Dec.{eqb}
 use borrow.Author.Tests.{ne_eqb}
 use Rattle.screen.specs.Row.{Cell, blank, with_background, put, screen, clear}
 use Rattle.screen.specs.Row.Contracts.{part, body_at, same_numbers, CellsReady}
-use Rattle.screen.specs.Screen.{larger_of, cursor_of, reached, Reached, cut_left, row_of, screen_of, ClearReady, Moved}
+use Rattle.screen.specs.Screen.{larger_of, cursor_of, reached, Reached, cut_left, row_of, screen_at, ClearReady, Moved}
 use Rattle.screen.specs.declared.screen.Screen as code
 use Rattle.screen.proofs.Clusters.{cursor_small}
 use Rattle.screen.proofs.Writing.{larger_is, reached_row, row_clear}
@@ -42,8 +42,8 @@ module _ (list row : List ℕ) (width : ℕ) (t : code.Screen) (color : ℕ) (re
       (row_clear list width (reached row t c) end₁ c (omega (arith, larger_is t.end c)) end_small (omega (arith, long, ready.ready.room)) t.color new (length-replicate (width - c) (blank (with_background (part list color 4))))
       ∙ ap (put c new) (reached_row list width row t c ready.ready.end small ready.ready.room))
 
-  cleared_same : screen_of list width row₂ after ≡ clear width (screen_of list width row t) (part list color 4)
-  unfolding screen_of clear
+  cleared_same : screen_at list width row₂ after ≡ clear width (screen_at list width row t) (part list color 4)
+  unfolding screen_at clear
   cleared_same = rw (← is) (ap (λ (cs : List Cell). screen cs c (eqb t.at width) (body_at list t.attributes) t.passed) cleared_row)
 
   module _ (u : code.Screen) (row₁ : List ℕ) (reach : Reached row t c row₁ u) (long₁ : length row₁ ≡ length row) where
@@ -55,6 +55,6 @@ module _ (list row : List ℕ) (width : ℕ) (t : code.Screen) (color : ℕ) (re
         let g : row' ≡ row₂ = cut ∙ ap₂ (λ (l : List ℕ) (x : code.Screen). cut_left list l x.end c) reach.numbers reach.state in
         rw reach.state
         record {
-          same = ap (λ (l : List ℕ). screen_of list width l after) g ∙ cleared_same;
+          same = ap (λ (l : List ℕ). screen_at list width l after) g ∙ cleared_same;
           ready = record { some = ready.ready.some; at = ready.ready.at; end = small; room = omega (arith, long, ready.ready.room) };
         }

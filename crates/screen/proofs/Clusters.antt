@@ -13,7 +13,7 @@ use Rattle.text.specs.Tests.{cases}
 use Rattle.text.specs.Utf8.{same_bytes}
 use Rattle.screen.specs.Row.{back, write}
 use Rattle.screen.specs.Row.Contracts.{part}
-use Rattle.screen.specs.Screen.{with_at, cursor_of, screen_of, row_of, formed, cluster_on, ClusterOnReady, Moved, Stepped}
+use Rattle.screen.specs.Screen.{with_at, cursor_of, screen_at, row_of, formed, cluster_on, ClusterOnReady, Moved, Stepped}
 use Rattle.std.proofs.Math.Option as option
 use Rattle.std.specs.Prelude.{None, Some}
 use Rattle.screen.specs.declared.screen.Screen as code
@@ -48,7 +48,7 @@ module _ (list row : List ℕ) (width : ℕ) (t : code.Screen) (p e w : ℕ) (re
       ∙ ap (λ (x : ℕ). eqb x 0x08 && eqb (e - p) 1) (get_or-drop p list 0 0 ∙ ap (λ (k : ℕ). get_or list k 0) n ∙ sym byte)
 
   pub cluster_back : (r : code.Screen) → (eqb b 0x08 && eqb (e - p) 1) ≡ true → r ≡ with_at t (cursor_of width t.at - 1) → Stepped list width row t (cluster_on width g w) row (Some r)
-  unfolding screen_of row_of cluster_on formed back
+  unfolding screen_at row_of cluster_on formed back
   cluster_back r is e =
       let c = cursor_small width t.at ready.ready.some ready.ready.at in
       let n : eqb (cursor_of width t.at - 1) width ≡ false = ne_eqb (cursor_of width t.at - 1) width (λ z. omega (arith, z, c)) in
@@ -68,7 +68,7 @@ module _ (list row : List ℕ) (width : ℕ) (t : code.Screen) (p e w : ℕ) (re
       some = omega (arith, some_columns)
 
       pub cluster_passes : width - t.at < w → Stepped list width row t (cluster_on width g w) row (Some (record { at = t.at; attributes = t.attributes; end = t.end; color = t.color; passed = true }))
-      unfolding screen_of row_of cluster_on formed
+      unfolding screen_at row_of cluster_on formed
       cluster_passes h =
           let q = passes_is width t.at w ready.ready.at some ∙ lt-ltb (width - t.at) w h in
           record {
@@ -77,7 +77,7 @@ module _ (list row : List ℕ) (width : ℕ) (t : code.Screen) (p e w : ℕ) (re
           }
 
       pub cluster_written : (row' : List ℕ) (r : code.Screen) → w ≤ width - t.at → Moved list width row t (λ u. write width u g w) row' r → Stepped list width row t (cluster_on width g w) row' (Some r)
-      unfolding screen_of cluster_on formed
+      unfolding screen_at cluster_on formed
       cluster_written row' r h s =
           let q = passes_is width t.at w ready.ready.at some ∙ le-ltb (width - t.at) w h in
           record { same = ap option.some s.same ∙ rw (backspace_is ∙ other, lt-ltb 0 w some, q) refl; ready = s.ready }

@@ -22,7 +22,7 @@ use Rattle.screen.specs.Calls.Code.{kept, shown_of}
 use Rattle.screen.specs.Calls.Code.Laws.{width_refused, screen_shown}
 use Rattle.std.specs.Prelude as std
 use Rattle.std.specs.Prelude.{true, false}
-use Rattle.screen.specs.Screen.{row_of, screen_of, left_on, DrawReady, Drawn}
+use Rattle.screen.specs.Screen.{row_of, screen_at, screen_of, DrawReady, Drawn}
 use Rattle.screen.specs.declared.screen.Screen as code
 use Rattle.screen.proofs.Answers.{kept_bytes}
 
@@ -33,13 +33,13 @@ unfolding shown_of
 finish_malformed room = refl
 
 module _ (list : List ℕ) (width : ℕ) (row : List ℕ) (t : code.Screen) (room : ℕ) where
-  pub finish_passed : t.passed ≡ true → written (record { number = 11; count = 0 }) (replicate room 0) ≡ shown_of (some (screen_of list width row t)) room
-  unfolding shown_of screen_of
+  pub finish_passed : t.passed ≡ true → written (record { number = 11; count = 0 }) (replicate room 0) ≡ shown_of (some (screen_at list width row t)) room
+  unfolding shown_of screen_at
   finish_passed z = sym (rw z refl)
 
   pub finish_row : (l l' : List ℕ) (n : ℕ) (w : Written) → t.passed ≡ false → sink l' n ≡ emit (sink l 0) (row_bytes (row_of list width row t)) → length l' ≡ length l → room ≡ length l → w ≡ kept l' n
-      → w ≡ shown_of (some (screen_of list width row t)) room
-  unfolding shown_of screen_of
+      → w ≡ shown_of (some (screen_at list width row t)) room
+  unfolding shown_of screen_at
   finish_row l l' n w a wrote long is e = e ∙ kept_bytes l l' (row_bytes (row_of list width row t)) n wrote long ∙ sym (rw (a, is) refl)
 
 -- ---- the call
@@ -52,7 +52,7 @@ module _ (row : List ℕ) (width : ℕ) where
   wide_ready a b l = record { some = omega arith; room = omega (arith, l) }
 
 module _ (list : List ℕ) (width room : ℕ) where
-  pub row_shown : (p : profile.Profile) (before row : List ℕ) (t : std.Option code.Screen) (s : Written) → DrawReady width before → width ≤ 4096 → Drawn (profile_of p) list width row t → s ≡ shown_of (left_on list width row t) room → s ≡ screen_call profile01 width room list
+  pub row_shown : (p : profile.Profile) (before row : List ℕ) (t : std.Option code.Screen) (s : Written) → DrawReady width before → width ≤ 4096 → Drawn (profile_of p) list width row t → s ≡ shown_of (screen_of list width row t) room → s ≡ screen_call profile01 width room list
   row_shown p before row t s w h d e =
       e ∙ ap (λ (o : Option Screen). shown_of o room) d.same ∙ screen_shown (profile_of p) width room list (rw (le-leb 1 width w.some, le-leb width 4096 h) refl) ∙ ap (λ (P : Profile). screen_call P width room list) (profile_is p)
 

@@ -27,7 +27,7 @@ use Rattle.text.specs.declared.BytePlace.{BytePlace}
 use Rattle.text.specs.declared.segmentation.ClusterStep.{ClusterStep}
 use Rattle.screen.specs.Row.Contracts.{part}
 use Rattle.screen.specs.Row.Put.{drop_take}
-use Rattle.screen.specs.Screen.{screen_of, left_on, cluster_on, text_on, RowReady, ClusterOnReady, TextReady, Stepped}
+use Rattle.screen.specs.Screen.{screen_at, screen_of, cluster_on, text_on, RowReady, ClusterOnReady, TextReady, Stepped}
 use Rattle.screen.specs.Screen.Laws.{text_step, text_end, text_damaged, text_none}
 use Rattle.screen.specs.declared.screen.Screen as code
 
@@ -44,7 +44,7 @@ pub record Texting (P : Profile) (width : ℕ) (list row₀ : List ℕ) (t₀ : 
   pub low : start ≤ p.0
   pub place : 0 < start
   pub inside : p.0 ≤ end
-  pub work : text_on P width (drop p.0 text) (some (screen_of list width row t)) ≡ text_on P width (drop start text) (some (screen_of list width row₀ t₀))
+  pub work : text_on P width (drop p.0 text) (some (screen_at list width row t)) ≡ text_on P width (drop start text) (some (screen_at list width row₀ t₀))
   pub ready : RowReady width row t
   pub scalar : u ≡ scalar_here P text p.0
   pub long : length row ≡ length row₀
@@ -63,14 +63,14 @@ module _ (P : Profile) (width : ℕ) (list row : List ℕ) (t : code.Screen) (st
   pub text_empty : start ≡ end → Stepped list width row t (text_on P width (part list start (end - start))) row (Some t)
   text_empty e =
       let n : length (part list start (end - start)) ≡ 0 = length-take-le (end - start) (drop start list) (omega (arith, e)) ∙ omega (arith, e) in
-      record { same = sym (text_end P width (part list start (end - start)) n (some (screen_of list width row t))); ready = ready.ready }
+      record { same = sym (text_end P width (part list start (end - start)) n (some (screen_at list width row t))); ready = ready.ready }
 
 module _ (P : Profile) (width : ℕ) (list row₀ : List ℕ) (t₀ : code.Screen) (start end : ℕ) (text : List ℕ) (p : BytePlace) (u : std.Option scalar.Scalar) (row : List ℕ) (t : code.Screen) (b : Texting P width list row₀ t₀ start end text p u row t) where
   all_length : length text ≡ end
   all_length = ap length b.part ∙ length-take-le end list b.room
 
-  whole : text_on P width (drop p.0 text) (some (screen_of list width row t)) ≡ text_on P width (part list start (end - start)) (some (screen_of list width row₀ t₀))
-  whole = b.work ∙ ap (λ (s : List ℕ). text_on P width s (some (screen_of list width row₀ t₀))) (ap (drop start) b.part ∙ part_drop list start end)
+  whole : text_on P width (drop p.0 text) (some (screen_at list width row t)) ≡ text_on P width (part list start (end - start)) (some (screen_at list width row₀ t₀))
+  whole = b.work ∙ ap (λ (s : List ℕ). text_on P width s (some (screen_at list width row₀ t₀))) (ap (drop start) b.part ∙ part_drop list start end)
 
   left : length (drop p.0 text) ≡ end - p.0
   left = length-drop p.0 text ∙ ap (λ (n : ℕ). n - p.0) all_length
@@ -82,10 +82,10 @@ module _ (P : Profile) (width : ℕ) (list row₀ : List ℕ) (t₀ : code.Scree
   text_ready z = record { inside = packed_inside P text p.0 (packed_at P text p.0) refl (some_scalar z); scalar = b.scalar }
 
   pub text_done : end ≤ p.0 → Stepped list width row₀ t₀ (text_on P width (part list start (end - start))) row (Some t)
-  text_done h = record { same = sym (text_end P width (drop p.0 text) (left ∙ omega arith) (some (screen_of list width row t))) ∙ whole; ready = b.ready }
+  text_done h = record { same = sym (text_end P width (drop p.0 text) (left ∙ omega arith) (some (screen_at list width row t))) ∙ whole; ready = b.ready }
 
   pub text_malformed : is_some u ≡ false → p.0 < end → Stepped list width row₀ t₀ (text_on P width (part list start (end - start))) row None
-  text_malformed z h = record { same = sym (text_damaged P width (drop p.0 text) (none_text P text p.0 u b.scalar (no_scalar u z)) (omega (arith, left, h)) (some (screen_of list width row t))) ∙ whole; ready = tt }
+  text_malformed z h = record { same = sym (text_damaged P width (drop p.0 text) (none_text P text p.0 u b.scalar (no_scalar u z)) (omega (arith, left, h)) (some (screen_at list width row t))) ∙ whole; ready = tt }
 
   module _ (g : ClusterStep) (c : NextCluster P text p.0 g) where
     further : is_some u ≡ true → p.0 < g.part.end.0
@@ -98,7 +98,7 @@ module _ (P : Profile) (width : ℕ) (list row₀ : List ℕ) (t₀ : code.Scree
     text_less z = let h = further z in omega (arith, h, c.part.inside)
 
     -- what is left to do after the cluster
-    after : {row' : List ℕ} {o : std.Option code.Screen} → is_some u ≡ true → Stepped list width row t (cluster_on width (part list p.0 (g.part.end.0 - p.0)) g.part.width.0) row' o → text_on P width (drop g.part.end.0 text) (left_on list width row' o) ≡ text_on P width (drop p.0 text) (some (screen_of list width row t))
+    after : {row' : List ℕ} {o : std.Option code.Screen} → is_some u ≡ true → Stepped list width row t (cluster_on width (part list p.0 (g.part.end.0 - p.0)) g.part.width.0) row' o → text_on P width (drop g.part.end.0 text) (screen_of list width row' o) ≡ text_on P width (drop p.0 text) (some (screen_at list width row t))
     after z s =
         let now : List Scalar = text_at text p.0 in
         let e : ℕ = g.part.end.0 in
@@ -110,10 +110,10 @@ module _ (P : Profile) (width : ℕ) (list row₀ : List ℕ) (t₀ : code.Scree
         let rest : text_at text e ≡ f.rest = behind_part P text p.0 front f.rest g.part m f.text in
         let d : drop (size front) (drop p.0 text) ≡ drop e text = drop-drop (size front) p.0 text ∙ ap (λ (i : ℕ). drop i text) k in
         let bytes : part list p.0 (e - p.0) ≡ bytes_of front = ap (part list p.0) n ∙ sym (part_inside list p.0 (size front) end (omega (arith, k, m.inside, all_length))) ∙ ap (λ (l : List ℕ). take (size front) (drop p.0 l)) (sym b.part) ∙ front_bytes (drop p.0 text) front f.rest f.text in
-        let step : text_on P width (drop p.0 text) (some (screen_of list width row t)) ≡ text_on P width (drop e text) (cluster_on width (bytes_of front) (width_of P front) (some (screen_of list width row t)))
-        = text_step P width (drop p.0 text) front f.rest (size front) f.text (ap (λ (l : List ℕ). text_at l 0) d ∙ rest) (sym (size_is front)) (omega (arith, k, m.inside, length-drop p.0 text)) f.clusters (some (screen_of list width row t))
-        ∙ ap (λ (m : List ℕ). text_on P width m (cluster_on width (bytes_of front) (width_of P front) (some (screen_of list width row t)))) d in
-        ap (text_on P width (drop e text)) (s.same ∙ ap₂ (λ (l : List ℕ) (w : ℕ). cluster_on width l w (some (screen_of list width row t))) bytes m.width) ∙ sym step
+        let step : text_on P width (drop p.0 text) (some (screen_at list width row t)) ≡ text_on P width (drop e text) (cluster_on width (bytes_of front) (width_of P front) (some (screen_at list width row t)))
+        = text_step P width (drop p.0 text) front f.rest (size front) f.text (ap (λ (l : List ℕ). text_at l 0) d ∙ rest) (sym (size_is front)) (omega (arith, k, m.inside, length-drop p.0 text)) f.clusters (some (screen_at list width row t))
+        ∙ ap (λ (m : List ℕ). text_on P width m (cluster_on width (bytes_of front) (width_of P front) (some (screen_at list width row t)))) d in
+        ap (text_on P width (drop e text)) (s.same ∙ ap₂ (λ (l : List ℕ) (w : ℕ). cluster_on width l w (some (screen_at list width row t))) bytes m.width) ∙ sym step
 
     -- a cluster that is none ends the text
     pub text_broken : (row' : List ℕ) → is_some u ≡ true → Stepped list width row t (cluster_on width (part list p.0 (g.part.end.0 - p.0)) g.part.width.0) row' None → Stepped list width row₀ t₀ (text_on P width (part list start (end - start))) row' None

@@ -14,7 +14,7 @@ use Rattle.screen.specs.Row.Laws.{lost_end_length}
 use Rattle.screen.specs.Row.Contracts.{part, body_at, blank_at, cell_of, cells_in, cell_in, first_column, laters, same_numbers, cluster_numbers, CellsReady}
 use Rattle.screen.specs.Row.Contracts.Laws.{cells_enough, cells_written, cells_same, same_length, first_le, lost_end_law, laters_le}
 use Rattle.screen.specs.Row.Put.{drop_take, put_cells}
-use Rattle.screen.specs.Screen.{with_at, with_end, larger_of, cursor_of, reached, Reached, cut_left, cut_right, row_of, screen_of, WriteReady, Moved}
+use Rattle.screen.specs.Screen.{with_at, with_end, larger_of, cursor_of, reached, Reached, cut_left, cut_right, row_of, screen_at, WriteReady, Moved}
 use Rattle.screen.specs.declared.screen.Screen as code
 
 pub larger_is : (a b : ℕ) → larger_of a b ≡ a + (b - a)
@@ -211,8 +211,8 @@ module _ (list row : List ℕ) (width : ℕ) (s : code.Screen) (p e w : ℕ) (re
       row_put list width (reached row s s.at) end₁ s.at (omega (arith, larger_is s.end s.at)) end_small (omega (arith, reached_long, ready.ready.room)) w ready.fits p (e - p) s.attributes ready.place ready.some s.color
       ∙ ap (put s.at (cluster_cells (part list p (e - p)) (body_at list s.attributes) w)) (reached_row list width row s s.at ready.ready.end ready.ready.at ready.ready.room)
 
-  written_same : screen_of list width written after ≡ write width (screen_of list width row s) (part list p (e - p)) w
-  unfolding screen_of write
+  written_same : screen_at list width written after ≡ write width (screen_at list width row s) (part list p (e - p)) w
+  unfolding screen_at write
   written_same =
       let n : eqb s.at width ≡ false = ne_eqb s.at width (λ z. omega (arith, z, ready.some, ready.fits)) in
       rw n (ap (λ (cs : List Cell). screen cs (cursor_of width to) (eqb to width) (body_at list s.attributes) s.passed) written_row)

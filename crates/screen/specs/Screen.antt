@@ -55,14 +55,14 @@ cut_right list row end at = sets row (3 * at) (same_numbers (laters (drop at (ta
 unfoldable pub row_of : List ℕ → ℕ → List ℕ → code.Screen → List Cell
 row_of list width row t = take t.end (cells_in list row) ++ replicate (width - t.end) (blank_at list t.color)
 
-unfoldable pub screen_of : List ℕ → ℕ → List ℕ → code.Screen → Screen
+unfoldable pub screen_at : List ℕ → ℕ → List ℕ → code.Screen → Screen
 unfolding row_of
-screen_of list width row t = screen (row_of list width row t) (cursor_of width t.at) (eqb t.at width) (body_at list t.attributes) t.passed
+screen_at list width row t = screen (row_of list width row t) (cursor_of width t.at) (eqb t.at width) (body_at list t.attributes) t.passed
 
 -- none where the list is malformed
-abbrev pub left_on : List ℕ → ℕ → List ℕ → std.Option code.Screen → Option Screen
-left_on list width row None = none
-left_on list width row (Some t) = some (screen_of list width row t)
+abbrev pub screen_of : List ℕ → ℕ → List ℕ → std.Option code.Screen → Option Screen
+screen_of list width row None = none
+screen_of list width row (Some t) = some (screen_at list width row t)
 
 pub record RowReady (width : ℕ) (row : List ℕ) (t : code.Screen) : Type 0 where
   pub some : 0 < width
@@ -112,12 +112,12 @@ LeftReady width row o = IfSome o (λ t. RowReady width row t)
 
 -- what a step makes of the screen
 pub record Moved (list : List ℕ) (width : ℕ) (row : List ℕ) (t : code.Screen) (f : Screen → Screen) (row' : List ℕ) (r : code.Screen) : Type 0 where
-  pub same : screen_of list width row' r ≡ f (screen_of list width row t)
+  pub same : screen_at list width row' r ≡ f (screen_at list width row t)
   pub ready : RowReady width row' r
 
 -- the same, none where it is malformed
 pub record Stepped (list : List ℕ) (width : ℕ) (row : List ℕ) (t : code.Screen) (f : Option Screen → Option Screen) (row' : List ℕ) (r : std.Option code.Screen) : Type 0 where
-  pub same : left_on list width row' r ≡ f (some (screen_of list width row t))
+  pub same : screen_of list width row' r ≡ f (some (screen_at list width row t))
   pub ready : LeftReady width row' r
 
 -- ---- what a change does, none where it is malformed
@@ -151,5 +151,5 @@ module _ (P : Profile) (width : ℕ) where
 
 -- the screen that a list leaves
 pub record Drawn (P : Profile) (list : List ℕ) (width : ℕ) (row' : List ℕ) (r : std.Option code.Screen) : Type 0 where
-  pub same : left_on list width row' r ≡ records_on P width (records 4 list) (some (blank_screen width))
+  pub same : screen_of list width row' r ≡ records_on P width (records 4 list) (some (blank_screen width))
   pub ready : LeftReady width row' r
