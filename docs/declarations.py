@@ -57,7 +57,7 @@ class Module:
 def uses_of(text):
     """name or alias -> (module, name or None)"""
     found = {}
-    for module, names, alias in re.findall(r'^(?:ghost )?use ([^\s{;]+?)(?:\.\{([^}]*)\})?(?: as ([\w-]+))?;?$', text, re.M):
+    for module, names, alias in re.findall(r'^(?:pub |ghost )?use ([^\s{;]+?)(?:\.\{([^}]*)\})?(?: as ([\w-]+))?;?$', text, re.M):
         if alias:
             found[alias] = (module, None)
         elif names:
