@@ -48,8 +48,11 @@ pub fn copy<T: Copy>(out: &mut [T], at: usize, src: &[T]) -> usize
     requires { at + length src.now ≤ length out.old }
     ensures { Copied out.old out.new at src.now result }
 {
-    let end = at + src.len();
-    out[at..end].copy_from_slice(src);
+    let mut end = at;
+    for x in src {
+        out[end] = *x;
+        end += 1;
+    }
     end
 }
 
