@@ -3,9 +3,7 @@ ghost use Rattle.std.specs.Prelude.{◌≡◌, ◌≤◌};
 ghost use Rattle.buffer.specs.Sink.{sink, emit};
 ghost use Rattle.unicode_io.specs.Digits.{decimal, hexadecimal};
 ghost use Rattle.unicode_io.specs.Output.{number_line, part_size, gap, head, numbers, head_of, foot_of, row_text, refusal};
-ghost use Rattle.unicode_io.specs.Reading.{number_of};
 
-use super::reading::Refusal;
 use super::rows::Row;
 use buffer::push_all;
 
@@ -101,10 +99,10 @@ pub fn push_row(out: &mut [u8], at: usize, total: usize, i: usize, row: Row) -> 
     push_foot_of(out, b, total, i)
 }
 
-pub fn push_refusal(out: &mut [u8], at: usize, reason: Refusal) -> usize
-    ensures { sink out.new result ≡ emit (sink out.old at) (refusal (number_of reason)) }
+pub fn push_refusal(out: &mut [u8], at: usize, number: usize) -> usize
+    ensures { sink out.new result ≡ emit (sink out.old at) (refusal number) }
 {
     let a = push_all(out, at, b"refused ");
-    let b = push_decimal(out, a, reason.number());
+    let b = push_decimal(out, a, number);
     push_all(out, b, b"\n")
 }

@@ -28,7 +28,7 @@ pub(crate) fn refuse(rt: &HostRuntime, reason: Refusal) -> bool
     ensures { Handed (refusal (number_of reason)) result }
 {
     let mut out = [0u8; 64];
-    let n = push_refusal(&mut out, 0, reason);
+    let n = push_refusal(&mut out, 0, reason.number());
     written(rt, &out, n)
 }
 
