@@ -12,33 +12,29 @@ use Rattle.unicode_io.specs.declared.line.Content.{Content}
 use Rattle.unicode_io.specs.declared.line.Content.TheVariants as content
 pub mod Laws
 
-abbrev pub kind_of : ℕ → Kind
-kind_of b = cond (b == 0x20) kind.Space (cond (is_hex b) kind.Digit (cond (b == 0x2E) kind.Dot (cond (b == 0x3B) kind.Semicolon kind.Other)))
+-- the kinds of bytes: space, digit, `.`, `;`, any other
+abbrev pub kind_of : ℕ → ℕ
+kind_of b = cond (b == 0x20) 0 (cond (is_hex b) 1 (cond (b == 0x2E) 2 (cond (b == 0x3B) 3 4)))
 
--- one of five, by a byte's kind
-abbrev pub by_kind : (space digit dot semicolon other : Stage) → Kind → Stage
-by_kind space digit dot semicolon other kind.Space = space
-by_kind space digit dot semicolon other kind.Digit = digit
-by_kind space digit dot semicolon other kind.Dot = dot
-by_kind space digit dot semicolon other kind.Semicolon = semicolon
-by_kind space digit dot semicolon other kind.Other = other
+-- the stage after a byte, by the stage before it and the byte's kind
+abbrev pub stages : List ℕ
+stages =
+    --  space   digit   .       ;       other
+    0 ∷ 1 ∷ 10 ∷ 10 ∷ 10 ∷  -- 0: nothing yet
+    2 ∷ 1 ∷ 3 ∷ 7 ∷ 10 ∷  -- 1: in the first number
+    2 ∷ 10 ∷ 3 ∷ 7 ∷ 10 ∷  -- 2: after it
+    10 ∷ 10 ∷ 4 ∷ 10 ∷ 10 ∷  -- 3: after one `.`
+    4 ∷ 5 ∷ 10 ∷ 10 ∷ 10 ∷  -- 4: after `..`
+    6 ∷ 5 ∷ 10 ∷ 7 ∷ 10 ∷  -- 5: in the second number
+    6 ∷ 10 ∷ 10 ∷ 7 ∷ 10 ∷  -- 6: after it
+    7 ∷ 8 ∷ 8 ∷ 7 ∷ 8 ∷  -- 7: after `;`
+    9 ∷ 8 ∷ 8 ∷ 7 ∷ 8 ∷  -- 8: in a word of the name
+    9 ∷ 10 ∷ 10 ∷ 7 ∷ 10 ∷  -- 9: after it
+    10 ∷ 10 ∷ 10 ∷ 10 ∷ 10 ∷  -- 10: a line of another form
+    []
 
--- the stage after a byte, by the stage before it and the byte's kind: space, digit, `.`, `;`, any other
-abbrev pub after : Stage → Kind → Stage
-after Start = by_kind Start Low OtherForm OtherForm OtherForm
-after Low = by_kind AfterLow Low Dot BeforeWord OtherForm
-after AfterLow = by_kind AfterLow OtherForm Dot BeforeWord OtherForm
-after Dot = by_kind OtherForm OtherForm BeforeHigh OtherForm OtherForm
-after BeforeHigh = by_kind BeforeHigh High OtherForm OtherForm OtherForm
-after High = by_kind AfterHigh High OtherForm BeforeWord OtherForm
-after AfterHigh = by_kind AfterHigh OtherForm OtherForm BeforeWord OtherForm
-after BeforeWord = by_kind BeforeWord Word Word BeforeWord Word
-after Word = by_kind AfterWord Word Word BeforeWord Word
-after AfterWord = by_kind AfterWord OtherForm OtherForm BeforeWord OtherForm
-after OtherForm = by_kind OtherForm OtherForm OtherForm OtherForm OtherForm
-
-abbrev pub next_stage : Stage → ℕ → Stage
-next_stage stage b = after stage (kind_of b)
+abbrev pub next_stage : ℕ → ℕ → ℕ
+next_stage stage b = slice_index stages (stage * 5 + kind_of b)
 
 -- a number of so many digits; seven are too many, and no more are kept
 abbrev pub with_digit : Number → ℕ → Number
@@ -50,41 +46,36 @@ is_scalar n = nat_le 4 n.digits && (nat_le n.digits 6 && nat_le n.value 0x10FFFF
 
 -- nothing read yet
 abbrev pub empty : Line
-empty = record { stage = Start; comment = false; low = record { value = 0; digits = 0 }; high = record { value = 0; digits = 0 }; name = replicate 32 0; count = 0 }
+empty = record { stage = 0; comment = false; low = record { value = 0; digits = 0 }; high = record { value = 0; digits = 0 }; name = replicate 32 0; count = 0 }
 
-abbrev pub at_stage : Line → Stage → Line
+abbrev pub at_stage : Line → ℕ → Line
 at_stage l s = record { stage = s; comment = l.comment; low = l.low; high = l.high; name = l.name; count = l.count }
 
 abbrev pub in_comment : Line → Line
 in_comment l = record { stage = l.stage; comment = true; low = l.low; high = l.high; name = l.name; count = l.count }
 
 abbrev pub with_low : Line → ℕ → Line
-with_low l b = record { stage = Low; comment = l.comment; low = with_digit l.low b; high = l.high; name = l.name; count = l.count }
+with_low l b = record { stage = 1; comment = l.comment; low = with_digit l.low b; high = l.high; name = l.name; count = l.count }
 
 abbrev pub with_high : Line → ℕ → Line
-with_high l b = record { stage = High; comment = l.comment; low = l.low; high = with_digit l.high b; name = l.name; count = l.count }
+with_high l b = record { stage = 5; comment = l.comment; low = l.low; high = with_digit l.high b; name = l.name; count = l.count }
 
 -- one byte more of the name; no name has more than 32
-abbrev pub with_name : Line → Stage → ℕ → Line
-with_name l s b = cond (nat_lt l.count 32) (record { stage = s; comment = l.comment; low = l.low; high = l.high; name = slice_set l.name l.count b; count = l.count + 1 }) (at_stage l OtherForm)
+abbrev pub with_name : Line → ℕ → ℕ → Line
+with_name l s b = cond (nat_lt l.count 32) (record { stage = s; comment = l.comment; low = l.low; high = l.high; name = slice_set l.name l.count b; count = l.count + 1 }) (at_stage l 10)
 
--- after the `;`, where a further `;` belongs to the name
-abbrev pub is_in_name : Stage → Bool
-is_in_name BeforeWord = true
-is_in_name Word = true
-is_in_name AfterWord = true
-is_in_name stage = false
-
--- what a byte that leads to a stage does
-abbrev pub staged : Line → ℕ → Stage → Line
-staged l b Low = with_low l b
-staged l b High = with_high l b
-staged l b Word = with_name l Word b
-staged l b BeforeWord = cond (b == 0x3B && is_in_name l.stage) (with_name l BeforeWord b) (at_stage l BeforeWord)
-staged l b stage = at_stage l stage
+-- a byte of the name: one of a word, or a `;` after the first
+abbrev pub in_name : ℕ → ℕ → ℕ → Bool
+in_name before after b = after == 8 || (after == 7 && (b == 0x3B && nat_le 7 before))
 
 unfoldable pub with_byte : Line → ℕ → Line
-with_byte l b = cond l.comment l (cond (b == 0x23) (in_comment l) (staged l b (next_stage l.stage b)))
+with_byte l b =
+    cond l.comment l
+    (cond (b == 0x23) (in_comment l)
+    (cond (next_stage l.stage b == 1) (with_low l b)
+    (cond (next_stage l.stage b == 5) (with_high l b)
+    (cond (in_name l.stage (next_stage l.stage b) b) (with_name l (next_stage l.stage b) b)
+    (at_stage l (next_stage l.stage b))))))
 
 unfoldable pub line_from : Line → List ℕ → Line
 line_from l [] = l
@@ -101,21 +92,36 @@ ranged low high name =
     other_form))
     other_form
 
--- a line with a name
-abbrev pub called : ℕ → Line → Entry
-called file l = cond (name_number file (take l.count l.name) == 0) other_form (ranged l.low l.high (name_number file (take l.count l.name)))
-
-abbrev pub ended_at : Entry → Stage → Entry
-ended_at named Start = nothing
-ended_at named Word = named
-ended_at named AfterWord = named
-ended_at named stage = other_form
-
 unfoldable pub entry_of : ℕ → Line → Entry
 unfolding ranged
-entry_of file l = ended_at (called file l) l.stage
+entry_of file l =
+    cond (l.stage == 0) nothing
+    (cond (nat_le 8 l.stage && nat_le l.stage 9)
+    (cond (name_number file (take l.count l.name) == 0) other_form (ranged l.low l.high (name_number file (take l.count l.name))))
+    other_form)
 
--- what the code answers
+-- ---- what the code has for these numbers, and for an entry
+
+abbrev pub kind_number : Kind → ℕ
+kind_number kind.Space = 0
+kind_number kind.Digit = 1
+kind_number kind.Dot = 2
+kind_number kind.Semicolon = 3
+kind_number kind.Other = 4
+
+abbrev pub stage_number : Stage → ℕ
+stage_number Start = 0
+stage_number Low = 1
+stage_number AfterLow = 2
+stage_number Dot = 3
+stage_number BeforeHigh = 4
+stage_number High = 5
+stage_number AfterHigh = 6
+stage_number BeforeWord = 7
+stage_number Word = 8
+stage_number AfterWord = 9
+stage_number OtherForm = 10
+
 abbrev pub entry_in : Content → Entry
 entry_in content.Nothing = nothing
 entry_in (content.Entry low high name) = entry low high name

@@ -1,8 +1,8 @@
 // A line of a file, byte by byte. Nothing is decided before its end: the numbers and the name are kept as they come.
-ghost use Rattle.std.specs.Prelude.{◌≡◌, take};
+ghost use Rattle.std.specs.Prelude.{◌≡◌, ◌+◌, ◌*◌, ◌<◌, MatchOption, take, slice_index};
 ghost use Rattle.unicode_io.specs.Names.{number_found, name_number};
 ghost use Rattle.unicode_io.specs.Grammar.{hex_value};
-ghost use Rattle.unicode_io.specs.Line.{kind_of, after, next_stage, with_digit, is_scalar, empty, at_stage, in_comment, with_low, with_high, with_name, is_in_name, with_byte, ranged, entry_of, entry_in};
+ghost use Rattle.unicode_io.specs.Line.{kind_of, kind_number, stages, stage_number, next_stage, with_digit, is_scalar, empty, at_stage, in_comment, with_low, with_high, with_name, in_name, with_byte, ranged, entry_of, entry_in};
 
 use super::names::name_number;
 
@@ -41,7 +41,8 @@ pub enum Kind {
 
 #[derive(Clone, Copy)]
 pub struct Line {
-    pub stage: Stage,
+    // The number of a Stage. Above 10 it is none: a byte leads from there to Start, and a line that ends there is of another form.
+    pub stage: u8,
     pub comment: bool,
     pub low: Number,
     pub high: Number,
@@ -63,7 +64,7 @@ pub enum Content {
 
 impl Kind {
     fn of(b: u8) -> Kind
-        ensures { result ≡ kind_of b }
+        ensures { kind_number result ≡ kind_of b }
     {
         match b {
             b' ' => Kind::Space,
@@ -85,8 +86,27 @@ fn hex_value(b: u8) -> usize
 }
 
 impl Stage {
+    fn of(number: u8) -> Option<Stage>
+        ensures { MatchOption result (10 < number) (λ stage. stage_number stage ≡ number) }
+    {
+        match number {
+            0 => Some(Stage::Start),
+            1 => Some(Stage::Low),
+            2 => Some(Stage::AfterLow),
+            3 => Some(Stage::Dot),
+            4 => Some(Stage::BeforeHigh),
+            5 => Some(Stage::High),
+            6 => Some(Stage::AfterHigh),
+            7 => Some(Stage::BeforeWord),
+            8 => Some(Stage::Word),
+            9 => Some(Stage::AfterWord),
+            10 => Some(Stage::OtherForm),
+            _ => None,
+        }
+    }
+
     fn after(self, kind: Kind) -> Stage
-        ensures { result ≡ after self kind }
+        ensures { stage_number result ≡ slice_index stages (stage_number self * 5 + kind_number kind) }
     {
         match (self, kind) {
             (Stage::Start, Kind::Space) => Stage::Start,
@@ -105,13 +125,6 @@ impl Stage {
             (Stage::BeforeWord | Stage::Word, _) => Stage::Word,
             _ => Stage::OtherForm,
         }
-    }
-
-    // After the `;`, where a further `;` belongs to the name.
-    fn is_in_name(self) -> bool
-        ensures { result ≡ is_in_name self }
-    {
-        matches!(self, Stage::BeforeWord | Stage::Word | Stage::AfterWord)
     }
 }
 
@@ -146,7 +159,7 @@ impl Line {
             digits: 0,
         };
         Line {
-            stage: Stage::Start,
+            stage: Stage::Start as u8,
             comment: false,
             low: none,
             high: none,
@@ -156,9 +169,12 @@ impl Line {
     }
 
     fn at_stage(self, stage: Stage) -> Line
-        ensures { result ≡ at_stage self stage }
+        ensures { result ≡ at_stage self (stage_number stage) }
     {
-        Line { stage, ..self }
+        Line {
+            stage: stage as u8,
+            ..self
+        }
     }
 
     fn in_comment(self) -> Line
@@ -174,7 +190,7 @@ impl Line {
         ensures { result ≡ with_low self b }
     {
         Line {
-            stage: Stage::Low,
+            stage: Stage::Low as u8,
             low: self.low.with_digit(b),
             ..self
         }
@@ -184,7 +200,7 @@ impl Line {
         ensures { result ≡ with_high self b }
     {
         Line {
-            stage: Stage::High,
+            stage: Stage::High as u8,
             high: self.high.with_digit(b),
             ..self
         }
@@ -192,7 +208,7 @@ impl Line {
 
     // One byte more of the name. No name has more than 32.
     fn with_name(self, stage: Stage, b: u8) -> Line
-        ensures { result ≡ with_name self stage b }
+        ensures { result ≡ with_name self (stage_number stage) b }
     {
         let at = self.count;
         if at < 32 {
@@ -202,6 +218,26 @@ impl Line {
             return longer;
         }
         self.at_stage(Stage::OtherForm)
+    }
+
+    fn stage_after(self, b: u8) -> Stage
+        ensures { stage_number result ≡ next_stage self.stage b }
+    {
+        match Stage::of(self.stage) {
+            Some(stage) => stage.after(Kind::of(b)),
+            None => Stage::Start,
+        }
+    }
+
+    // A byte of the name: one of a word, or a `;` after the first.
+    fn is_in_name(self, after: Stage, b: u8) -> bool
+        ensures { result ≡ in_name self.stage (stage_number after) b }
+    {
+        match after {
+            Stage::Word => true,
+            Stage::BeforeWord => b == b';' && Stage::BeforeWord as u8 <= self.stage,
+            _ => false,
+        }
     }
 
     // One byte more, no newline.
@@ -215,12 +251,11 @@ impl Line {
         if b == b'#' {
             return self.in_comment();
         }
-        let stage = self.stage.after(Kind::of(b));
+        let stage = self.stage_after(b);
         match stage {
             Stage::Low => self.with_low(b),
             Stage::High => self.with_high(b),
-            Stage::Word => self.with_name(stage, b),
-            Stage::BeforeWord if b == b';' && self.stage.is_in_name() => self.with_name(stage, b),
+            _ if self.is_in_name(stage, b) => self.with_name(stage, b),
             _ => self.at_stage(stage),
         }
     }
@@ -238,9 +273,9 @@ impl Line {
     pub fn content(self, file: usize) -> Content
         ensures { entry_in result ≡ entry_of file self }
     {
-        match self.stage {
-            Stage::Start => Content::Nothing,
-            Stage::Word | Stage::AfterWord => match self.name_number(file) {
+        match Stage::of(self.stage) {
+            Some(Stage::Start) => Content::Nothing,
+            Some(Stage::Word | Stage::AfterWord) => match self.name_number(file) {
                 Some(name) => ranged(self.low, self.high, name),
                 None => Content::OtherForm,
             },

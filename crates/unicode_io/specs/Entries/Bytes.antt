@@ -7,8 +7,7 @@ use Rattle.unicode_io.specs.Names.{name_number}
 use Rattle.unicode_io.specs.Names.Laws.{names_in, name_few, name_most}
 use Rattle.unicode_io.specs.Grammar.{Entry, entry, nothing, other_form, line_of}
 use Rattle.unicode_io.specs.Grammar.Laws.{line_is}
-use Rattle.unicode_io.specs.Line.{called, empty, with_byte, line_from, entry_of, ranged, is_scalar}
-use Rattle.unicode_io.specs.Line.Laws.{ended_any}
+use Rattle.unicode_io.specs.Line.{empty, with_byte, line_from, entry_of, ranged, is_scalar}
 use Rattle.unicode_io.specs.Reading.{State, state_of, reading, with_entry, line_ended, byte_read, bytes_read, taken_by_entry, fill_entry}
 use Rattle.unicode_io.specs.Reading.Laws.{ended_nothing, ended_other, ended_overlapped, ended_entry, byte_newline, byte_more}
 use Rattle.unicode_io.specs.Entries.{is_entry, meets_any, overlap, malformed, entries_from}
@@ -44,11 +43,13 @@ good_ranged file low high name f m = by_cases (is_scalar low) (high.digits == 0)
 
 good_line : (file : ℕ) (l : Line) → Good file (entry_of file l)
 unfolding entry_of
-good_line file l = ended_any (Good file) (called file l) (good_nothing file) (good_other file) (by_case (name_number file (take l.count l.name) == 0)) l.stage
+good_line file l = by_cases (l.stage == 0) (nat_le 8 l.stage && nat_le l.stage 9) (name_number file (take l.count l.name) == 0)
   where
-    by_case : (t : Bool) → Good file (cond t other_form (ranged l.low l.high (name_number file (take l.count l.name))))
-    by_case true = good_other file
-    by_case false = good_ranged file l.low l.high (name_number file (take l.count l.name)) (name_few file (take l.count l.name)) (name_most file (take l.count l.name))
+    by_cases : (s t u : Bool) → Good file (cond s nothing (cond t (cond u other_form (ranged l.low l.high (name_number file (take l.count l.name)))) other_form))
+    by_cases true t u = good_nothing file
+    by_cases false true true = good_other file
+    by_cases false true false = good_ranged file l.low l.high (name_number file (take l.count l.name)) (name_few file (take l.count l.name)) (name_most file (take l.count l.name))
+    by_cases false false u = good_other file
 
 pub good_of : (file : ℕ) (line : List ℕ) → Good file (line_of file line)
 good_of file line = subst (Good file) (line_is file line) (good_line file (line_from empty line))

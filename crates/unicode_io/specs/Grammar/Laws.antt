@@ -1,5 +1,5 @@
 -- The table of stages reads a line as the grammar says.
-use Rattle.std.specs.Prelude.{◌≡◌, ℕ, suc, ◌+◌, ◌*◌, ◌%◌, ◌^◌, ◌<◌, ◌≤◌, Bool, true, false, cond, ◌&&◌, ◌||◌, ltb, leb, List, [], ◌∷◌, ◌++◌, length, take, replicate, ◌==◌, ◌≢◌, nat_eq, nat_le, nat_lt, slice_set}
+use Rattle.std.specs.Prelude.{◌≡◌, ℕ, suc, ◌+◌, ◌*◌, ◌%◌, ◌^◌, ◌<◌, ◌≤◌, Bool, true, false, cond, ◌&&◌, ◌||◌, ltb, leb, List, [], ◌∷◌, ◌++◌, length, take, replicate, ◌==◌, ◌≢◌, nat_eq, nat_le, nat_lt, slice_index, slice_set}
 use Rattle.std.proofs.Math.Path.{refl, sym, ap, ap₂}
 use Rattle.std.proofs.Common.{subst, ◌∙◌, add-one, arith, append-nil, append_assoc, length-set, take-suc-set}
 use Rattle.std.proofs.Math.Nat.{pow-zero, pow-succ', pow-le-pow_right}
@@ -8,13 +8,10 @@ use borrow.Author.Tests.{eqb-true, ltb-true, ltb-false, leb-true, leb-false, lt-
 use Rattle.unicode_io.specs.Tests.{never, and_left, and_right}
 use Rattle.unicode_io.specs.Names.{name_number}
 use Rattle.unicode_io.specs.Names.Laws.{long_none, spaced_none, ended_none, empty_none}
-use Rattle.unicode_io.specs.Line.{kind_of, after, next_stage, with_digit, is_scalar, empty, at_stage, in_comment, with_name, is_in_name, staged, with_byte, line_from, ranged, entry_of}
+use Rattle.unicode_io.specs.Line.{kind_of, stages, next_stage, with_digit, is_scalar, empty, at_stage, in_comment, with_low, with_high, with_name, in_name, with_byte, line_from, ranged, entry_of}
 use Rattle.unicode_io.specs.Grammar.{Entry, is_hex, hex_value, other_form, entry, uncommented, unspaced, digits_of, after_digits, value_from, scalar_of, is_number, Range, one, range, range_entry, space_before, trimmed, named, after_high, after_dot, after_low, content, line_of}
 use Rattle.unicode_io.specs.declared.line.Number.{Number}
 use Rattle.unicode_io.specs.declared.line.Line.{Line}
-use Rattle.unicode_io.specs.declared.line.Stage.{Stage}
-use Rattle.unicode_io.specs.declared.line.Stage.TheVariants.{Start, Low, AfterLow, Dot, BeforeHigh, High, AfterHigh, BeforeWord, Word, AfterWord, OtherForm}
-use Rattle.unicode_io.specs.declared.line.Kind.TheVariants as kind
 
 -- ---- kinds of bytes
 
@@ -24,7 +21,7 @@ record Plain (b : ℕ) (hex : Bool) : Type 0 where
   dot : nat_eq b 0x2E ≡ false
   semi : nat_eq b 0x3B ≡ false
   digit : is_hex b ≡ hex
-  kind : kind_of b ≡ cond hex kind.Digit kind.Other
+  kind : kind_of b ≡ cond hex 1 4
 
 by_byte : (P : ℕ → Type 0) → P 0x20 → P 0x2E → P 0x3B → ((b : ℕ) (hex : Bool) → Plain b hex → P b) → (b : ℕ) → P b
 by_byte P p q r f b = by_cases (b == 0x20) (b == 0x2E) (b == 0x3B) (is_hex b) refl refl refl refl
@@ -36,17 +33,20 @@ by_byte P p q r f b = by_cases (b == 0x20) (b == 0x2E) (b == 0x3B) (is_hex b) re
     by_cases false false false true e f' g i = f b true (record { space = e; dot = f'; semi = g; digit = i; kind = rw (e, i) refl })
     by_cases false false false false e f' g i = f b false (record { space = e; dot = f'; semi = g; digit = i; kind = rw (e, i, f', g) refl })
 
-next_plain : (k : Stage) (b : ℕ) (hex : Bool) → Plain b hex → next_stage k b ≡ after k (cond hex kind.Digit kind.Other)
-next_plain k b hex p = ap (after k) p.kind
+next_plain : (k b : ℕ) (hex : Bool) → Plain b hex → next_stage k b ≡ slice_index stages (k * 5 + cond hex 1 4)
+next_plain k b hex p = ap (λ (j : ℕ). slice_index stages (k * 5 + j)) p.kind
 
-next_same : (k n : Stage) (b : ℕ) (hex : Bool) → Plain b hex → after k kind.Digit ≡ n → after k kind.Other ≡ n → next_stage k b ≡ n
+next_same : (k n b : ℕ) (hex : Bool) → Plain b hex → slice_index stages (k * 5 + 1) ≡ n → slice_index stages (k * 5 + 4) ≡ n → next_stage k b ≡ n
 next_same k n b true p e f = next_plain k b true p ∙ e
 next_same k n b false p e f = next_plain k b false p ∙ f
 
 -- ---- bytes that begin no comment
 
-abbrev at : Stage → Number → Number → List ℕ → ℕ → Line
+abbrev at : ℕ → Number → Number → List ℕ → ℕ → Line
 at stage low high name count = record { stage = stage; comment = false; low = low; high = high; name = name; count = count }
+
+abbrev staged : Line → ℕ → ℕ → Line
+staged l b s = cond (s == 1) (with_low l b) (cond (s == 5) (with_high l b) (cond (in_name l.stage s b) (with_name l s b) (at_stage l s)))
 
 abbrev plain_byte : Line → ℕ → Line
 plain_byte l b = staged l b (next_stage l.stage b)
@@ -63,15 +63,15 @@ module _ (file : ℕ) where
   read l s = entry_of file (plain_from l s)
 
   -- the byte leads to stage n
-  read_on : (l : Line) (b : ℕ) (n : Stage) (s : List ℕ) → next_stage l.stage b ≡ n → read l (b ∷ s) ≡ read (staged l b n) s
-  read_on l b n s e = ap (λ (k : Stage). read (staged l b k) s) e
+  read_on : (l : Line) (b n : ℕ) (s : List ℕ) → next_stage l.stage b ≡ n → read l (b ∷ s) ≡ read (staged l b n) s
+  read_on l b n s e = ap (λ (k : ℕ). read (staged l b k) s) e
 
-  dead : (s : List ℕ) (lo hi : Number) (nm : List ℕ) (c : ℕ) → read (at OtherForm lo hi nm c) s ≡ other_form
+  dead : (s : List ℕ) (lo hi : Number) (nm : List ℕ) (c : ℕ) → read (at 10 lo hi nm c) s ≡ other_form
   unfolding entry_of
   dead [] lo hi nm c = refl
   dead (b ∷ s) lo hi nm c =
-      by_byte (λ (x : ℕ). read (at OtherForm lo hi nm c) (x ∷ s) ≡ other_form) (dead s lo hi nm c) (dead s lo hi nm c) (dead s lo hi nm c)
-      (λ x hex p. read_on (at OtherForm lo hi nm c) x OtherForm s (next_same OtherForm OtherForm x hex p refl refl) ∙ dead s lo hi nm c) b
+      by_byte (λ (x : ℕ). read (at 10 lo hi nm c) (x ∷ s) ≡ other_form) (dead s lo hi nm c) (dead s lo hi nm c) (dead s lo hi nm c)
+      (λ x hex p. read_on (at 10 lo hi nm c) x 10 s (next_same 10 10 x hex p refl refl) ∙ dead s lo hi nm c) b
 
 -- ---- spaces around the parts of a name
 
@@ -113,12 +113,12 @@ space_space (b ∷ s) = by_cases (b == 0x20 || b == 0x3B) refl
 -- ---- the name
 
 -- c bytes of the name are kept
-record Kept (w nm : List ℕ) (c : ℕ) : Type 0 where
+record Word (w nm : List ℕ) (c : ℕ) : Type 0 where
   holds : take c nm ≡ w
   many : length w ≡ c
   room : length nm ≡ 32
 
-word_more : (w nm : List ℕ) (c b : ℕ) → Kept w nm c → c < 32 → Kept (w ++ b ∷ []) (slice_set nm c b) (c + 1)
+word_more : (w nm : List ℕ) (c b : ℕ) → Word w nm c → c < 32 → Word (w ++ b ∷ []) (slice_set nm c b) (c + 1)
 word_more w nm c b h l = record {
   holds = ap (λ (n : ℕ). take n (slice_set nm c b)) (add-one c) ∙ take-suc-set nm c b (omega (arith, h.room)) ∙ ap (λ (x : List ℕ). x ++ b ∷ []) h.holds;
   many = omega (arith, length-append w (b ∷ []), h.many);
@@ -133,9 +133,9 @@ module _ (file : ℕ) (lo hi : Number) where
   uncalled w e = rw e refl
 
   record Tail (s : List ℕ) : Type 0 where
-    after : (w nm : List ℕ) (c : ℕ) → Kept w nm c → name_number file w ≡ 0 → read file (at BeforeWord lo hi nm c) s ≡ called (w ++ unspaced (trimmed s))
-    word : (w nm : List ℕ) (c : ℕ) → Kept w nm c → read file (at Word lo hi nm c) s ≡ called (w ++ trimmed s)
-    gap : (w nm : List ℕ) (c : ℕ) → Kept w nm c → read file (at AfterWord lo hi nm c) s ≡ called (w ++ trimmed (0x20 ∷ s))
+    after : (w nm : List ℕ) (c : ℕ) → Word w nm c → name_number file w ≡ 0 → read file (at 7 lo hi nm c) s ≡ called (w ++ unspaced (trimmed s))
+    word : (w nm : List ℕ) (c : ℕ) → Word w nm c → read file (at 8 lo hi nm c) s ≡ called (w ++ trimmed s)
+    gap : (w nm : List ℕ) (c : ℕ) → Word w nm c → read file (at 9 lo hi nm c) s ≡ called (w ++ trimmed (0x20 ∷ s))
 
   tail_none : Tail []
   unfolding entry_of trimmed unspaced space_before
@@ -147,16 +147,16 @@ module _ (file : ℕ) (lo hi : Number) where
 
   module _ (s : List ℕ) (t : Tail s) where
     -- the name gets one byte more, if there is room
-    more_by : (k n : Stage) (b : ℕ) (w nm x : List ℕ) (c : ℕ) (o : Bool) → nat_lt c 32 ≡ o → Kept w nm c → (Kept (w ++ b ∷ []) (slice_set nm c b) (c + 1) → read file (at n lo hi (slice_set nm c b) (c + 1)) s ≡ called ((w ++ b ∷ []) ++ x))
-        → read file (cond o (at n lo hi (slice_set nm c b) (c + 1)) (at OtherForm lo hi nm c)) s ≡ called (w ++ b ∷ x)
+    more_by : (k n b : ℕ) (w nm x : List ℕ) (c : ℕ) (o : Bool) → nat_lt c 32 ≡ o → Word w nm c → (Word (w ++ b ∷ []) (slice_set nm c b) (c + 1) → read file (at n lo hi (slice_set nm c b) (c + 1)) s ≡ called ((w ++ b ∷ []) ++ x))
+        → read file (cond o (at n lo hi (slice_set nm c b) (c + 1)) (at 10 lo hi nm c)) s ≡ called (w ++ b ∷ x)
     more_by k n b w nm x c true e h f = f (word_more w nm c b h (ltb-true c 32 e)) ∙ ap called (append_assoc w (b ∷ []) x)
     more_by k n b w nm x c false e h f = dead file s lo hi nm c ∙ sym (uncalled (w ++ b ∷ x) (long_none file (w ++ b ∷ x) (omega (arith, length-append w (b ∷ x), h.many, ltb-false c 32 e))))
 
-    more_word : (k : Stage) (b : ℕ) (w nm : List ℕ) (c : ℕ) → Kept w nm c → read file (with_name (at k lo hi nm c) Word b) s ≡ called (w ++ b ∷ trimmed s)
-    more_word k b w nm c h = more_by k Word b w nm (trimmed s) c (nat_lt c 32) refl h (λ g. t.word (w ++ b ∷ []) (slice_set nm c b) (c + 1) g)
+    more_word : (k b : ℕ) (w nm : List ℕ) (c : ℕ) → Word w nm c → read file (with_name (at k lo hi nm c) 8 b) s ≡ called (w ++ b ∷ trimmed s)
+    more_word k b w nm c h = more_by k 8 b w nm (trimmed s) c (nat_lt c 32) refl h (λ g. t.word (w ++ b ∷ []) (slice_set nm c b) (c + 1) g)
 
-    more_semi : (k : Stage) (w nm : List ℕ) (c : ℕ) → Kept w nm c → read file (with_name (at k lo hi nm c) BeforeWord 0x3B) s ≡ called (w ++ 0x3B ∷ unspaced (trimmed s))
-    more_semi k w nm c h = more_by k BeforeWord 0x3B w nm (unspaced (trimmed s)) c (nat_lt c 32) refl h (λ g. t.after (w ++ 0x3B ∷ []) (slice_set nm c 0x3B) (c + 1) g (ended_none file w))
+    more_semi : (k : ℕ) (w nm : List ℕ) (c : ℕ) → Word w nm c → read file (with_name (at k lo hi nm c) 7 0x3B) s ≡ called (w ++ 0x3B ∷ unspaced (trimmed s))
+    more_semi k w nm c h = more_by k 7 0x3B w nm (unspaced (trimmed s)) c (nat_lt c 32) refl h (λ g. t.after (w ++ 0x3B ∷ []) (slice_set nm c 0x3B) (c + 1) g (ended_none file w))
 
     tail_space : Tail (0x20 ∷ s)
     unfolding trimmed
@@ -169,27 +169,27 @@ module _ (file : ℕ) (lo hi : Number) where
     tail_semi : Tail (0x3B ∷ s)
     unfolding trimmed unspaced space_before
     tail_semi = record {
-      after = λ w nm c h n. more_semi BeforeWord w nm c h;
-      word = λ w nm c h. more_semi Word w nm c h;
-      gap = λ w nm c h. more_semi AfterWord w nm c h;
+      after = λ w nm c h n. more_semi 7 w nm c h;
+      word = λ w nm c h. more_semi 8 w nm c h;
+      gap = λ w nm c h. more_semi 9 w nm c h;
     }
 
-    tail_plain : (b : ℕ) → (b == 0x20) ≡ false → (b == 0x3B) ≡ false → next_stage BeforeWord b ≡ Word → next_stage Word b ≡ Word → next_stage AfterWord b ≡ OtherForm → Tail (b ∷ s)
+    tail_plain : (b : ℕ) → (b == 0x20) ≡ false → (b == 0x3B) ≡ false → next_stage 7 b ≡ 8 → next_stage 8 b ≡ 8 → next_stage 9 b ≡ 10 → Tail (b ∷ s)
     tail_plain b e f seven eight nine =
         let is : trimmed (b ∷ s) ≡ b ∷ trimmed s = trimmed_plain b s e f in
         let front : unspaced (trimmed (b ∷ s)) ≡ b ∷ trimmed s = ap unspaced is ∙ unspaced_plain b (trimmed s) e in
         let spaced : trimmed (0x20 ∷ b ∷ s) ≡ 0x20 ∷ b ∷ trimmed s = trimmed_space (b ∷ s) ∙ ap space_before is ∙ space_plain b (trimmed s) e f in
         record {
-          after = λ w nm c h n. read_on file (at BeforeWord lo hi nm c) b Word s seven ∙ more_word BeforeWord b w nm c h ∙ ap (λ (x : List ℕ). called (w ++ x)) (sym front);
-          word = λ w nm c h. read_on file (at Word lo hi nm c) b Word s eight ∙ more_word Word b w nm c h ∙ ap (λ (x : List ℕ). called (w ++ x)) (sym is);
-          gap = λ w nm c h. read_on file (at AfterWord lo hi nm c) b OtherForm s nine ∙ dead file s lo hi nm c ∙ sym (uncalled (w ++ 0x20 ∷ b ∷ trimmed s) (spaced_none file w (b ∷ trimmed s))) ∙ ap (λ (x : List ℕ). called (w ++ x)) (sym spaced);
+          after = λ w nm c h n. read_on file (at 7 lo hi nm c) b 8 s seven ∙ more_word 7 b w nm c h ∙ ap (λ (x : List ℕ). called (w ++ x)) (sym front);
+          word = λ w nm c h. read_on file (at 8 lo hi nm c) b 8 s eight ∙ more_word 8 b w nm c h ∙ ap (λ (x : List ℕ). called (w ++ x)) (sym is);
+          gap = λ w nm c h. read_on file (at 9 lo hi nm c) b 10 s nine ∙ dead file s lo hi nm c ∙ sym (uncalled (w ++ 0x20 ∷ b ∷ trimmed s) (spaced_none file w (b ∷ trimmed s))) ∙ ap (λ (x : List ℕ). called (w ++ x)) (sym spaced);
         }
 
   tail : (s : List ℕ) → Tail s
   tail [] = tail_none
   tail (b ∷ s) =
       by_byte (λ (x : ℕ). Tail (x ∷ s)) (tail_space s (tail s)) (tail_plain s (tail s) 0x2E refl refl refl refl refl) (tail_semi s (tail s))
-      (λ x hex p. tail_plain s (tail s) x p.space p.semi (next_same BeforeWord Word x hex p refl refl) (next_same Word Word x hex p refl refl) (next_same AfterWord OtherForm x hex p refl refl)) b
+      (λ x hex p. tail_plain s (tail s) x p.space p.semi (next_same 7 8 x hex p refl refl) (next_same 8 8 x hex p refl refl) (next_same 9 10 x hex p refl refl)) b
 
 -- ---- numbers: seven digits are too many, and no more are kept
 
@@ -314,7 +314,7 @@ abbrev unnamed : List ℕ
 unnamed = replicate 32 0
 
 module _ (file : ℕ) where
-  semi : (lo hi : Number) (r : Range) → ((name : ℕ) → ranged lo hi name ≡ range_entry r name) → (s : List ℕ) → read file (at BeforeWord lo hi unnamed 0) s ≡ named file r s
+  semi : (lo hi : Number) (r : Range) → ((name : ℕ) → ranged lo hi name ≡ range_entry r name) → (s : List ℕ) → read file (at 7 lo hi unnamed 0) s ≡ named file r s
   unfolding named
   semi lo hi r h s =
       (tail file lo hi s).after [] unnamed 0 (record { holds = refl; many = refl; room = refl }) (empty_none file)
@@ -369,36 +369,36 @@ module _ (file : ℕ) where
   low_other ds b s hex p = rw (p.space, p.semi, p.dot) refl
 
   -- a byte that leads to no line of the form
-  lost : (k : Stage) (lo hi : Number) (b : ℕ) (s : List ℕ) → next_stage k b ≡ OtherForm → (e : Entry) → e ≡ other_form → read file (at k lo hi unnamed 0) (b ∷ s) ≡ e
-  lost k lo hi b s n e h = read_on file (at k lo hi unnamed 0) b OtherForm s n ∙ dead file s lo hi unnamed 0 ∙ sym h
+  lost : (k : ℕ) (lo hi : Number) (b : ℕ) (s : List ℕ) → next_stage k b ≡ 10 → (e : Entry) → e ≡ other_form → read file (at k lo hi unnamed 0) (b ∷ s) ≡ e
+  lost k lo hi b s n e h = read_on file (at k lo hi unnamed 0) b 10 s n ∙ dead file s lo hi unnamed 0 ∙ sym h
 
   -- stage 6
-  past_high : (ds es : List ℕ) (lo hi : Number) → ((name : ℕ) → ranged lo hi name ≡ range_entry (range ds es) name) → (s : List ℕ) → read file (at AfterHigh lo hi unnamed 0) s ≡ after_high file ds es (unspaced s)
+  past_high : (ds es : List ℕ) (lo hi : Number) → ((name : ℕ) → ranged lo hi name ≡ range_entry (range ds es) name) → (s : List ℕ) → read file (at 6 lo hi unnamed 0) s ≡ after_high file ds es (unspaced s)
   unfolding entry_of after_high unspaced
   past_high ds es lo hi h [] = refl
   past_high ds es lo hi h (b ∷ s) =
-      by_byte (λ (x : ℕ). read file (at AfterHigh lo hi unnamed 0) (x ∷ s) ≡ after_high file ds es (unspaced (x ∷ s)))
+      by_byte (λ (x : ℕ). read file (at 6 lo hi unnamed 0) (x ∷ s) ≡ after_high file ds es (unspaced (x ∷ s)))
       (past_high ds es lo hi h s) (dead file s lo hi unnamed 0) (semi lo hi (range ds es) h s)
-      (λ x hex p. lost AfterHigh lo hi x s (next_same AfterHigh OtherForm x hex p refl refl) (after_high file ds es (unspaced (x ∷ s))) (high_other ds es x s p.space p.semi)) b
+      (λ x hex p. lost 6 lo hi x s (next_same 6 10 x hex p refl refl) (after_high file ds es (unspaced (x ∷ s))) (high_other ds es x s p.space p.semi)) b
 
   -- stage 5
-  in_high : (s ds es : List ℕ) (lo hi : Number) → Digits ds lo → Digits es hi → 0 < length es → read file (at High lo hi unnamed 0) s ≡ after_high file ds (es ++ digits_of s) (unspaced (after_digits s))
+  in_high : (s ds es : List ℕ) (lo hi : Number) → Digits ds lo → Digits es hi → 0 < length es → read file (at 5 lo hi unnamed 0) s ≡ after_high file ds (es ++ digits_of s) (unspaced (after_digits s))
   unfolding entry_of after_high unspaced digits_of after_digits
   in_high [] ds es lo hi d e some = refl
   in_high (b ∷ s) ds es lo hi d e some =
-      by_byte (λ (x : ℕ). read file (at High lo hi unnamed 0) (x ∷ s) ≡ after_high file ds (es ++ digits_of (x ∷ s)) (unspaced (after_digits (x ∷ s))))
+      by_byte (λ (x : ℕ). read file (at 5 lo hi unnamed 0) (x ∷ s) ≡ after_high file ds (es ++ digits_of (x ∷ s)) (unspaced (after_digits (x ∷ s))))
       (past_high ds es lo hi (range_is ds es lo hi d e some) s ∙ ap (λ (l : List ℕ). after_high file ds l (unspaced s)) (sym (append-nil es)))
       (dead file s lo hi unnamed 0)
       (semi lo hi (range ds es) (range_is ds es lo hi d e some) s ∙ ap (λ (l : List ℕ). named file (range ds l) s) (sym (append-nil es)))
       (λ x hex p. plain x hex p (λ es' hi' e' some'. in_high s ds es' lo hi' d e' some')) b
     where
-      plain : (x : ℕ) (hex : Bool) → Plain x hex → ((es' : List ℕ) (hi' : Number) → Digits es' hi' → 0 < length es' → read file (at High lo hi' unnamed 0) s ≡ after_high file ds (es' ++ digits_of s) (unspaced (after_digits s)))
-          → read file (at High lo hi unnamed 0) (x ∷ s) ≡ after_high file ds (es ++ digits_of (x ∷ s)) (unspaced (after_digits (x ∷ s)))
+      plain : (x : ℕ) (hex : Bool) → Plain x hex → ((es' : List ℕ) (hi' : Number) → Digits es' hi' → 0 < length es' → read file (at 5 lo hi' unnamed 0) s ≡ after_high file ds (es' ++ digits_of s) (unspaced (after_digits s)))
+          → read file (at 5 lo hi unnamed 0) (x ∷ s) ≡ after_high file ds (es ++ digits_of (x ∷ s)) (unspaced (after_digits (x ∷ s)))
       plain x true p hyp =
-          read_on file (at High lo hi unnamed 0) x High s (next_plain High x true p) ∙ hyp (es ++ x ∷ []) (with_digit hi x) (digit_more es hi x e p.digit) (omega (arith, length-append es (x ∷ [])))
+          read_on file (at 5 lo hi unnamed 0) x 5 s (next_plain 5 x true p) ∙ hyp (es ++ x ∷ []) (with_digit hi x) (digit_more es hi x e p.digit) (omega (arith, length-append es (x ∷ [])))
           ∙ ap₂ (λ (l m : List ℕ). after_high file ds l (unspaced m)) (append_assoc es (x ∷ []) (digits_of s) ∙ ap (λ (l : List ℕ). es ++ l) (sym (digits_more x s p.digit))) (sym (past_digit x s p.digit))
       plain x false p hyp =
-          lost High lo hi x s (next_plain High x false p) (after_high file ds (es ++ digits_of (x ∷ s)) (unspaced (after_digits (x ∷ s))))
+          lost 5 lo hi x s (next_plain 5 x false p) (after_high file ds (es ++ digits_of (x ∷ s)) (unspaced (after_digits (x ∷ s))))
           (ap (λ (m : List ℕ). after_high file ds (es ++ digits_of (x ∷ s)) (unspaced m)) (no_digit x s p.digit) ∙ high_other ds (es ++ digits_of (x ∷ s)) x s p.space p.semi)
 
   -- what follows `..`
@@ -406,20 +406,20 @@ module _ (file : ℕ) where
   high ds t = after_high file ds (digits_of t) (unspaced (after_digits t))
 
   -- stage 4
-  before_high : (s ds : List ℕ) (lo : Number) → Digits ds lo → read file (at BeforeHigh lo zero_number unnamed 0) s ≡ high ds (unspaced s)
+  before_high : (s ds : List ℕ) (lo : Number) → Digits ds lo → read file (at 4 lo zero_number unnamed 0) s ≡ high ds (unspaced s)
   unfolding entry_of after_high unspaced digits_of after_digits
   before_high [] ds lo d = refl
   before_high (b ∷ s) ds lo d =
-      by_byte (λ (x : ℕ). read file (at BeforeHigh lo zero_number unnamed 0) (x ∷ s) ≡ high ds (unspaced (x ∷ s)))
+      by_byte (λ (x : ℕ). read file (at 4 lo zero_number unnamed 0) (x ∷ s) ≡ high ds (unspaced (x ∷ s)))
       (before_high s ds lo d) (dead file s lo zero_number unnamed 0) (dead file s lo zero_number unnamed 0 ∙ sym (high_none ds s))
       (λ x hex p. plain x hex p) b
     where
-      plain : (x : ℕ) (hex : Bool) → Plain x hex → read file (at BeforeHigh lo zero_number unnamed 0) (x ∷ s) ≡ high ds (unspaced (x ∷ s))
+      plain : (x : ℕ) (hex : Bool) → Plain x hex → read file (at 4 lo zero_number unnamed 0) (x ∷ s) ≡ high ds (unspaced (x ∷ s))
       plain x true p =
-          read_on file (at BeforeHigh lo zero_number unnamed 0) x High s (next_plain BeforeHigh x true p) ∙ in_high s ds (x ∷ []) lo (with_digit zero_number x) d (digit_more [] zero_number x no_digits p.digit) (omega arith)
+          read_on file (at 4 lo zero_number unnamed 0) x 5 s (next_plain 4 x true p) ∙ in_high s ds (x ∷ []) lo (with_digit zero_number x) d (digit_more [] zero_number x no_digits p.digit) (omega arith)
           ∙ ap₂ (λ (l m : List ℕ). after_high file ds l (unspaced m)) (sym (digits_more x s p.digit)) (sym (past_digit x s p.digit)) ∙ ap (high ds) (sym (unspaced_plain x s p.space))
       plain x false p =
-          lost BeforeHigh lo zero_number x s (next_plain BeforeHigh x false p) (high ds (unspaced (x ∷ s)))
+          lost 4 lo zero_number x s (next_plain 4 x false p) (high ds (unspaced (x ∷ s)))
           (ap (high ds) (unspaced_plain x s p.space) ∙ ap (λ (m : List ℕ). after_high file ds (digits_of (x ∷ s)) (unspaced m)) (no_digit x s p.digit) ∙ high_other ds (digits_of (x ∷ s)) x s p.space p.semi)
 
   dot_other : (ds : List ℕ) (b : ℕ) (s : List ℕ) → (b == 0x2E) ≡ false → after_dot file ds (b ∷ s) ≡ other_form
@@ -427,41 +427,41 @@ module _ (file : ℕ) where
   dot_other ds b s e = rw e refl
 
   -- stage 3
-  past_dot : (s ds : List ℕ) (lo : Number) → Digits ds lo → read file (at Dot lo zero_number unnamed 0) s ≡ after_dot file ds s
+  past_dot : (s ds : List ℕ) (lo : Number) → Digits ds lo → read file (at 3 lo zero_number unnamed 0) s ≡ after_dot file ds s
   unfolding entry_of after_dot
   past_dot [] ds lo d = refl
   past_dot (b ∷ s) ds lo d =
-      by_byte (λ (x : ℕ). read file (at Dot lo zero_number unnamed 0) (x ∷ s) ≡ after_dot file ds (x ∷ s))
+      by_byte (λ (x : ℕ). read file (at 3 lo zero_number unnamed 0) (x ∷ s) ≡ after_dot file ds (x ∷ s))
       (dead file s lo zero_number unnamed 0) (before_high s ds lo d) (dead file s lo zero_number unnamed 0)
-      (λ x hex p. lost Dot lo zero_number x s (next_same Dot OtherForm x hex p refl refl) (after_dot file ds (x ∷ s)) (dot_other ds x s p.dot)) b
+      (λ x hex p. lost 3 lo zero_number x s (next_same 3 10 x hex p refl refl) (after_dot file ds (x ∷ s)) (dot_other ds x s p.dot)) b
 
   -- stage 2
-  past_low : (s ds : List ℕ) (lo : Number) → Digits ds lo → read file (at AfterLow lo zero_number unnamed 0) s ≡ after_low file ds (unspaced s)
+  past_low : (s ds : List ℕ) (lo : Number) → Digits ds lo → read file (at 2 lo zero_number unnamed 0) s ≡ after_low file ds (unspaced s)
   unfolding entry_of after_low unspaced
   past_low [] ds lo d = refl
   past_low (b ∷ s) ds lo d =
-      by_byte (λ (x : ℕ). read file (at AfterLow lo zero_number unnamed 0) (x ∷ s) ≡ after_low file ds (unspaced (x ∷ s)))
+      by_byte (λ (x : ℕ). read file (at 2 lo zero_number unnamed 0) (x ∷ s) ≡ after_low file ds (unspaced (x ∷ s)))
       (past_low s ds lo d) (past_dot s ds lo d) (semi lo zero_number (one ds) (one_is ds lo d) s)
-      (λ x hex p. lost AfterLow lo zero_number x s (next_same AfterLow OtherForm x hex p refl refl) (after_low file ds (unspaced (x ∷ s))) (low_other ds x s hex p)) b
+      (λ x hex p. lost 2 lo zero_number x s (next_same 2 10 x hex p refl refl) (after_low file ds (unspaced (x ∷ s))) (low_other ds x s hex p)) b
 
   -- stage 1
-  in_low : (s ds : List ℕ) (lo : Number) → Digits ds lo → read file (at Low lo zero_number unnamed 0) s ≡ after_low file (ds ++ digits_of s) (unspaced (after_digits s))
+  in_low : (s ds : List ℕ) (lo : Number) → Digits ds lo → read file (at 1 lo zero_number unnamed 0) s ≡ after_low file (ds ++ digits_of s) (unspaced (after_digits s))
   unfolding entry_of after_low unspaced digits_of after_digits
   in_low [] ds lo d = refl
   in_low (b ∷ s) ds lo d =
-      by_byte (λ (x : ℕ). read file (at Low lo zero_number unnamed 0) (x ∷ s) ≡ after_low file (ds ++ digits_of (x ∷ s)) (unspaced (after_digits (x ∷ s))))
+      by_byte (λ (x : ℕ). read file (at 1 lo zero_number unnamed 0) (x ∷ s) ≡ after_low file (ds ++ digits_of (x ∷ s)) (unspaced (after_digits (x ∷ s))))
       (past_low s ds lo d ∙ ap (λ (l : List ℕ). after_low file l (unspaced s)) (sym (append-nil ds)))
       (past_dot s ds lo d ∙ ap (λ (l : List ℕ). after_dot file l s) (sym (append-nil ds)))
       (semi lo zero_number (one ds) (one_is ds lo d) s ∙ ap (λ (l : List ℕ). named file (one l) s) (sym (append-nil ds)))
       (λ x hex p. plain x hex p (λ ds' lo' d'. in_low s ds' lo' d')) b
     where
-      plain : (x : ℕ) (hex : Bool) → Plain x hex → ((ds' : List ℕ) (lo' : Number) → Digits ds' lo' → read file (at Low lo' zero_number unnamed 0) s ≡ after_low file (ds' ++ digits_of s) (unspaced (after_digits s)))
-          → read file (at Low lo zero_number unnamed 0) (x ∷ s) ≡ after_low file (ds ++ digits_of (x ∷ s)) (unspaced (after_digits (x ∷ s)))
+      plain : (x : ℕ) (hex : Bool) → Plain x hex → ((ds' : List ℕ) (lo' : Number) → Digits ds' lo' → read file (at 1 lo' zero_number unnamed 0) s ≡ after_low file (ds' ++ digits_of s) (unspaced (after_digits s)))
+          → read file (at 1 lo zero_number unnamed 0) (x ∷ s) ≡ after_low file (ds ++ digits_of (x ∷ s)) (unspaced (after_digits (x ∷ s)))
       plain x true p hyp =
-          read_on file (at Low lo zero_number unnamed 0) x Low s (next_plain Low x true p) ∙ hyp (ds ++ x ∷ []) (with_digit lo x) (digit_more ds lo x d p.digit)
+          read_on file (at 1 lo zero_number unnamed 0) x 1 s (next_plain 1 x true p) ∙ hyp (ds ++ x ∷ []) (with_digit lo x) (digit_more ds lo x d p.digit)
           ∙ ap₂ (λ (l m : List ℕ). after_low file l (unspaced m)) (append_assoc ds (x ∷ []) (digits_of s) ∙ ap (λ (l : List ℕ). ds ++ l) (sym (digits_more x s p.digit))) (sym (past_digit x s p.digit))
       plain x false p hyp =
-          lost Low lo zero_number x s (next_plain Low x false p) (after_low file (ds ++ digits_of (x ∷ s)) (unspaced (after_digits (x ∷ s))))
+          lost 1 lo zero_number x s (next_plain 1 x false p) (after_low file (ds ++ digits_of (x ∷ s)) (unspaced (after_digits (x ∷ s))))
           (ap (λ (m : List ℕ). after_low file (ds ++ digits_of (x ∷ s)) (unspaced m)) (no_digit x s p.digit) ∙ low_other (ds ++ digits_of (x ∷ s)) x s false p)
 
   content_more : (b : ℕ) (s : List ℕ) → (b == 0x20) ≡ false → content file (unspaced (b ∷ s)) ≡ after_low file (digits_of (b ∷ s)) (unspaced (after_digits (b ∷ s)))
@@ -479,34 +479,23 @@ module _ (file : ℕ) where
     where
       plain : (x : ℕ) (hex : Bool) → Plain x hex → read file empty (x ∷ s) ≡ content file (unspaced (x ∷ s))
       plain x true p =
-          read_on file empty x Low s (next_plain Start x true p) ∙ in_low s (x ∷ []) (with_digit zero_number x) (digit_more [] zero_number x no_digits p.digit)
+          read_on file empty x 1 s (next_plain 0 x true p) ∙ in_low s (x ∷ []) (with_digit zero_number x) (digit_more [] zero_number x no_digits p.digit)
           ∙ ap₂ (λ (l m : List ℕ). after_low file l (unspaced m)) (sym (digits_more x s p.digit)) (sym (past_digit x s p.digit)) ∙ sym (content_more x s p.space)
       plain x false p =
-          lost Start zero_number zero_number x s (next_plain Start x false p) (content file (unspaced (x ∷ s)))
+          lost 0 zero_number zero_number x s (next_plain 0 x false p) (content file (unspaced (x ∷ s)))
           (content_more x s p.space ∙ ap (λ (m : List ℕ). after_low file (digits_of (x ∷ s)) (unspaced m)) (no_digit x s p.digit) ∙ low_other (digits_of (x ∷ s)) x s false p)
 
 -- ---- a comment aside
 
-named_plain : (l : Line) (b : ℕ) (n : Stage) (t : Bool) → (cond t (record { stage = n; comment = l.comment; low = l.low; high = l.high; name = slice_set l.name l.count b; count = l.count + 1 }) (at_stage l OtherForm)).comment ≡ l.comment
-named_plain l b n true = refl
-named_plain l b n false = refl
-
-staged_plain : (l : Line) (b : ℕ) (n : Stage) → (staged l b n).comment ≡ l.comment
-staged_plain l b Start = refl
-staged_plain l b Low = refl
-staged_plain l b AfterLow = refl
-staged_plain l b Dot = refl
-staged_plain l b BeforeHigh = refl
-staged_plain l b High = refl
-staged_plain l b AfterHigh = refl
-staged_plain l b BeforeWord = by_case (b == 0x3B && is_in_name l.stage)
+staged_plain : (l : Line) (b n : ℕ) → (staged l b n).comment ≡ l.comment
+staged_plain l b n = by_cases (n == 1) (n == 5) (in_name l.stage n b) (nat_lt l.count 32)
   where
-    by_case : (t : Bool) → (cond t (with_name l BeforeWord b) (at_stage l BeforeWord)).comment ≡ l.comment
-    by_case true = named_plain l b BeforeWord (nat_lt l.count 32)
-    by_case false = refl
-staged_plain l b Word = named_plain l b Word (nat_lt l.count 32)
-staged_plain l b AfterWord = refl
-staged_plain l b OtherForm = refl
+    by_cases : (s t u v : Bool) → (cond s (with_low l b) (cond t (with_high l b) (cond u (cond v (record { stage = n; comment = l.comment; low = l.low; high = l.high; name = slice_set l.name l.count b; count = l.count + 1 }) (at_stage l 10)) (at_stage l n)))).comment ≡ l.comment
+    by_cases true t u v = refl
+    by_cases false true u v = refl
+    by_cases false false true true = refl
+    by_cases false false true false = refl
+    by_cases false false false v = refl
 
 in_comment_law : (s : List ℕ) (l : Line) → l.comment ≡ true → line_from l s ≡ l
 unfolding line_from with_byte

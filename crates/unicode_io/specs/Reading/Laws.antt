@@ -1,14 +1,13 @@
 -- What the functions that read leave.
-use Rattle.std.specs.Prelude.{◌≡◌, ℕ, ◌+◌, ◌-◌, ◌*◌, ◌^◌, ◌<◌, ◌≤◌, Bool, true, false, cond, List, [], ◌∷◌, ◌++◌, length, take, drop, ◌==◌, ◌≢◌, nat_le, nat_lt, slice_index}
+use Rattle.std.specs.Prelude.{◌≡◌, ℕ, ◌+◌, ◌-◌, ◌*◌, ◌^◌, ◌<◌, ◌≤◌, Bool, true, false, cond, ◌&&◌, List, [], ◌∷◌, ◌++◌, length, take, drop, ◌==◌, ◌≢◌, nat_le, nat_lt, slice_index}
 use Rattle.std.proofs.Math.Path.{refl}
 use Rattle.std.proofs.Common.{ap, ◌∙◌, add-one, arith, drop_of_length-le, drop-cons}
 use Rattle.std.proofs.Math.Nat.{pow-le-pow_right, one-le-pow}
 use borrow.Author.Tests.{ne_eqb, ltb-true}
 use Rattle.unicode_io.specs.Names.{name_number, property_of, value_of}
 use Rattle.unicode_io.specs.Names.Laws.{name_few}
-use Rattle.unicode_io.specs.Grammar.{Entry, entry, other_form}
-use Rattle.unicode_io.specs.Line.{empty, with_byte, called, entry_of, ranged, is_scalar}
-use Rattle.unicode_io.specs.Line.Laws.{ended_any}
+use Rattle.unicode_io.specs.Grammar.{Entry, entry, other_form, nothing}
+use Rattle.unicode_io.specs.Line.{empty, with_byte, entry_of, ranged, is_scalar}
 use Rattle.unicode_io.specs.Cells.{bit_of, fill, taken, Filled}
 use Rattle.unicode_io.specs.Reading.{State, state_of, reading, weight_of, fill_entry, taken_by_entry, with_entry, line_ended, byte_read, bytes_read}
 use Rattle.unicode_io.specs.declared.line.Number.{Number}
@@ -70,11 +69,13 @@ ranged_few low high name h = by_cases (is_scalar low) (high.digits == 0) (is_sca
 
 pub entry_few : (file : ℕ) (l : Line) (e : Entry) → e ≡ entry_of file l → e.name ≤ 22
 unfolding entry_of
-entry_few file l e p = rw p (ended_any (λ (x : Entry). x.name ≤ 22) (called file l) (omega arith) (omega arith) (by_case (name_number file (take l.count l.name) == 0)) l.stage)
+entry_few file l e p = rw p (by_cases (l.stage == 0) (nat_le 8 l.stage && nat_le l.stage 9) (name_number file (take l.count l.name) == 0))
   where
-    by_case : (t : Bool) → (cond t other_form (ranged l.low l.high (name_number file (take l.count l.name)))).name ≤ 22
-    by_case true = omega arith
-    by_case false = ranged_few l.low l.high _ (name_few file (take l.count l.name))
+    by_cases : (s t u : Bool) → (cond s nothing (cond t (cond u other_form (ranged l.low l.high (name_number file (take l.count l.name)))) other_form)).name ≤ 22
+    by_cases true t u = omega arith
+    by_cases false true true = omega arith
+    by_cases false true false = ranged_few l.low l.high _ (name_few file (take l.count l.name))
+    by_cases false false u = omega arith
 
 -- ---- the end of a line
 
