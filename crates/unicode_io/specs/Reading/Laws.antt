@@ -1,5 +1,5 @@
 -- What the functions that read leave.
-use Rattle.std.specs.Prelude.{◌≡◌, ℕ, ◌+◌, ◌-◌, ◌*◌, ◌^◌, ◌<◌, ◌≤◌, Bool, true, false, cond, ◌&&◌, List, [], ◌∷◌, ◌++◌, length, take, drop, ◌==◌, ◌≢◌, nat_le, nat_lt, slice_index}
+use Rattle.std.specs.Prelude.{◌≡◌, ℕ, ◌+◌, ◌-◌, ◌*◌, ◌^◌, ◌<◌, ◌≤◌, Bool, true, false, cond, ◌&&◌, List, [], ◌∷◌, ◌++◌, map, length, take, drop, ◌==◌, ◌≢◌, nat_le, nat_lt, slice_index}
 use Rattle.std.proofs.Math.Path.{refl}
 use Rattle.std.proofs.Common.{ap, ◌∙◌, add-one, arith, drop_of_length-le, drop-cons}
 use Rattle.std.proofs.Math.Nat.{pow-le-pow_right, one-le-pow}
@@ -8,8 +8,8 @@ use Rattle.unicode_io.specs.Names.{name_number, property_of, value_of}
 use Rattle.unicode_io.specs.Names.Laws.{name_few}
 use Rattle.unicode_io.specs.Grammar.{Entry, entry, other_form, nothing}
 use Rattle.unicode_io.specs.Line.{empty, with_byte, entry_of, ranged, is_scalar}
-use Rattle.unicode_io.specs.Cells.{bit_of, fill, taken, Filled}
-use Rattle.unicode_io.specs.Reading.{State, state_of, reading, weight_of, fill_entry, taken_by_entry, with_entry, line_ended, byte_read, bytes_read}
+use Rattle.unicode_io.specs.Cells.{bit_of, fill, taken, kept_of, Filled}
+use Rattle.unicode_io.specs.Reading.{State, state_of, reading, weight_of, fill_entry, taken_by_entry, with_entry, line_ended, byte_read, bytes_read, file_ended}
 use Rattle.unicode_io.specs.declared.line.Number.{Number}
 use Rattle.unicode_io.specs.declared.line.Line.{Line}
 use Rattle.unicode_io.specs.declared.reading.Reading.{Reading}
@@ -48,12 +48,12 @@ weight_fits file name p bit v h e f g = let a = property_small file name in let 
 pub bit_above : (p bit : ℕ) → bit ≡ bit_of p → 0 < bit
 bit_above p bit e = rw e (bit_pos p)
 
-pub entry_filled : (file low high name p bit v : ℕ) (cells after : List ℕ) (r : Bool) → p ≡ property_of file name → bit ≡ bit_of p → v ≡ value_of file name
-    → Filled (fill bit (bit + v) low high cells) (taken bit low high cells) after r → Filled (fill_entry file (entry low high name) cells) (taken_by_entry file (entry low high name) cells) after r
+pub entry_filled : (file : ℕ) (e : Entry) (p bit v : ℕ) (cells after : List ℕ) (r : Bool) → p ≡ property_of file e.name → bit ≡ bit_of p → v ≡ value_of file e.name
+    → Filled (fill bit (bit + v) e.low e.high cells) (taken bit e.low e.high cells) after r → Filled (fill_entry file e cells) (taken_by_entry file e cells) after r
 unfolding fill_entry taken_by_entry
-entry_filled file low high name p bit v cells after r a b d h =
-    let q : bit ≡ bit_of (property_of file name) = b ∙ ap bit_of a in
-    let w : bit + v ≡ weight_of file name = rw (q, d) refl in
+entry_filled file e p bit v cells after r a b d h =
+    let q : bit ≡ bit_of (property_of file e.name) = b ∙ ap bit_of a in
+    let w : bit + v ≡ weight_of file e.name = rw (q, d) refl in
     record { cells = h.cells ∙ (rw (w, q) refl); any = h.any ∙ (rw q refl) }
 
 ranged_few : (low high : Number) (name : ℕ) → name ≤ 22 → (ranged low high name).name ≤ 22
@@ -97,6 +97,9 @@ module _ (file : ℕ) (e : Entry) (r : Reading) (cells : List ℕ) (l : Line) (k
     unfolding with_entry
     ended_entry after t o h = rw (ne_eqb e.kind 0 n, ne_eqb e.kind 2 m, o, k, h.cells, h.any) refl
 
+pub line_ended_law : (file : ℕ) (r a : Reading) (cells after : List ℕ) (e : Entry) → e ≡ entry_of file r.line → state_of a after ≡ with_entry file e (state_of r cells) → state_of a after ≡ line_ended file (state_of r cells)
+line_ended_law file r a cells after e p q = q ∙ ap (λ (x : Entry). with_entry file x (state_of r cells)) p
+
 -- ---- bytes
 
 module _ (file : ℕ) (r : Reading) (cells : List ℕ) (b : ℕ) where
@@ -128,3 +131,9 @@ pub in_parts : (file : ℕ) (s : State) (a b : List ℕ) → bytes_read file s (
 unfolding bytes_read
 in_parts file s [] b = refl
 in_parts file s (x ∷ a) b = in_parts file (byte_read file s x) a b
+
+pub file_ended_law : (file : ℕ) (s : State) (a : Reading) (cells after : List ℕ) → state_of a cells ≡ line_ended file s → after ≡ map kept_of cells → state_of a after ≡ file_ended file s
+file_ended_law file s a cells after e p = rw (← e, p) refl
+
+pub begun : (l : Line) → l ≡ empty → reading l false false ≡ reading empty false false
+begun l e = rw e refl

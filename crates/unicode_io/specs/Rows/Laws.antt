@@ -2,7 +2,7 @@
 use Rattle.std.specs.Prelude.{◌≡◌, ℕ, suc, ◌+◌, ◌-◌, ◌<◌, ◌≤◌, Bool, true, false, cond, ◌⊎◌, List, [], ◌∷◌, length, drop, ◌==◌, ◌≢◌, slice_index, slice_index_or, Option, Some, None, is_some}
 use Rattle.std.specs.List.{prefix_len}
 use Rattle.std.proofs.Math.Path.{refl}
-use Rattle.std.proofs.Common.{sym, ap, ◌∙◌, add-zero, arith, inl, inr, ⊎_elim, length-drop, drop_of_length-le, drop-cons, drop-drop, get_or-drop}
+use Rattle.std.proofs.Common.{sym, ap, ◌∙◌, add-zero, add-one, arith, inl, inr, ⊎_elim, length-drop, drop_of_length-le, drop-cons, drop-drop, get_or-drop}
 use borrow.Author.Tests.{eq-eqb, ne_eqb, eqb-true, eqb-false, lt-ltb, le-ltb}
 use Rattle.unicode_io.specs.Tests.{le_or_lt, never}
 use Rattle.unicode_io.specs.Rows.{row_in, row, grown, runs, shown, rows_from, leading, row_at, next_row}
@@ -14,6 +14,31 @@ leading_is : (k : ℕ) (l : List ℕ) → prefix_len (λ (x : ℕ). x == k) l �
 unfolding leading
 leading_is k [] = refl
 leading_is k (x ∷ l) = let e : 1 + prefix_len (λ (y : ℕ). y == k) l ≡ suc (leading k l) = omega (arith, leading_is k l) in ap (λ (n : ℕ). cond (x == k) n 0) e
+
+-- ---- the end of a run, place by place
+
+pub record Running (kinds : List ℕ) (at kind i : ℕ) : Type 0 where
+  pub work : i + leading kind (drop i kinds) ≡ at + leading kind (drop at kinds)
+
+pub running_begins : (kinds : List ℕ) (at kind : ℕ) → Running kinds at kind at
+running_begins kinds at kind = record { work = refl }
+
+module _ (kinds : List ℕ) (at kind i : ℕ) (s : Running kinds at kind i) where
+  pub running_turn : i < length kinds → slice_index kinds i ≡ kind → Running kinds at kind (i + 1)
+  unfolding leading
+  running_turn h e =
+      let p : leading kind (drop i kinds) ≡ suc (leading kind (drop (i + 1) kinds)) = rw (drop-cons kinds i 0 h, eq-eqb (slice_index kinds i) kind e, add-one) refl in
+      record { work = omega (arith, p, s.work) }
+
+  pub running_stops : i < length kinds → (slice_index kinds i ≢ kind) → i ≡ at + leading kind (drop at kinds)
+  unfolding leading
+  running_stops h e =
+      let p : leading kind (drop i kinds) ≡ 0 = rw (drop-cons kinds i 0 h, ne_eqb (slice_index kinds i) kind e) refl in
+      omega (arith, p, s.work)
+
+  pub running_ends : length kinds ≤ i → i ≡ at + leading kind (drop at kinds)
+  unfolding leading
+  running_ends h = let p : leading kind (drop i kinds) ≡ 0 = rw (drop_of_length-le kinds h) refl in omega (arith, p, s.work)
 
 -- ---- a row
 
@@ -261,3 +286,6 @@ module _ (kinds : List ℕ) (n at : ℕ) (s : Counting kinds n at) where
 
     pub counting_stops : o ≡ None → n ≡ length (rows_from 0 kinds)
     counting_stops p = let q : length (rows_from at (drop at kinds)) ≡ 0 = ap (length {A = Row}) (none_left kinds at o e p) in omega (arith, q, s.work)
+
+  pub counting_ends : length kinds ≤ at → n ≡ length (rows_from 0 kinds)
+  counting_ends h = let q : length (rows_from at (drop at kinds)) ≡ 0 = ap (λ (l : List ℕ). length (rows_from at l)) (drop_of_length-le kinds h) ∙ ap (length {A = Row}) (nothing_left at) in omega (arith, q, s.work)
