@@ -1,5 +1,5 @@
 -- Text by text, and the rows of a table one after the other.
-use Rattle.std.specs.Prelude.{◌≡◌, refl, ℕ, suc, ◌+◌, ◌≤◌, ◌<◌, Bool, true, false, List, [], ◌∷◌, ◌++◌, map, length, take, drop, replicate, ◌-◌, Option, Some, None, Result, Ok, Err, ⊤}
+use Rattle.std.specs.Prelude.{◌≡◌, refl, ℕ, suc, ◌+◌, ◌^◌, ◌≤◌, ◌<◌, Bool, true, false, List, [], ◌∷◌, ◌++◌, map, length, take, drop, replicate, ◌-◌, Option, Some, None, Result, Ok, Err, ⊤}
 use Rattle.std.proofs.Common.{sym, ap, subst, ◌∙◌, add-one, arith, append-nil, append_assoc}
 use Rattle.std.proofs.lemmas.List.{length-replicate, get_or-replicate}
 use Rattle.buffer.specs.Sink.{sink, emit}
@@ -50,11 +50,9 @@ module _ (kinds : List ℕ) (total : ℕ) where
     pub given : List ℕ
     pub work : given ++ row_texts total i (left place) ≡ table_text (rows_from 0 kinds)
     pub many : i + length (left place) ≡ total
-    pub few : i ≤ place
-    pub within : place ≤ length kinds
 
   pub printing_begins : total ≡ length (rows_from 0 kinds) → Printing 0 0
-  printing_begins e = record { given = []; work = ap (λ (n : ℕ). row_texts n 0 (rows_from 0 kinds)) e ∙ table_texts (rows_from 0 kinds); many = omega arith; few = omega arith; within = omega arith }
+  printing_begins e = record { given = []; work = ap (λ (n : ℕ). row_texts n 0 (rows_from 0 kinds)) e ∙ table_texts (rows_from 0 kinds); many = omega arith }
 
   module _ (i place : ℕ) (z : Printing i place) (o : Option Row) (e : o ≡ row_in (next_row place kinds)) where
     module _ (r : Row) (p : o ≡ Some r) where
@@ -67,8 +65,12 @@ module _ (kinds : List ℕ) (total : ℕ) where
       many : i + suc (length (left r.end)) ≡ total
       many = let n : length (left place) ≡ suc (length (left r.end)) = ap (length {A = Row}) answer.first in omega (arith, n, z.many)
 
-      pub printing_less : length kinds - r.end < length kinds - place
-      printing_less = omega (arith, answer.further, answer.inside z.within)
+      -- a row is found only where fewer than all are printed
+      pub printing_less : total - (i + 1) < total - i
+      printing_less = omega (arith, many)
+
+      pub printing_fits : total < 2 ^ 64 → i + 1 < 2 ^ 64
+      printing_fits h = omega (arith, many)
 
       pub printing_turn : (taken : Bool) → taken ≡ true → Handed (row_text total i r) taken → Printing (i + 1) r.end
       printing_turn taken h k =
@@ -76,8 +78,16 @@ module _ (kinds : List ℕ) (total : ℕ) where
             given = z.given ++ row_text total i r;
             work = rw (add-one i) (append_assoc z.given (row_text total i r) (row_texts total (suc i) (left r.end)) ∙ text);
             many = omega (arith, many);
-            few = omega (arith, z.few, answer.further);
-            within = answer.inside z.within;
+          }
+
+      pub printing_stops : (taken : Bool) → taken ≡ false → Handed (row_text total i r) taken → Handed (table_text (rows_from 0 kinds)) false
+      printing_stops taken h k =
+          let further : List ℕ = row_texts total (suc i) (left r.end) in
+          record {
+            given = z.given ++ k.given;
+            rest = k.rest ++ further;
+            whole = append_assoc z.given k.given (k.rest ++ further) ∙ ap (λ (t : List ℕ). z.given ++ t) (sym (append_assoc k.given k.rest further) ∙ ap (λ (t : List ℕ). t ++ further) k.whole) ∙ text;
+            all = λ o. never o;
           }
 
     pub printing_ends : o ≡ None → Handed (table_text (rows_from 0 kinds)) true

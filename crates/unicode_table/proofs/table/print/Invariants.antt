@@ -1,4 +1,4 @@
-use Rattle.std.proofs.Common.{◌-◌, length}
+use Rattle.std.proofs.Common.{◌-◌}
 use Rattle.unicode_table.specs.Printed.Laws.{Printing}
 use Rattle.unicode_table.proofs.table.print.Given as goal
 
@@ -6,4 +6,4 @@ abbrev pub invariant-loop-row : goal.invariant-loop-row
 invariant-loop-row l = Printing l.kinds l.total l.i l.place
 
 abbrev pub decreases-loop-row : goal.decreases-loop-row
-decreases-loop-row l = length l.kinds - l.place
+decreases-loop-row l = l.total - l.i
