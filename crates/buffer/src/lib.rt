@@ -48,12 +48,10 @@ pub fn copy<T: Copy>(out: &mut [T], at: usize, src: &[T]) -> usize
     requires { at + length src.now ≤ length out.old }
     ensures { Copied out.old out.new at src.now result }
 {
-    let mut end = at;
-    for x in src {
-        out[end] = *x;
-        end += 1;
+    for j in 0..src.len() {
+        out[at + j] = src[j];
     }
-    end
+    at + src.len()
 }
 
 // The elements one by one, where they may not fit.

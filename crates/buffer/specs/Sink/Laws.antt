@@ -123,8 +123,8 @@ module _ (l xs l' : List ℕ) (r : ℕ) (e : sink l' r ≡ emit (sink l 0) xs) w
 pub copy_turn : (l l' xs : List ℕ) (at j : ℕ) → at + length xs ≤ length l → j < length xs → l' ≡ paste l at xs j → set l' (at + j) (get_or xs j 0) ≡ paste l at xs (j + 1)
 copy_turn l l' xs at j h k e = rw (e, add-one) (paste-suc l at xs j 0 (omega arith) k)
 
-pub copy_item : {A : Type 0} (l l' xs : List A) (at j end : ℕ) (x : A) → at + length xs ≤ length l → j < length xs → x ≡ get_or xs j x → l' ≡ paste l at xs j → end ≡ at + j → set l' end x ≡ paste l at xs (j + 1)
-copy_item l l' xs at j end x h k i e n = rw (e, n, add-one) (ap (set (paste l at xs j) (at + j)) i ∙ paste-suc l at xs j x (omega arith) k)
+pub copy_item : {A : Type 0} (l l' xs : List A) (at j : ℕ) (x : A) → at + length xs ≤ length l → j < length xs → x ≡ get_or xs j x → l' ≡ paste l at xs j → set l' (at + j) x ≡ paste l at xs (j + 1)
+copy_item l l' xs at j x h k i e = rw (e, add-one) (ap (set (paste l at xs j) (at + j)) i ∙ paste-suc l at xs j x (omega arith) k)
 
 pub copy_end : {A : Type 0} (l l' xs : List A) (at j : ℕ) → j ≤ length xs → length xs ≤ j → l' ≡ paste l at xs j → Copied l l' at xs (at + j)
 copy_end l l' xs at j h k e =
