@@ -273,30 +273,30 @@ none_is ds e = rw (← e) refl
 
 module _ (s : List ℕ) (p a b : ℕ) (here : p < length s) (ea : a ≡ get_or s p 0) (eb : b ≡ get_or s (p + 1) 0) (t : Bool) (et : t ≡ is_tail b) where
   module _ (tt' : t ≡ true) where
-    pub two_at : (x : Option ℕ) → x ≡ two_bytes a b → 0x7F < a → a ≤ 0xDF → zero_for x 2 ≡ sequence_or_zero (decode (drop p s))
-    two_at x ex lo hi =
+    pub two_or_zero : (x : Option ℕ) → x ≡ two_bytes a b → 0x7F < a → a ≤ 0xDF → zero_for x 2 ≡ sequence_or_zero (decode (drop p s))
+    two_or_zero x ex lo hi =
         chosen (leb 0xC2 a) (a % 32 * 64 + b % 64) 2 x ex
         ∙ (rw (sym et ∙ tt', and-true (leb 0xC2 a)) at (two_is s p a b (get_or s (p + 2) 0) here ea eb refl lo hi))
 
-    pub two_first : (x : Option ℕ) (r : Option Sequence) → x ≡ two_bytes a b → r ≡ sequence_for x 2 → 0x7F < a → a ≤ 0xDF → r ≡ first_sequence (decode (drop p s))
-    two_first x r ex er lo hi = read_is (decode (drop p s)) x 2 r (λ z. omega (arith, z)) er (two_at x ex lo hi)
+    pub two_at : (x : Option ℕ) (r : Option Sequence) → x ≡ two_bytes a b → r ≡ sequence_for x 2 → 0x7F < a → a ≤ 0xDF → r ≡ first_sequence (decode (drop p s))
+    two_at x r ex er lo hi = read_is (decode (drop p s)) x 2 r (λ z. omega (arith, z)) er (two_or_zero x ex lo hi)
 
     module _ (c : ℕ) (ec : c ≡ get_or s (p + 2) 0) (u : Bool) (eu : u ≡ is_tail c) (uu : u ≡ true) where
-      pub three_at : (x : Option ℕ) → x ≡ three_bytes a b c → 0xDF < a → a ≤ 0xEF → zero_for x 3 ≡ sequence_or_zero (decode (drop p s))
-      three_at x ex lo hi =
+      pub three_or_zero : (x : Option ℕ) → x ≡ three_bytes a b c → 0xDF < a → a ≤ 0xEF → zero_for x 3 ≡ sequence_or_zero (decode (drop p s))
+      three_or_zero x ex lo hi =
           chosen (is_three (x₃ a b c 0)) (x₃ a b c 0) 3 x ex
           ∙ (rw (sym et ∙ tt', sym eu ∙ uu) at (three_is s p a b c here ea eb ec lo hi))
 
-      pub three_first : (x : Option ℕ) (r : Option Sequence) → x ≡ three_bytes a b c → r ≡ sequence_for x 3 → 0xDF < a → a ≤ 0xEF → r ≡ first_sequence (decode (drop p s))
-      three_first x r ex er lo hi = read_is (decode (drop p s)) x 3 r (λ z. omega (arith, z)) er (three_at x ex lo hi)
+      pub three_at : (x : Option ℕ) (r : Option Sequence) → x ≡ three_bytes a b c → r ≡ sequence_for x 3 → 0xDF < a → a ≤ 0xEF → r ≡ first_sequence (decode (drop p s))
+      three_at x r ex er lo hi = read_is (decode (drop p s)) x 3 r (λ z. omega (arith, z)) er (three_or_zero x ex lo hi)
 
-      pub four_at : (d : ℕ) (x : Option ℕ) → d ≡ get_or s (p + 3) 0 → x ≡ four_bytes a b c d → 0xEF < a → zero_for x 4 ≡ sequence_or_zero (decode (drop p s))
-      four_at d x ed ex lo =
+      pub four_or_zero : (d : ℕ) (x : Option ℕ) → d ≡ get_or s (p + 3) 0 → x ≡ four_bytes a b c d → 0xEF < a → zero_for x 4 ≡ sequence_or_zero (decode (drop p s))
+      four_or_zero d x ed ex lo =
           chosen ((leb a 0xF4 && is_tail d) && is_four (x₄ a b c d)) (x₄ a b c d) 4 x ex
           ∙ (rw (sym et ∙ tt', sym eu ∙ uu) at (four_is s p a b c here ea eb ec d ed lo))
 
-      pub four_first : (d : ℕ) (x : Option ℕ) (r : Option Sequence) → d ≡ get_or s (p + 3) 0 → x ≡ four_bytes a b c d → r ≡ sequence_for x 4 → 0xEF < a → r ≡ first_sequence (decode (drop p s))
-      four_first d x r ed ex er lo = read_is (decode (drop p s)) x 4 r (λ z. omega (arith, z)) er (four_at d x ed ex lo)
+      pub four_at : (d : ℕ) (x : Option ℕ) (r : Option Sequence) → d ≡ get_or s (p + 3) 0 → x ≡ four_bytes a b c d → r ≡ sequence_for x 4 → 0xEF < a → r ≡ first_sequence (decode (drop p s))
+      four_at d x r ed ex er lo = read_is (decode (drop p s)) x 4 r (λ z. omega (arith, z)) er (four_or_zero d x ed ex lo)
 
     pub no_third : (c : ℕ) (u : Bool) → c ≡ get_or s (p + 2) 0 → u ≡ is_tail c → u ≡ false → 0xDF < a → sequence_of 0 0 ≡ sequence_or_zero (decode (drop p s))
     no_third c u ec eu uf lo =

@@ -17,7 +17,7 @@ use Rattle.text.specs.Scalar.Laws.{none_here, nothing_is, scalar_is, some_here}
 use Rattle.text.specs.declared.scalar.Scalar as packed
 use Rattle.text.specs.Width.{width01}
 use Rattle.text.specs.Tests.{in_range_law, is_true, or_T, true_T, every, every_one}
-use Rattle.text.proofs.LeadBytes.{four_at, no_second, no_third, three_at, two_at, zero_for}
+use Rattle.text.proofs.LeadBytes.{four_or_zero, no_second, no_third, three_or_zero, two_or_zero, zero_for}
 use Rattle.text.specs.declared.class.Profile as code
 use Rattle.text.specs.Utf8.Code.FirstSequence.{ascii_sequence}
 use Rattle.text.specs.Class.Ranges.{clear}
@@ -179,11 +179,11 @@ module _ (P : Profile) (s : List ℕ) (p a b : ℕ) (here : p < length s) (ea : 
     module _ (lo : 0x7F < a) (hi : a ≤ 0xDF) where
       two_packed : (o : Option ℕ) → o ≡ two_bytes a b → (x r : ℕ) → o ≡ Some x → r ≡ packed_as P 2 x → r ≡ packed_at P s p
       unfolding packed_at zero_for
-      two_packed o eo x r ex e = rw (← two_at s p a b here ea eb t et tt' (Some x) (sym ex ∙ eo) lo hi) e
+      two_packed o eo x r ex e = rw (← two_or_zero s p a b here ea eb t et tt' (Some x) (sym ex ∙ eo) lo hi) e
 
       two_none : (o : Option ℕ) → o ≡ two_bytes a b → o ≡ None → 0 ≡ packed_at P s p
       unfolding packed_at zero_for
-      two_none o eo ex = rw (← two_at s p a b here ea eb t et tt' None (sym ex ∙ eo) lo hi) refl
+      two_none o eo ex = rw (← two_or_zero s p a b here ea eb t et tt' None (sym ex ∙ eo) lo hi) refl
 
       pub two_here : (o : Option ℕ) → o ≡ two_bytes a b → (x : ℕ) (v : packed.Scalar) → o ≡ Some x → v.0 ≡ packed_as P 2 x → Some v ≡ scalar_here P s p
       two_here o eo x v ex e = here_is P s p 2 x v (omega arith) e (two_packed o eo x v.0 ex e)
@@ -196,11 +196,11 @@ module _ (P : Profile) (s : List ℕ) (p a b : ℕ) (here : p < length s) (ea : 
         module _ (lo : 0xDF < a) (hi : a ≤ 0xEF) where
           three_packed : (o : Option ℕ) → o ≡ three_bytes a b c → (x r : ℕ) → o ≡ Some x → r ≡ packed_as P 3 x → r ≡ packed_at P s p
           unfolding packed_at zero_for
-          three_packed o eo x r ex e = rw (← three_at s p a b here ea eb t et tt' c ec u eu uu (Some x) (sym ex ∙ eo) lo hi) e
+          three_packed o eo x r ex e = rw (← three_or_zero s p a b here ea eb t et tt' c ec u eu uu (Some x) (sym ex ∙ eo) lo hi) e
 
           three_none : (o : Option ℕ) → o ≡ three_bytes a b c → o ≡ None → 0 ≡ packed_at P s p
           unfolding packed_at zero_for
-          three_none o eo ex = rw (← three_at s p a b here ea eb t et tt' c ec u eu uu None (sym ex ∙ eo) lo hi) refl
+          three_none o eo ex = rw (← three_or_zero s p a b here ea eb t et tt' c ec u eu uu None (sym ex ∙ eo) lo hi) refl
 
           pub three_here : (o : Option ℕ) → o ≡ three_bytes a b c → (x : ℕ) (v : packed.Scalar) → o ≡ Some x → v.0 ≡ packed_as P 3 x → Some v ≡ scalar_here P s p
           three_here o eo x v ex e = here_is P s p 3 x v (omega arith) e (three_packed o eo x v.0 ex e)
@@ -211,11 +211,11 @@ module _ (P : Profile) (s : List ℕ) (p a b : ℕ) (here : p < length s) (ea : 
         module _ (d : ℕ) (ed : d ≡ get_or s (p + 3) 0) (lo : 0xEF < a) where
           four_packed : (o : Option ℕ) → o ≡ four_bytes a b c d → (x r : ℕ) → o ≡ Some x → r ≡ packed_as P 4 x → r ≡ packed_at P s p
           unfolding packed_at zero_for
-          four_packed o eo x r ex e = rw (← four_at s p a b here ea eb t et tt' c ec u eu uu d (Some x) ed (sym ex ∙ eo) lo) e
+          four_packed o eo x r ex e = rw (← four_or_zero s p a b here ea eb t et tt' c ec u eu uu d (Some x) ed (sym ex ∙ eo) lo) e
 
           four_none : (o : Option ℕ) → o ≡ four_bytes a b c d → o ≡ None → 0 ≡ packed_at P s p
           unfolding packed_at zero_for
-          four_none o eo ex = rw (← four_at s p a b here ea eb t et tt' c ec u eu uu d None ed (sym ex ∙ eo) lo) refl
+          four_none o eo ex = rw (← four_or_zero s p a b here ea eb t et tt' c ec u eu uu d None ed (sym ex ∙ eo) lo) refl
 
           pub four_here : (o : Option ℕ) → o ≡ four_bytes a b c d → (x : ℕ) (v : packed.Scalar) → o ≡ Some x → v.0 ≡ packed_as P 4 x → Some v ≡ scalar_here P s p
           four_here o eo x v ex e = here_is P s p 4 x v (omega arith) e (four_packed o eo x v.0 ex e)
