@@ -91,7 +91,7 @@ impl<'a> Searched<'a> {
 }
 
 // The records of a line's spans, one after the other.
-#[derive(Drop)]
+#[derive(Clone, Copy)]
 pub(crate) struct Records<'a> {
     profile: Profile,
     searched: Searched<'a>,
