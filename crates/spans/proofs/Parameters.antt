@@ -7,11 +7,12 @@ use native.Mathlib.Omega.{arith}
 use native.Mathlib.Nat.{zero-add}
 use mathlib.Core.Bool.{Bool, true, false, cond, ◌&&◌}
 use mathlib.Core.List.{List, [], ◌∷◌, map}
-use lib.ListN.{length, drop, get_or, drop_of_length-le, length-drop, length-map}
-use lib.Seq.{drop-cons, take-length}
+use lib.ListN.{length, drop, get_or, drop_of_length-le, length-map}
+use lib.Seq.{drop-cons}
 use lib.Dec.{eqb, leb, ltb, leb→le}
 use borrow.Author.Tests.{eq-eqb, ne_eqb, le-leb, lt-leb, leb-true, leb-false}
 use Rattle.std.specs.Prelude.{Option, Some, None, MatchOption, fold, take, ⊤}
+use Rattle.std.specs.Option.{is_some, unwrap_or}
 use Rattle.std.specs.List.{prefix_len}
 use Rattle.std.specs.Iterator.{MakesProgress, item_count}
 use lib.Pointwise.{pointwise}
@@ -21,7 +22,9 @@ use denote.Ref.{Bor}
 use Rattle.text.specs.Tests.{cases, and_T, true_T}
 use Rattle.spans.specs.Sgr.{digit, parameters, all_at_most, allowed, meaning_after, follow, orders_from, orders}
 use Rattle.spans.specs.Sequence.{leading, parameter_byte}
-use Rattle.spans.specs.Sgr.Contracts.{more, numbers, Scanned, numbers_of_rest}
+use Rattle.spans.specs.Sgr.Contracts.{more, numbers, Scanned, Stand, beginning, ending, stand_of, stand, number_from, next_number, numbers_at, onward, next_from, next_order, orders_left, orders_of, next_of}
+use Rattle.spans.specs.declared.sgr.Parameters.{Parameters}
+use Rattle.spans.specs.declared.sgr.Orders.{Orders}
 use Rattle.spans.specs.declared.sgr.Sgr.{Sgr}
 use Rattle.spans.specs.declared.sgr.Meaning.{Meaning}
 use Rattle.spans.specs.declared.sgr.Meaning.TheVariants as step
@@ -231,59 +234,158 @@ module _ (s : List ℕ) (i count v : ℕ) (f : Bool) (z : Scanning s i count f v
 pub progress : {S A : Type 0} (rest : S → List A) (s t : S) (x : A) → rest s ≡ x ∷ rest t → MakesProgress (λ (s : S). ⊤) (item_count rest) s (Some x) t
 progress rest s t x e = record { on = λ h. (tt, tt, omega (arith, ap length e)); keeps = tt; rests = λ h. tt }
 
-here : (v b : ℕ) (s : List ℕ) (r : Option (Bor (List ℕ))) → MatchOption r ((rest : List ℕ) → b ∷ s ≢ 0x3B ∷ rest) (λ x. b ∷ s ≡ 0x3B ∷ x.now) → cond (eqb b 0x3B) (v ∷ numbers 0 s) (v ∷ []) ≡ v ∷ numbers_of_rest r
-here v b s None h = rw (ne_eqb b 0x3B (λ e. h s (rw e refl))) refl
-here v b s (Some x) h =
-    let e : b ≡ 0x3B = ap (λ (l : List ℕ). get_or l 0 0) h in
-    let f : s ≡ x.now = ap (λ (l : List ℕ). drop 1 l) h in
-    rw (e, f) refl
-
 pub one_more : (n : ℕ) → 1 + n ≡ suc n
 one_more n = omega arith
 
--- a number is what the digits in front write; another follows where a `;` stands after them
-next_number : (s : List ℕ) (v : ℕ) (r : Option (Bor (List ℕ))) (d : List ℕ) → d ≡ drop (prefix_len digit s) s → MatchOption r ((rest : List ℕ) → d ≢ 0x3B ∷ rest) (λ x. d ≡ 0x3B ∷ x.now)
-    → numbers v s ≡ fold more v (take (prefix_len digit s) s) ∷ numbers_of_rest r
-unfolding numbers
-next_number [] v None d e h = refl
-next_number [] v (Some x) d e h = absurd (let z : length d ≡ 0 = ap length e in omega (arith, z, ap length h))
-next_number (b ∷ s) v r d e h =
-    cases (digit b)
-    (λ y. rw (y, one_more (prefix_len digit s)) (next_number s (more v b) r d (rw (y, one_more (prefix_len digit s)) at e) h))
-    (λ y. let f : d ≡ b ∷ s = rw y at e in rw y (here v b s r (rw f at h)))
+-- a number is what the digits in front write, and the reading stands after them, or after the `;` there
+separated : List ℕ → Stand
+separated [] = ending []
+separated (b ∷ s) = cond (eqb b 0x3B) (beginning s) (ending (b ∷ s))
 
-pub after_digits : (s : List ℕ) (n x : ℕ) (r : Option (Bor (List ℕ))) → n ≡ prefix_len digit s → x ≡ fold more 0 (take n s)
-    → MatchOption r (pointwise eqb (take 1 (take (length s - n) (drop n s))) (0x3B ∷ []) ≡ false)
-    (λ y. (pointwise eqb (take 1 (take (length s - n) (drop n s))) (0x3B ∷ []) ≡ true) × (y.now ≡ drop 1 (take (length s - n) (drop n s))) × (length y.now + 1 ≡ length (take (length s - n) (drop n s))))
-    → numbers 0 s ≡ x ∷ numbers_of_rest r
-after_digits s n x r e f h =
-    let k = strip_prefix_is Decides-eqb (take (length s - n) (drop n s)) (0x3B ∷ []) r h in
-    let g : take (length s - n) (drop n s) ≡ drop n s = ap (λ (k : ℕ). take k (drop n s)) (sym (length-drop n s)) ∙ take-length (drop n s) in
-    rw f (rw e (next_number s 0 r (drop n s) (rw e) (rw g at k)))
+number_digits : (s : List ℕ) (v : ℕ) → number_from v s ≡ (fold more v (take (prefix_len digit s) s), separated (drop (prefix_len digit s) s))
+unfolding number_from separated
+number_digits [] v = refl
+number_digits (b ∷ s) v =
+    cases (digit b)
+    (λ y. rw (y, one_more (prefix_len digit s)) (number_digits s (more v b)))
+    (λ y. cases (eqb b 0x3B) (λ n. rw (y, n) refl) (λ n. rw (y, n) refl))
+
+stripped : (d : List ℕ) (r : Option (Bor (List ℕ))) (u : Bor (List ℕ)) → u.now ≡ d → MatchOption r ((rest : List ℕ) → d ≢ 0x3B ∷ rest) (λ x. d ≡ 0x3B ∷ x.now) → separated d ≡ record { rest = (unwrap_or r u).now; further = is_some r }
+unfolding separated
+stripped [] None u e h = rw e refl
+stripped [] (Some x) u e h = absurd (let z = ap length h in omega (arith, z))
+stripped (b ∷ s) None u e h = rw (e, ne_eqb b 0x3B (λ i. h s (rw i refl))) refl
+stripped (b ∷ s) (Some x) u e h =
+    let i : b ≡ 0x3B = ap (λ (l : List ℕ). get_or l 0 0) h in
+    let f : s ≡ x.now = ap (λ (l : List ℕ). drop 1 l) h in
+    rw (i, f) refl
+
+pub no_number : (c : Stand) → c.further ≡ false → next_number c ≡ None
+unfolding next_number
+no_number c f = rw f refl
+
+pub one_number : (p q : Parameters) (n x : ℕ) (d : List ℕ) (a : Bor (List ℕ)) (r : Option (Bor (List ℕ))) → p.further ≡ true → n ≡ prefix_len digit p.rest.now → d ≡ take n p.rest.now → a.now ≡ drop n p.rest.now → x ≡ fold more 0 d
+    → MatchOption r (pointwise eqb (take 1 a.now) (0x3B ∷ []) ≡ false) (λ y. (pointwise eqb (take 1 a.now) (0x3B ∷ []) ≡ true) × (y.now ≡ drop 1 a.now) × (length y.now + 1 ≡ length a.now))
+    → q.rest ≡ unwrap_or r a → q.further ≡ is_some r → next_number (stand_of p) ≡ Some (x, stand_of q)
+unfolding next_number
+one_number p q n x d a r t e f g i h j k =
+    let s : List ℕ = p.rest.now in
+    let z = stripped a.now r a refl (strip_prefix_is Decides-eqb a.now (0x3B ∷ []) r h) in
+    rw (t, i, f, e, number_digits s 0, j, k, ← z, g, e) refl
+
+-- the numbers that are left
+number_left : (s : List ℕ) (v : ℕ) → numbers v s ≡ (number_from v s).0 ∷ numbers_at (number_from v s).1
+unfolding number_from numbers
+number_left [] v = refl
+number_left (b ∷ s) v =
+    cases (digit b)
+    (λ y. rw y (number_left s (more v b)))
+    (λ y. cases (eqb b 0x3B) (λ n. rw (y, n) refl) (λ n. rw (y, n) refl))
+
+number_is : (c d : Stand) (n : ℕ) → next_number c ≡ Some (n, d) → c.further ≡ true → number_from 0 c.rest ≡ (n, d)
+unfolding next_number
+number_is c d n e f = same (number_from 0 c.rest) (rw f at e)
+  where
+    same : (x : ℕ × Stand) → Some x ≡ Some (n, d) → x ≡ (n, d)
+    same x h = cc
+
+pub left_after : (c d : Stand) (n : ℕ) → next_number c ≡ Some (n, d) → numbers_at c ≡ n ∷ numbers_at d
+unfolding next_number
+left_after c d n e =
+    cases c.further
+    (λ f. rw f (rw (number_is c d n e f) at (number_left c.rest 0)))
+    (λ f. absurd (none_some (rw f at e)))
+  where
+    none_some : ◌≡◌ {A = Option (ℕ × Stand)} None (Some (n, d)) → ⊥
+    none_some h = cc
 
 pub orders_at_law : (s t : List ℕ) → t ≡ s → orders_from Ready (numbers 0 t) ≡ orders (parameters 0 s)
 unfolding orders
 orders_at_law s t e = rw e (orders_same Ready s)
 
+-- ---- the next order
+
+-- the reading goes on, where w waits
+pub go_on : ColorState → Stand → Option (Sgr × Stand)
+go_on w c = cond c.further (next_from w 0 c.rest) None
+
+number_said : (s : List ℕ) (w : ColorState) (v : ℕ) → next_from w v s ≡ onward (meaning_after w (number_from v s).0) (number_from v s).1 (λ x. go_on x (number_from v s).1)
+unfolding next_from number_from go_on
+number_said [] w v = refl
+number_said (b ∷ s) w v =
+    cases (digit b)
+    (λ y. rw y (number_said s w (more v b)))
+    (λ y. cases (eqb b 0x3B) (λ n. rw (y, n) refl) (λ n. rw (y, n) refl))
+
+pub reading_begins : (c : Stand) → go_on Ready c ≡ next_order c
+unfolding next_order go_on
+reading_begins c = refl
+
 -- what the next number says
-module _ (w : ColorState) (ms : List ℕ) (os : List Sgr) (i : orders_from w ms ≡ os) where
-  pub given_none : ms ≡ [] → os ≡ []
-  unfolding orders_from
-  given_none e = sym i ∙ rw e refl
+module _ (w : ColorState) (c : Stand) (z : Option (Sgr × Stand)) (i : go_on w c ≡ z) where
+  pub reading_ends : next_number c ≡ None → None ≡ z
+  unfolding next_number go_on
+  reading_ends e =
+      cases c.further
+      (λ f. absurd (none_some (rw f at e)))
+      (λ f. rw f at i)
+    where
+      none_some : Some (number_from 0 c.rest) ≡ None → ⊥
+      none_some h = cc
 
-  module _ (p : ℕ) (ns : List ℕ) (e : ms ≡ p ∷ ns) (t : Meaning) (f : t ≡ meaning_after w p) where
-    said : os ≡ follow t (λ x. orders_from x ns)
-    unfolding orders_from
-    said = sym i ∙ rw (e, f) refl
+  module _ (p : ℕ) (d : Stand) (e : next_number c ≡ Some (p, d)) (t : Meaning) (f : t ≡ meaning_after w p) where
+    said : onward t d (λ x. go_on x d) ≡ z
+    unfolding next_number go_on
+    said =
+        cases c.further
+        (λ g. rw f (sym (rw (number_is c d p e g) at (number_said c.rest w 0)) ∙ (rw g at i)))
+        (λ g. absurd (none_some (rw g at e)))
+      where
+        none_some : ◌≡◌ {A = Option (ℕ × Stand)} None (Some (p, d)) → ⊥
+        none_some h = cc
 
-    pub given_order : (o : Sgr) → t ≡ step.Order o → os ≡ o ∷ orders_from Ready ns
-    unfolding follow
-    given_order o q = rw q at said
+    pub reading_order : (o : Sgr) → t ≡ step.Order o → Some (o, d) ≡ z
+    unfolding onward
+    reading_order o q = rw q at said
 
-    pub given_group : (x : ColorState) → t ≡ step.Group x → orders_from x ns ≡ os
-    unfolding follow
-    given_group x q = sym (rw q at said)
+    pub reading_goes_on : (x : ColorState) → t ≡ step.Group x → go_on x d ≡ z
+    unfolding onward
+    reading_goes_on x q = rw q at said
 
-    pub given_unknown : t ≡ step.Unknown → os ≡ []
-    unfolding follow
-    given_unknown q = rw q at said
+    pub reading_stops : t ≡ step.Unknown → None ≡ z
+    unfolding onward
+    reading_stops q = rw q at said
+
+-- ---- the orders that it gives
+
+orders_in : Option (Sgr × Stand) → List Sgr
+orders_in None = []
+orders_in (Some x) = x.0 ∷ orders_from Ready (numbers_at x.1)
+
+orders_onward : (t : Meaning) (c : Stand) (go : ColorState → Option (Sgr × Stand)) → ((x : ColorState) → orders_in (go x) ≡ orders_from x (numbers_at c)) → orders_in (onward t c go) ≡ follow t (λ x. orders_from x (numbers_at c))
+unfolding onward follow orders_in
+orders_onward (step.Order o) c go h = refl
+orders_onward (step.Group w) c go h = h w
+orders_onward step.Unknown c go h = refl
+
+from_orders : (s : List ℕ) (w : ColorState) (v : ℕ) → orders_in (next_from w v s) ≡ orders_from w (numbers v s)
+unfolding next_from numbers orders_from orders_in
+from_orders [] w v = orders_onward (meaning_after w v) (ending []) (λ x. None) (λ x. refl)
+from_orders (b ∷ s) w v =
+    cases (digit b)
+    (λ y. rw y (from_orders s w (more v b)))
+    (λ y. cases (eqb b 0x3B)
+    (λ n. rw (y, n) (orders_onward (meaning_after w v) (beginning s) (λ x. next_from x 0 s) (λ x. from_orders s x 0)))
+    (λ n. rw (y, n) (orders_onward (meaning_after w v) (ending (b ∷ s)) (λ x. None) (λ x. refl))))
+
+next_orders : (c : Stand) → orders_in (next_order c) ≡ orders_from Ready (numbers_at c)
+unfolding next_order orders_in orders_from
+next_orders c = cases c.further (λ f. rw f (from_orders c.rest Ready 0)) (λ f. rw f refl)
+
+given_orders : (r : Option (Sgr × Orders)) → orders_of r ≡ orders_in (next_of r)
+unfolding orders_in
+given_orders None = refl
+given_orders (Some x) = refl
+
+pub orders_given : (c : Orders) (r : Option (Sgr × Orders)) → next_of r ≡ next_order (stand c) → orders_of r ≡ orders_left c
+orders_given c r e = given_orders r ∙ ap orders_in e ∙ next_orders (stand c)

@@ -3,7 +3,7 @@ ghost use Rattle.std.specs.Prelude.{◌≡◌, ◌≤◌, drop, fold, length};
 ghost use Rattle.std.specs.List.{prefix_len};
 ghost use Rattle.std.specs.Iterator.{YieldsFirst, item_count};
 ghost use Rattle.spans.specs.Sgr.{digit, parameters, orders, known, meaning_of, coloured, meaning_after};
-ghost use Rattle.spans.specs.Sgr.Contracts.{more, eights, Scanned, numbers_left, orders_left};
+ghost use Rattle.spans.specs.Sgr.Contracts.{more, eights, Scanned, stand, beginning, numbers_left, GivesNumber, orders_left, orders_of, next_of, next_order};
 
 #[derive(Clone, Copy, PartialEq, Eq, Debug)]
 pub enum Color {
@@ -64,11 +64,12 @@ pub struct Scan {
     pub fine: bool,
 }
 
-// The numbers of a run of parameters, one after the other: the bytes from the next parameter on, or none after the last. A number
-// stays as it is once it has passed 65,535.
+// The numbers of a run of parameters, one after the other: the bytes from the place on where the reading stands, and whether a
+// parameter begins there. A number stays as it is once it has passed 65,535.
 #[derive(Clone, Copy)]
 struct Parameters<'a> {
-    rest: Option<&'a [u8]>,
+    rest: &'a [u8],
+    further: bool,
 }
 
 // The orders that the parameters from a place on give, up to the first unknown parameter.
@@ -240,28 +241,66 @@ pub(crate) fn bytes_from(s: &[u8], at: usize) -> &[u8]
 impl<'a> Iterator for Parameters<'a> {
     type Item = usize;
 
-    ghost next_gives = { YieldsFirst numbers_left };
+    ghost next_gives = { GivesNumber };
 
     ghost remaining = { item_count numbers_left };
 
     fn next(&mut self) -> Option<usize> {
-        let s = self.rest?;
-        let n = digits_len(s);
-        self.rest = s[n..].strip_prefix(b";");
-        Some(number(&s[..n]))
+        if !self.further {
+            return None;
+        }
+        let (digits, after) = self.rest.split_at(digits_len(self.rest));
+        let next = after.strip_prefix(b";");
+        self.further = next.is_some();
+        self.rest = next.unwrap_or(after);
+        Some(number(digits))
     }
 }
 
 impl<'a> Orders<'a> {
     // The orders of the parameters at a place.
     pub fn at(s: &'a [u8], at: usize) -> Orders<'a>
-        ensures { orders_left result ≡ orders (parameters 0 (drop at s.now)) }
+        ensures orders { orders_left result ≡ orders (parameters 0 (drop at s.now)) }
+        ensures place { stand result ≡ beginning (drop at s.now) }
     {
         Orders {
             parameters: Parameters {
-                rest: Some(bytes_from(s, at)),
+                rest: bytes_from(s, at),
+                further: true,
             },
         }
+    }
+
+    // The bytes from the place on where the reading stands.
+    pub fn rest(self) -> &'a [u8]
+        ensures { result.now ≡ (stand self.entry).rest }
+    {
+        self.parameters.rest
+    }
+
+    // Does a parameter begin there?
+    pub fn has_parameter(self) -> bool
+        ensures { result ≡ (stand self.entry).further }
+    {
+        self.parameters.further
+    }
+
+    // The next order, and where the reading stands after it. The reading is left at an order and at the first unknown parameter, and
+    // ends after the last one.
+    pub fn next_order(self) -> Option<(Sgr, Orders<'a>)>
+        ensures orders { orders_of result ≡ orders_left self.entry }
+        ensures exact { next_of result ≡ next_order (stand self.entry) }
+    {
+        let mut parameters = self.parameters;
+        let mut wait = ColorState::Ready;
+        while let Some(p) = parameters.next() {
+            match meaning_after(wait, p) {
+                Meaning::Order(o) => return Some((o, Orders { parameters })),
+                Meaning::Group(w) => wait = w,
+                Meaning::Unknown => return None,
+            }
+        }
+        None
     }
 }
 
@@ -273,15 +312,8 @@ impl<'a> Iterator for Orders<'a> {
     ghost remaining = { item_count orders_left };
 
     fn next(&mut self) -> Option<Sgr> {
-        let mut wait = ColorState::Ready;
-        'parameters: while let Some(p) = self.parameters.next() {
-            match meaning_after(wait, p) {
-                Meaning::Order(o) => return Some(o),
-                Meaning::Group(w) => wait = w,
-                Meaning::Unknown => break 'parameters,
-            }
-        }
-        self.parameters.rest = None;
-        None
+        let (order, after) = self.next_order()?;
+        *self = after;
+        Some(order)
     }
 }

@@ -1,10 +1,10 @@
 use Rattle.std.proofs.Common.{◌≡◌, length}
-use Rattle.spans.specs.Sgr.{orders_from}
-use Rattle.spans.specs.Sgr.Contracts.{numbers_left, orders_left}
-use Rattle.spans.proofs.sgr.OrdersIterator.next.Given as goal
+use Rattle.spans.specs.Sgr.Contracts.{numbers_left, stand, stand_of, next_order}
+use Rattle.spans.proofs.Parameters.{go_on}
+use Rattle.spans.proofs.sgr.Orders.next_order.Given as goal
 
-abbrev pub invariant-parameters : goal.invariant-parameters
-invariant-parameters l = orders_from l.wait (numbers_left l.self.parameters) ≡ orders_left l.initial.self
+abbrev pub invariant-loop-p : goal.invariant-loop-p
+invariant-loop-p l = go_on l.wait (stand_of l.parameters) ≡ next_order (stand l.self)
 
-abbrev pub decreases-parameters : goal.decreases-parameters
-decreases-parameters l = length (numbers_left l.self.parameters)
+abbrev pub decreases-loop-p : goal.decreases-loop-p
+decreases-loop-p l = length (numbers_left l.parameters)
