@@ -109,9 +109,10 @@ module _ (first count width mode : ℕ) where
       let b : count ≤ 65535 = ltb-false 65535 count y.1 in
       let n : count ≢ 0 = eqb-false count 0 x.1 in
       let k : 1 ≤ count = omega (arith, n) in
+      let z = and_T (leb mode 4) (leb width 65535) (true_T e) in
       record {
         asked = rw (e, le-leb first 65535 a, le-leb count 65535 b, le-leb 1 count k) refl;
-        limits = record { first = a; count = b; some = k; width = leb-true width 65535 (is_true (leb width 65535) (and_T (leb mode 4) (leb width 65535) (true_T e)).1) };
+        limits = record { first = a; count = b; some = k; width = leb-true width 65535 (is_true (leb width 65535) z.1); mode = leb-true mode 4 (is_true (leb mode 4) z.0) };
         mode = q;
       }
 

@@ -37,9 +37,6 @@ use Rattle.drawing.specs.declared.reader.Reader.TheVariants.{Bench, Crew}
 use Rattle.drawing.specs.declared.render.Edges.{Edges}
 use Rattle.drawing.specs.declared.render.Edges.TheVariants as edges
 use Rattle.drawing.specs.declared.write.Window as write
-use Rattle.rows.specs.Modes.{number_of_mode}
-use Rattle.rows.specs.declared.modes.Mode.{Mode}
-use Rattle.rows.specs.declared.modes.Mode.TheVariants.{Unwrapped, GraphemeBoundary, WordBoundary, GraphemeBoundaryDrawn, WordBoundaryDrawn}
 use Rattle.std.specs.Prelude as code
 use native.Mathlib.Nat.{mul-le-mul_right}
 use Rattle.drawing.specs.declared.state.Drawn.{Drawn}
@@ -62,13 +59,6 @@ opening_whole (edges.Rows room) = refl
 closing_whole : (e : Edges) (end : ℕ) (t : State) → change.whole (closing e end t) ≡ true
 closing_whole (edges.Window arrow) end t = window_whole end t
 closing_whole (edges.Rows room) end t = rows_whole room t
-
-mode_low : (mode : Mode) → number_of_mode mode ≤ 4
-mode_low Unwrapped = omega arith
-mode_low GraphemeBoundary = omega arith
-mode_low WordBoundary = omega arith
-mode_low GraphemeBoundaryDrawn = omega arith
-mode_low WordBoundaryDrawn = omega arith
 
 new_is : state_of new_state ≡ initial
 unfolding state_of style_of initial
@@ -138,20 +128,17 @@ module _ (rs : List Record) (line : List ℕ) (enough : DrawRoom rs line) where
 
   -- ---- wrapped rows
 
-  module _ (first count width : ℕ) (limits : InLimits first count width) where
+  module _ (first count width mode : ℕ) (limits : InLimits first count width mode) where
     pub wrap_room : (last : ℕ) (t : WrapState) → t ≡ beginning first last → SpansRoom rs line t
     wrap_room last t e = rw e record { few = enough.few; short = enough.short; low = omega arith; near = omega arith; more = omega arith }
 
     pub area_fits : width * count < 2 ^ 64
     area_fits = let a : width * count ≤ 65535 * count = mul-le-mul_right count limits.width in omega (arith, a, limits.count)
 
-    module _ (mode : Mode) (last : ℕ) (last_is : last ≡ first + count - 1) (w : Wrapping) (w_is : w ≡ wrapping_at width mode) (t : WrapState) (t_is : t ≡ beginning first last) (y : RowCounts) (none : List ℕ)
-        (made : MadeWrap (profile_of w.profile) w.width.0 (number_of_mode w.mode) line rs [] t none y) where
-      abbrev m : ℕ
-      m = number_of_mode mode
-
+    module _ (last : ℕ) (last_is : last ≡ first + count - 1) (w : Wrapping) (w_is : w ≡ wrapping_at width mode) (t : WrapState) (t_is : t ≡ beginning first last) (y : RowCounts) (none : List ℕ)
+        (made : MadeWrap (profile_of w.profile) w.width.0 w.mode line rs [] t none y) where
       abbrev wanted : List Row
-      wanted = rows profile01 width (mode_of m) ss
+      wanted = rows profile01 width (mode_of mode) ss
 
       abbrev nothing_yet : RowList
       nothing_yet = row_list [] (beginning first last).tally
@@ -159,11 +146,11 @@ module _ (rs : List Record) (line : List ℕ) (enough : DrawRoom rs line) where
       abbrev z : RowCounts
       z = (with_all_rows nothing_yet wanted).tally
 
-      made_is : MadeWrap profile01 width m line (records ss) [] (beginning first last) none y
+      made_is : MadeWrap profile01 width mode line (records ss) [] (beginning first last) none y
       made_is = rw (enough.held, ← t_is) (rw (w_is, profile_is) at made)
 
       y_is : y ≡ z
-      y_is = ap (λ (k : RowList). k.tally) (made_is.same ∙ rows_written profile01 width line [] first last ss m (mode_low mode) held ∙ written_all nothing_yet wanted)
+      y_is = ap (λ (k : RowList). k.tally) (made_is.same ∙ rows_written profile01 width line [] first last ss mode limits.mode held ∙ written_all nothing_yet wanted)
 
       few_rows : z.count < 0xFFFF_FFFF_FFFF_FFFF
       few_rows = rw y_is at made_is.more
@@ -184,5 +171,5 @@ module _ (rs : List Record) (line : List ℕ) (enough : DrawRoom rs line) where
 
       pub rows_drawn : (reader : Reader) (current : code.Option ℕ) (window : write.Window) (columns : Column) → window ≡ bounds_of y → columns.0 ≡ window.end.0 - window.start.0
           → (l l' : List ℕ) (r : Drawn) → Rendered (in_rows reader current window (ltb columns.0 (width * count))) line rs l l' r
-          → Drew (changes_of (reader_number reader) (current_in current) (Rows first count width m) ss) l l' r
-      rows_drawn reader current window columns b c l l' r k = drew (Rows first count width m) _ (rows_changes reader current first count width m y ss end_is start_is) l l' r (rw (c, b) at k)
+          → Drew (changes_of (reader_number reader) (current_in current) (Rows first count width mode) ss) l l' r
+      rows_drawn reader current window columns b c l l' r k = drew (Rows first count width mode) _ (rows_changes reader current first count width mode y ss end_is start_is) l l' r (rw (c, b) at k)

@@ -27,8 +27,8 @@ use Rattle.drawing.specs.declared.write.Window as write
 abbrev pub part_window : (start end : ℕ) → Part
 part_window start end = Window start end
 
-abbrev pub part_rows : (first count width : ℕ) → Mode → Part
-part_rows first count width mode = Rows first count width (number_of_mode mode)
+abbrev pub part_rows : (first count width mode : ℕ) → Part
+part_rows first count width mode = Rows first count width mode
 
 -- questions 5 and 7, as the definitions of the calls put them
 unfoldable pub asked_of : Part → ℕ
@@ -43,15 +43,16 @@ abbrev pub WindowAsked : (start end : ℕ) → Result (Unit {0}) Refusal → Typ
 WindowAsked start end r = MatchResult r (λ u. InWindow start end) (λ e. number_of e ≡ asked_of (Window start end))
 
 -- numbers small enough to compute with
-pub record InLimits (f n w : ℕ) : Type 0 where
+pub record InLimits (f n w k : ℕ) : Type 0 where
   pub first : f ≤ 65535
   pub count : n ≤ 65535
   pub some : 1 ≤ n
   pub width : w ≤ 65535
+  pub mode : k ≤ 4
 
 pub record InRows (first count width k : ℕ) (m : Mode) : Type 0 where
   pub asked : asked_of (Rows first count width k) ≡ 0
-  pub limits : InLimits first count width
+  pub limits : InLimits first count width k
   pub mode : number_of_mode m ≡ k
 
 abbrev pub RowsAsked : (first count width mode : ℕ) → Result Mode Refusal → Type 0

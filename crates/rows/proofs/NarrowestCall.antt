@@ -13,13 +13,11 @@ use Rattle.spans.specs.Calls.Contracts.{read_as}
 use Rattle.rows.specs.Rows.{Row, rows}
 use Rattle.rows.specs.Calls.{mode_of}
 use Rattle.rows.specs.Calls.Reading as reading
-use Rattle.rows.specs.Modes.{number_of_mode}
 use Rattle.rows.specs.Wrap.Laws.{rows_of_spans}
 use Rattle.rows.specs.Narrowest.{tried_of, mode_rows_and_width, Narrowed, takes_at_most, narrowest, narrowest_call}
 use Rattle.rows.specs.Narrowest.Laws.{narrowest_refused, narrowest_five, narrowest_accepted, asked_ranges, first_alike}
 use Rattle.rows.specs.Widths.{Widths, widths_to, tried_from, fits_at, narrowed}
 use Rattle.rows.specs.Widths.Laws.{found_at, answer, tried_first}
-use Rattle.rows.specs.declared.modes.Mode.{Mode}
 use Rattle.rows.proofs.RowsCall.{number_next, the_line, line_is, spans_are}
 
 found_is : (w : ℕ) → unwrap_or (found_at w) 0 ≡ w
@@ -52,17 +50,17 @@ module _ (size places mode wanted greatest : ℕ) (line : List ℕ) where
     pub widths_five : mode_rows_and_width mode wanted greatest ≡ false → cleared Refusal.OutOfRange ≡ call
     widths_five e = sym (narrowest_five profile01 size places mode wanted greatest line number_is e)
 
-    module _ (e : mode_rows_and_width mode wanted greatest ≡ true) (m : Mode) (m_is : number_of_mode m ≡ mode) (cs_length : length cs ≡ size) where
+    module _ (e : mode_rows_and_width mode wanted greatest ≡ true) (cs_length : length cs ≡ size) where
       -- the records left take the rows of the line
-      same_test : (w : ℕ) → fits_at (number_of_mode m) wanted (the_line size places line n cs rs read) (take n rs) w ≡ takes_at_most profile01 wanted (mode_of mode) ss w
+      same_test : (w : ℕ) → fits_at mode wanted (the_line size places line n cs rs read) (take n rs) w ≡ takes_at_most profile01 wanted (mode_of mode) ss w
       same_test w =
           let held = rw (unmatched_spans profile01 s) at (reading.held_in size places [] line (answer_of (Ok n)) cs rs read refl) in
           let k : mode ≤ 4 = omega (arith, (asked_ranges mode wanted greatest e).0.1) in
           ap (λ (n : ℕ). leb n wanted)
-          (rw (line_is size places line n cs rs read cs_length, spans_are size places line n cs rs read cs_length, m_is)
+          (rw (line_is size places line n cs rs read cs_length, spans_are size places line n cs rs read cs_length)
           (ap (λ (x : List Row). length x) (rows_of_spans profile01 w _ ss held mode k) ∙ length-reverse (rows profile01 w (mode_of mode) ss)))
 
-      pub widths_found : (o : Option ℕ) → widths_to greatest o ≡ tried_from (fits_at (number_of_mode m) wanted (the_line size places line n cs rs read) (take n rs)) greatest 0
+      pub widths_found : (o : Option ℕ) → widths_to greatest o ≡ tried_from (fits_at mode wanted (the_line size places line n cs rs read) (take n rs)) greatest 0
           → narrowed 0 (unwrap_or o 0) (unwrap_or o greatest) cs rs ≡ call
       unfolding narrowest
       widths_found o f =

@@ -23,11 +23,9 @@ use Rattle.rows.specs.Calls.{mode_and_width, numbers_of, Wrapped}
 use Rattle.rows.specs.Calls.Contracts.{line_room, row_count, numbers_kept, RowsCounted, wrapped_as, answered}
 use Rattle.rows.specs.Calls.Contracts.Laws.{rows_found, count, pairs, answered_refused, answered_five, answered_six, answered_accepted}
 use Rattle.rows.specs.Calls.Reading as reading
-use Rattle.rows.specs.Modes.{number_of_mode}
 use Rattle.rows.specs.Wrap.{RowList, row_list, with_rows, beginning, SpansRoom, MadeWrap}
 use Rattle.rows.specs.Wrap.Laws.{rows_written, written_count, written_numbers, numbers_of_length}
 use Rattle.rows.specs.declared.Request.{Request}
-use Rattle.rows.specs.declared.modes.Mode.{Mode}
 use Rattle.rows.specs.declared.wrap.RowCounts.{RowCounts}
 
 pub number_next : (e : Refusal) → (r : ℕ) × (number_of e ≡ suc r)
@@ -90,7 +88,7 @@ module _ (size places : ℕ) (line : List ℕ) (n : ℕ) (cs : List ℕ) (rs : L
       pub five : mode_and_width q.mode q.width ≡ false → (l : List ℕ) → length rs ≡ places → length l ≡ numbers → cleared_all q size places numbers line Refusal.OutOfRange cs rs l ≡ answered q size places numbers line
       five e l d k = rw (cs_length, d, k) (sym (answered_five q size places numbers line number_is e))
 
-      module _ (asked : mode_and_width q.mode q.width ≡ true) (mode : Mode) (mode_is : number_of_mode mode ≡ q.mode) (l l' : List ℕ) (l_length : length l ≡ numbers) (l'_length : length l' ≡ numbers) where
+      module _ (asked : mode_and_width q.mode q.width ≡ true) (l l' : List ℕ) (l_length : length l ≡ numbers) (l'_length : length l' ≡ numbers) where
         abbrev wrapped : List Row
         wrapped = rows_found q size places numbers line
 
@@ -108,10 +106,10 @@ module _ (size places : ℕ) (line : List ℕ) (n : ℕ) (cs : List ℕ) (rs : L
         nothing_kept : cleared 0 0 l' ≡ replicate (numbers - 0) 0
         nothing_kept = let z : numbers - 0 ≡ numbers = omega arith in rw z (cleared_none 0 l' numbers l'_length)
 
-        module _ (new : q.known ≡ None) (t : RowCounts) (made : MadeWrap profile01 q.width (number_of_mode mode) the_line (take n rs) l (beginning 0 0) l' t) where
+        module _ (new : q.known ≡ None) (t : RowCounts) (made : MadeWrap profile01 q.width q.mode the_line (take n rs) l (beginning 0 0) l' t) where
           rows_are : row_list l' t ≡ with_rows none_yet (reverse wrapped)
           rows_are =
-              let m = rw (line_is, spans_are, mode_is) at made in
+              let m = rw (line_is, spans_are) at made in
               m.same ∙ rows_written profile01 q.width (s ++ after) l 0 0 ss q.mode mode_low (rw (unmatched_spans profile01 s) at (reading.held_in size places [] line (answer_of (Ok n)) cs rs read refl))
 
           few_rows : (with_rows none_yet (reverse wrapped)).tally.count < 0xFFFF_FFFF_FFFF_FFFF
@@ -137,7 +135,7 @@ module _ (size places : ℕ) (line : List ℕ) (n : ℕ) (cs : List ℕ) (rs : L
                     (λ f. rw (new, f, rows_count, lt-leb (length wrapped) (numbers / 2) (omega (arith, leb-false (2 * length wrapped) numbers f))) nothing_kept);
               }
 
-        listed_at : (o : Option ℕ) → q.known ≡ o → (k : ℕ) → RowsCounted profile01 q.width (number_of_mode mode) the_line (take n rs) o l l' k → Listed k
+        listed_at : (o : Option ℕ) → q.known ≡ o → (k : ℕ) → RowsCounted profile01 q.width q.mode the_line (take n rs) o l l' k → Listed k
         unfolding row_count
         listed_at None e k c = subst Listed c.2 (listed_new e c.0 c.1)
         listed_at (Some m) e k c = record { count_is = rw e c; kept = rw e nothing_kept }
@@ -151,7 +149,7 @@ module _ (size places : ℕ) (line : List ℕ) (n : ℕ) (cs : List ℕ) (rs : L
             (λ f. let h : ltb (numbers / 2) m ≡ false = le-ltb _ _ (omega (arith, leb-true (2 * m) numbers f)) in rw (f, h) refl)
             (λ f. let h : ltb (numbers / 2) m ≡ true = lt-ltb _ _ (omega (arith, leb-false (2 * m) numbers f)) in rw (f, h) refl))
 
-        module _ (k : ℕ) (c : RowsCounted profile01 q.width (number_of_mode mode) the_line (take n rs) q.known l l' k) where
+        module _ (k : ℕ) (c : RowsCounted profile01 q.width q.mode the_line (take n rs) q.known l l' k) where
           counted : Listed k
           counted = listed_at q.known refl k c
 

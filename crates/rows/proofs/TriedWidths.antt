@@ -5,11 +5,9 @@ use Rattle.text.specs.Class.Code.{profile_of}
 use Rattle.text.specs.Class.Profile01.{profile_is}
 use Rattle.spans.specs.Spans.{Record}
 use Rattle.rows.specs.Calls.Contracts.{wrapping_at}
-use Rattle.rows.specs.Modes.{number_of_mode}
 use Rattle.rows.specs.Widths.{widths, widths_to, rows_at, tried_from}
 use Rattle.rows.specs.Wrap.{RowList, row_list, with_rows, beginning, rows_of, MadeWrap}
 use Rattle.rows.specs.Wrap.Laws.{rows_pushed, written_count}
-use Rattle.rows.specs.declared.modes.Mode.{Mode}
 use Rattle.rows.specs.declared.wrap.RowCounts.{RowCounts}
 use Rattle.rows.specs.declared.wrap.WrapState.{WrapState}
 use Rattle.rows.specs.declared.wrap.Wrapping.{Wrapping}
@@ -21,10 +19,10 @@ rows_counted P width mode line rs l' y made =
     let e : row_list l' y ≡ with_rows none (rows_of P width mode line rs) = made.same ∙ rows_pushed P width line [] 0 0 mode rs in
     ap (λ (k : RowList). k.tally.count) e ∙ written_count none refl (rows_of P width mode line rs) (rw (ap (λ (k : RowList). k.tally.count) e) at made.more)
 
-pub rows_at_law : (width : ℕ) (mode : Mode) (line : List ℕ) (rs : List Record) (l l' : List ℕ) (y : RowCounts) (w : Wrapping) (t : WrapState) → w ≡ wrapping_at width mode → t ≡ beginning 0 0 → l ≡ []
-    → MadeWrap (profile_of w.profile) w.width.0 (number_of_mode w.mode) line rs l t l' y → y.count ≡ rows_at (number_of_mode mode) line rs width
+pub rows_at_law : (width mode : ℕ) (line : List ℕ) (rs : List Record) (l l' : List ℕ) (y : RowCounts) (w : Wrapping) (t : WrapState) → w ≡ wrapping_at width mode → t ≡ beginning 0 0 → l ≡ []
+    → MadeWrap (profile_of w.profile) w.width.0 w.mode line rs l t l' y → y.count ≡ rows_at mode line rs width
 rows_at_law width mode line rs l l' y w t e f g made =
-    let m = rw (e, f, g, profile_is (record { version = 0 })) at made in rows_counted _ width (number_of_mode mode) line rs l' y m
+    let m = rw (e, f, g, profile_is (record { version = 0 })) at made in rows_counted _ width mode line rs l' y m
 
 -- ---- the loop over widths: t were tried, the next is w, and n are left from it on
 

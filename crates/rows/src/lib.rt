@@ -8,7 +8,6 @@ ghost use Rattle.text.specs.Class.Code.{profile_of};
 ghost use Rattle.spans.specs.Calls.{no_record, read_call};
 ghost use Rattle.spans.specs.Calls.Contracts.{read_as};
 ghost use Rattle.rows.specs.Calls.{rows_call, height_call};
-ghost use Rattle.rows.specs.Modes.{number_of_mode};
 ghost use Rattle.rows.specs.Narrowest.{narrowest_call};
 ghost use Rattle.rows.specs.Widths.{narrowed_as, LineNarrowed};
 ghost use Rattle.rows.specs.Wrap.{SpansRoom, beginning};
@@ -79,7 +78,7 @@ fn count_rows(
     known: Option<usize>,
 ) -> usize
     requires { SpansRoom spans.now line.now (beginning 0 0) }
-    ensures { RowsCounted (profile_of wrapping.profile) wrapping.width.0 (number_of_mode wrapping.mode) line.now spans.now known rows.old rows.new result }
+    ensures { RowsCounted (profile_of wrapping.profile) wrapping.width.0 wrapping.mode line.now spans.now known rows.old rows.new result }
 {
     match known {
         Some(count) => count,
@@ -115,12 +114,12 @@ fn try_answer_line(
     ensures { wrapped_as (answer_of result) (kept_by result 0 conv.new) (kept_by result no_record spans.new) (kept_by result 0 rows.new) ≡ answered request (length conv.old) (length spans.old) (length rows.old) line.now }
 {
     let found = read_line(line, conv, spans)?;
-    let mode = mode_and_width(request.mode, request.width)?;
+    mode_and_width(request.mode, request.width)?;
     let count = count_rows(
         &spans[..found],
         line_in(conv),
         rows,
-        Wrapping::at(request.width, mode),
+        Wrapping::at(request.width, request.mode),
         request.known,
     );
     if request.listed & (rows.len() / 2 < count) {
@@ -175,7 +174,7 @@ fn narrow_line(
     ensures { LineNarrowed mode wanted greatest (length conv.old) (length spans.old) line.now result conv.new spans.new }
 {
     let found = read_line(line, conv, spans)?;
-    let mode = mode_rows_and_width(mode, wanted, greatest)?;
+    mode_rows_and_width(mode, wanted, greatest)?;
     Ok(first_width(&spans[..found], line_in(conv), mode, wanted, greatest))
 }
 

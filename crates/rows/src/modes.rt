@@ -1,7 +1,6 @@
 // The modes of wrapping, and question 5.
 ghost use Rattle.rows.specs.Calls.{mode_and_width};
-ghost use Rattle.rows.specs.Modes.{number_of_mode, Numbered, Asked, counts_drawn};
-ghost use Rattle.rows.specs.Wrap.{word_mode};
+ghost use Rattle.rows.specs.Modes.{Numbered, Asked};
 ghost use Rattle.std.specs.Prelude.{◌≡◌};
 
 use text::Refusal;
@@ -33,23 +32,6 @@ impl TryFrom<usize> for Mode {
             4 => Ok(Mode::WordBoundaryDrawn),
             _ => Err(Refusal::OutOfRange),
         }
-    }
-}
-
-impl Mode {
-    // Are texts broken between words?
-    #[tactic(auto, unfolding(crate::specs::Wrap::word_mode))]
-    pub(crate) fn breaks_words(self) -> bool
-        ensures { result ≡ word_mode (number_of_mode self) }
-    {
-        matches!(self, Mode::WordBoundary | Mode::WordBoundaryDrawn)
-    }
-
-    // Does an Unprintable span count the columns that it draws?
-    pub(crate) fn counts_drawn(self) -> bool
-        ensures { result ≡ counts_drawn (number_of_mode self) }
-    {
-        matches!(self, Mode::GraphemeBoundaryDrawn | Mode::WordBoundaryDrawn)
     }
 }
 

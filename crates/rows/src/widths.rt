@@ -1,6 +1,5 @@
 // Widths tried one after the other, from 1 up.
 ghost use Rattle.std.specs.Prelude.{◌≡◌, ◌≤◌};
-ghost use Rattle.rows.specs.Modes.{number_of_mode};
 ghost use Rattle.rows.specs.Widths.{WidthsAsked, rows_at, fits_at, tried_from, widths_to};
 ghost use Rattle.rows.specs.Wrap.{SpansRoom, beginning};
 
@@ -31,9 +30,9 @@ pub(crate) fn mode_rows_and_width(
 }
 
 // How many rows the spans of a line take at a width, wrapped without row memory.
-fn rows_at(spans: &[Span], line: &[u8], mode: Mode, width: usize) -> usize
+fn rows_at(spans: &[Span], line: &[u8], mode: usize, width: usize) -> usize
     requires { SpansRoom spans.now line.now (beginning 0 0) }
-    ensures { result ≡ rows_at (number_of_mode mode) line.now spans.now width }
+    ensures { result ≡ rows_at mode line.now spans.now width }
 {
     let wrapping = Wrapping::at(width, mode);
     make_wrap(spans, line, &mut [], wrapping, WrapState::begin(0, 0)).count
@@ -43,13 +42,13 @@ fn rows_at(spans: &[Span], line: &[u8], mode: Mode, width: usize) -> usize
 pub(crate) fn first_width(
     spans: &[Span],
     line: &[u8],
-    mode: Mode,
+    mode: usize,
     wanted: usize,
     greatest: usize,
 ) -> Option<usize>
     requires room { SpansRoom spans.now line.now (beginning 0 0) }
     requires few { greatest ≤ 65535 }
-    ensures { widths_to greatest result ≡ tried_from (fits_at (number_of_mode mode) wanted line.now spans.now) greatest 0 }
+    ensures { widths_to greatest result ≡ tried_from (fits_at mode wanted line.now spans.now) greatest 0 }
 {
     for width in 1..=greatest {
         if rows_at(spans, line, mode, width) <= wanted {

@@ -1,9 +1,9 @@
 // Wrapping: src/line.rs, Span::split and make_wrap.
-ghost use Rattle.std.specs.Prelude.{◌≡◌, ◌+◌, ◌-◌, ◌*◌, ◌<◌, leb, length, take, drop};
+ghost use Rattle.std.specs.Prelude.{◌≡◌, ◌+◌, ◌-◌, ◌*◌, ◌<◌, eqb, leb, length, take, drop};
 ghost use Rattle.text.specs.Class.Code.{profile_of};
 ghost use Rattle.text.specs.TextParts.{text_at};
 ghost use Rattle.rows.specs.Calls.Contracts.{line_room, wrapping_at};
-ghost use Rattle.rows.specs.Modes.{number_of_mode};
+ghost use Rattle.rows.specs.Modes.{counts_drawn};
 ghost use Rattle.rows.specs.Words.Laws.{first_word};
 ghost use Rattle.rows.specs.Rows.{row, tabbed, pushed};
 ghost use Rattle.rows.specs.Wrap.{row_list, with_row, counted_row, pair_at, Room, Stepped, advanced, unbroken_of, WordRoom, clusters_of, long_word_of, one_word_of, words_of, word_mode, count_of, text_of, span_of, LastRow, beginning, SpanRoom, SpansRoom, MadeWrap};
@@ -48,17 +48,17 @@ pub struct WrapState {
     pub tally: RowCounts,
 }
 
-// How to wrap: the text profile, the width and the mode.
+// How to wrap: the text profile, the width and the number of a mode. A number that is no mode's wraps as GraphemeBoundaryDrawn does.
 #[derive(Clone, Copy)]
 pub struct Wrapping {
     pub profile: Profile,
     pub width: Column,
-    pub mode: Mode,
+    pub mode: usize,
 }
 
 impl Wrapping {
     // At a width and mode, by the profile of document 01.
-    pub fn at(width: usize, mode: Mode) -> Wrapping
+    pub fn at(width: usize, mode: usize) -> Wrapping
         ensures { result ≡ wrapping_at width mode }
     {
         Wrapping {
@@ -66,6 +66,28 @@ impl Wrapping {
             width: Column(width),
             mode,
         }
+    }
+
+    // Are the columns left in one row?
+    fn is_unwrapped(self) -> bool
+        ensures { result ≡ eqb self.mode 0 }
+    {
+        self.mode == Mode::Unwrapped as usize
+    }
+
+    // Are texts broken between words?
+    #[tactic(auto, unfolding(crate::specs::Wrap::word_mode))]
+    fn breaks_words(self) -> bool
+        ensures { result ≡ word_mode self.mode }
+    {
+        (self.mode == Mode::WordBoundary as usize) | (self.mode == Mode::WordBoundaryDrawn as usize)
+    }
+
+    // Does an Unprintable span count the columns that it draws?
+    fn counts_drawn(self) -> bool
+        ensures { result ≡ counts_drawn self.mode }
+    {
+        Mode::GraphemeBoundaryDrawn as usize <= self.mode
     }
 }
 
@@ -274,9 +296,9 @@ impl WrapState {
     // The text of a span, by the mode.
     fn split_text(&mut self, text: &[u8], rows: &mut [usize], wrapping: Wrapping)
         requires { Room self.old (2 * length text.now) }
-        ensures { Stepped rows.old self.old (text_of (profile_of wrapping.profile) wrapping.width.0 (word_mode (number_of_mode wrapping.mode)) (text_at text.now 0)) (2 * length text.now) (2 * length text.now) rows.new self.new }
+        ensures { Stepped rows.old self.old (text_of (profile_of wrapping.profile) wrapping.width.0 (word_mode wrapping.mode) (text_at text.now 0)) (2 * length text.now) (2 * length text.now) rows.new self.new }
     {
-        if wrapping.mode.breaks_words() {
+        if wrapping.breaks_words() {
             self.by_words(text, rows, wrapping);
             return;
         }
@@ -286,9 +308,9 @@ impl WrapState {
     // An Unprintable span, not broken between its marks: 8 columns, or those that it draws.
     fn unprintable(&mut self, text: &[u8], rows: &mut [usize], wrapping: Wrapping)
         requires { Room self.old (10 * length text.now + 8) }
-        ensures { Stepped rows.old self.old (unbroken_of wrapping.width.0 (count_of (number_of_mode wrapping.mode) (text_at text.now 0))) (10 * length text.now + 8) 1 rows.new self.new }
+        ensures { Stepped rows.old self.old (unbroken_of wrapping.width.0 (count_of wrapping.mode (text_at text.now 0))) (10 * length text.now + 8) 1 rows.new self.new }
     {
-        if wrapping.mode.counts_drawn() {
+        if wrapping.counts_drawn() {
             self.unbroken(rows, wrapping.width, drawn_columns(text));
             return;
         }
@@ -298,9 +320,9 @@ impl WrapState {
     // One span.
     fn split_span(&mut self, line: &[u8], rows: &mut [usize], wrapping: Wrapping, span: Span)
         requires { SpanRoom line.now self.old }
-        ensures { Stepped rows.old self.old (span_of (profile_of wrapping.profile) wrapping.width.0 (number_of_mode wrapping.mode) line.now span) (10 * length line.now + 8) (2 * length line.now + 1) rows.new self.new }
+        ensures { Stepped rows.old self.old (span_of (profile_of wrapping.profile) wrapping.width.0 wrapping.mode line.now span) (10 * length line.now + 8) (2 * length line.now + 1) rows.new self.new }
     {
-        if wrapping.mode == Mode::Unwrapped {
+        if wrapping.is_unwrapped() {
             return;
         }
         let Some(kind) = span.kind() else {
@@ -320,10 +342,10 @@ impl WrapState {
 
     // The last row, unless it is empty and not the only one.
     fn last_row(self, rows: &mut [usize], wrapping: Wrapping) -> RowCounts
-        ensures { LastRow rows.old self (number_of_mode wrapping.mode) rows.new result }
+        ensures { LastRow rows.old self wrapping.mode rows.new result }
     {
         let mut tally = self.tally;
-        if wrapping.mode == Mode::Unwrapped {
+        if wrapping.is_unwrapped() {
             tally.push(rows, Column(0), Column(usize::MAX));
             return tally;
         }
@@ -352,7 +374,7 @@ pub fn make_wrap(
     mut state: WrapState,
 ) -> RowCounts
     requires { SpansRoom spans.now line.now state }
-    ensures { MadeWrap (profile_of wrapping.profile) wrapping.width.0 (number_of_mode wrapping.mode) line.now spans.now rows.old state rows.new result }
+    ensures { MadeWrap (profile_of wrapping.profile) wrapping.width.0 wrapping.mode line.now spans.now rows.old state rows.new result }
 {
     for span in spans {
         state.split_span(line, rows, wrapping, *span);

@@ -10,10 +10,10 @@ returns-in_err-found c =
     let p = err_from_is_err_and c.from_residual.result c.from_residual.ensures.1 in
     rw (p.1, p.2) (line_refused _ _ _ _ _ _ _ _ _ _ c.in_err-found.ensures c.read_line.auto.conv c.read_line.auto.spans _ refl)
 
-pub returns-in_err-mode : goal.returns-in_err-mode
-returns-in_err-mode c =
-    let p = err_from_is_err_and c.from_residual-in_err-mode.result c.from_residual-in_err-mode.ensures.1 in
-    rw (p.1, p.2, c.in_err-mode.ensures.0) (five _ _ _ _ _ _ c.in_ok-found.ensures c.read_line.auto.conv c.args.request _ c.in_err-mode.ensures.1 _ c.read_line.auto.spans refl)
+pub returns-in_err-mode_and_width : goal.returns-in_err-mode_and_width
+returns-in_err-mode_and_width c =
+    let p = err_from_is_err_and c.from_residual-in_err-mode_and_width.result c.from_residual-in_err-mode_and_width.ensures.1 in
+    rw (p.1, p.2, c.in_err-mode_and_width.ensures.0) (five _ _ _ _ _ _ c.in_ok-found.ensures c.read_line.auto.conv c.args.request _ c.in_err-mode_and_width.ensures.1 _ c.read_line.auto.spans refl)
 
 pub slice_bounds-count_rows-end : goal.slice_bounds-count_rows-end
 slice_bounds-count_rows-end c = spans_there _ _ _ _ _ _ c.in_ok-found.ensures
@@ -27,10 +27,10 @@ count_rows-count-requires c = rw c.line_in.ensures (spans_room _ _ _ _ _ _ c.in_
 pub returns-then-request-rows : goal.returns-then-request-rows
 returns-then-request-rows c =
     let counted = rw (c.at.ensures, c.line_in.ensures, profile_is (record { version = 0 })) at c.count_rows-count.ensures in
-    six _ _ _ _ _ _ c.in_ok-found.ensures c.read_line.auto.conv c.args.request _ c.in_ok-mode.ensures.1 _ c.in_ok-mode.ensures.0 _ _ refl c.count_rows-count.auto.rows _ counted c.if-request-rows.true c.read_line.auto.spans
+    six _ _ _ _ _ _ c.in_ok-found.ensures c.read_line.auto.conv c.args.request _ c.in_ok-mode_and_width.ensures.1 _ _ refl c.count_rows-count.auto.rows _ counted c.if-request-rows.true c.read_line.auto.spans
 
 pub returns : goal.returns
 returns c =
     let counted = rw (c.at.ensures, c.line_in.ensures, profile_is (record { version = 0 })) at c.count_rows-count.ensures in
     rw (c.clear.ensures, c.numbers_kept.ensures)
-    (accepted _ _ _ _ _ _ c.in_ok-found.ensures c.read_line.auto.conv c.args.request _ c.in_ok-mode.ensures.1 _ c.in_ok-mode.ensures.0 _ _ refl c.count_rows-count.auto.rows _ counted c.if-request-rows.false)
+    (accepted _ _ _ _ _ _ c.in_ok-found.ensures c.read_line.auto.conv c.args.request _ c.in_ok-mode_and_width.ensures.1 _ _ refl c.count_rows-count.auto.rows _ counted c.if-request-rows.false)

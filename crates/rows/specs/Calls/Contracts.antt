@@ -13,7 +13,6 @@ use Rattle.rows.specs.Rows.{Row, rows}
 use Rattle.rows.specs.Calls.{mode_of, mode_and_width, numbers_of, Wrapped}
 use Rattle.rows.specs.Wrap.{MadeWrap, beginning}
 use Rattle.rows.specs.declared.Request.{Request}
-use Rattle.rows.specs.declared.modes.Mode.{Mode}
 use Rattle.rows.specs.declared.wrap.RowCounts.{RowCounts}
 use Rattle.rows.specs.declared.wrap.Wrapping.{Wrapping}
 pub mod Laws
@@ -23,7 +22,7 @@ abbrev pub line_room : ℕ → ℕ
 line_room conv = min conv 32768
 
 -- how to wrap at a width and a mode
-abbrev pub wrapping_at : (width : ℕ) (mode : Mode) → Wrapping
+abbrev pub wrapping_at : (width mode : ℕ) → Wrapping
 wrapping_at width mode = record { profile = record { version = 0 }; width = column width; mode = mode }
 
 -- how many rows a call answers, and how many numbers of the row list it keeps
