@@ -328,13 +328,18 @@ impl WrapState {
         let Some(kind) = span.kind() else {
             return;
         };
-        let text = text_of(line, span.place, span.len);
         match kind {
-            SpanKind::Text | SpanKind::Match => self.split_text(text, rows, wrapping),
+            SpanKind::Text | SpanKind::Match => {
+                let text = text_of(line, span.place, span.len);
+                self.split_text(text, rows, wrapping);
+            }
             SpanKind::Control | SpanKind::Invalid => {
                 self.unbroken(rows, wrapping.width, BYTE_COLUMNS);
             }
-            SpanKind::Unprintable => self.unprintable(text, rows, wrapping),
+            SpanKind::Unprintable => {
+                let text = text_of(line, span.place, span.len);
+                self.unprintable(text, rows, wrapping);
+            }
             SpanKind::Tab => self.tab(rows, wrapping.width),
             _ => {}
         }

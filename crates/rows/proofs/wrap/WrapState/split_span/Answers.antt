@@ -12,7 +12,7 @@ pub split_text-requires : goal.split_text-requires
 split_text-requires c = record { low = c.requires.low; room = rw (c.text_of-text.ensures, length-take, length-drop) (omega (arith, c.requires.room)) }
 
 pub unprintable-requires : goal.unprintable-requires
-unprintable-requires c = record { low = c.requires.low; room = rw (c.text_of-text.ensures, length-take, length-drop) (omega (arith, c.requires.room)) }
+unprintable-requires c = record { low = c.requires.low; room = rw (c.text_of-text-in-Unprintable.ensures, length-take, length-drop) (omega (arith, c.requires.room)) }
 
 pub returns-in_default : goal.returns-in_default
 returns-in_default c = in_none _ _ _ _ _ _ _ c.requires (eqb-false _ 0 (sym c.is_unwrapped.ensures ∙ c.if-is_unwrapped.false)) c.in_default.ensures
@@ -24,7 +24,7 @@ pub returns-in-Control : goal.returns-in-Control
 returns-in-Control c = in_mark _ _ _ _ _ _ _ c.requires (eqb-false _ 0 (sym c.is_unwrapped.ensures ∙ c.if-is_unwrapped.false)) _ c.in-Some.ensures _ _ c.in-Control.is c.unbroken.ensures
 
 pub returns-in-Unprintable : goal.returns-in-Unprintable
-returns-in-Unprintable c = in_unprintable _ _ _ _ _ _ _ c.requires (eqb-false _ 0 (sym c.is_unwrapped.ensures ∙ c.if-is_unwrapped.false)) _ c.in-Some.ensures _ _ _ c.text_of-text.ensures c.in-Unprintable.is c.unprintable.ensures
+returns-in-Unprintable c = in_unprintable _ _ _ _ _ _ _ c.requires (eqb-false _ 0 (sym c.is_unwrapped.ensures ∙ c.if-is_unwrapped.false)) _ c.in-Some.ensures _ _ _ c.text_of-text-in-Unprintable.ensures c.in-Unprintable.is c.unprintable.ensures
 
 pub returns-in-Tab : goal.returns-in-Tab
 returns-in-Tab c = in_tab _ _ _ _ _ _ _ c.requires (eqb-false _ 0 (sym c.is_unwrapped.ensures ∙ c.if-is_unwrapped.false)) _ c.in-Some.ensures _ _ c.in-Tab.is c.tab.ensures
