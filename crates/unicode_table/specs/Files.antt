@@ -1,5 +1,5 @@
 -- The files that the arguments name, in the parts that the system hands over.
-use Rattle.std.specs.Prelude.{ℕ, suc, ◌≡◌, false, List, [], ◌∷◌, ◌++◌, length, ltb}
+use Rattle.std.specs.Prelude.{ℕ, suc, ◌≡◌, ◌<◌, false, List, [], ◌∷◌, ◌++◌, length, ltb, Option, MatchOption}
 use Rattle.unicode_io.specs.Line.{empty}
 use Rattle.unicode_io.specs.Reading.{State, state_of, reading, bytes_read, file_ended}
 use Rattle.unicode_io.specs.declared.reading.Reading.{Reading}
@@ -10,6 +10,16 @@ unfoldable pub bytes_of : List (List ℕ) → List ℕ
 bytes_of [] = []
 bytes_of ([] ∷ ps) = []
 bytes_of ((b ∷ p) ∷ ps) = (b ∷ p) ++ bytes_of ps
+
+-- a part with bytes
+pub record BytesRead (file : ℕ) (before : Reading) (cells after : List ℕ) (r : Reading) : Type 0 where
+  pub part : List ℕ
+  pub some : 0 < length part
+  pub read : state_of r after ≡ bytes_read file (state_of before cells) part
+
+-- one part more; none where it is empty
+abbrev pub PartRead : (file : ℕ) (before : Reading) (cells after : List ℕ) → Option Reading → Type 0
+PartRead file before cells after r = MatchOption r (after ≡ cells) (λ q. BytesRead file before cells after q)
 
 -- all parts that are asked for, of as many as no run uses up
 pub record PartsRead (file : ℕ) (before : Reading) (cells after : List ℕ) (r : Reading) : Type 0 where

@@ -1,6 +1,6 @@
 // The files that the arguments name, in the parts that the system hands over.
 ghost use Rattle.std.specs.Prelude.{◌<◌, ◌≤◌, IfOk, length};
-ghost use Rattle.unicode_table.specs.Files.{PartsRead, Whole, Files};
+ghost use Rattle.unicode_table.specs.Files.{PartRead, PartsRead, Whole, Files};
 
 use std::fs::File;
 use std::io::Read;
@@ -29,8 +29,26 @@ fn take_part(
     }
 }
 
-// A file that is open, until an empty part says that it has ended. A proved loop has to end, so it counts its turns, up to a number that no
-// run reaches.
+// One part more; none where it is empty, which says that the file has ended.
+fn more(
+    rt: &HostRuntime,
+    cells: &mut [u32],
+    opened: &mut File,
+    path: &[u8],
+    file: usize,
+    before: Reading,
+) -> Result<Option<Reading>, Unread>
+    ensures { IfOk result (λ r. PartRead file before cells.old cells.new r) }
+{
+    let mut buf = [0u8; PART_SIZE];
+    let n = take_part(rt, opened, path, &mut buf)?;
+    if n == 0 {
+        return Ok(None);
+    }
+    Ok(Some(before.read_part(cells, file, &buf[..n])))
+}
+
+// A file that is open. A proved loop has to end, so it counts its turns, up to a number that no run reaches.
 #[tactic(auto, using(crate::specs::Files::Laws::asking_begins, crate::specs::Files::Laws::asking_turn, crate::specs::Files::Laws::asking_stops, crate::specs::Files::Laws::asking_ends))]
 fn read_open(
     rt: &HostRuntime,
@@ -44,12 +62,10 @@ fn read_open(
 {
     let mut reading = before;
     for _ in 0..usize::MAX {
-        let mut buf = [0u8; PART_SIZE];
-        let n = take_part(rt, opened, path, &mut buf)?;
-        if n == 0 {
+        let Some(next) = more(rt, cells, opened, path, file, reading)? else {
             return Ok(reading);
-        }
-        reading = reading.read_part(cells, file, &buf[..n]);
+        };
+        reading = next;
     }
     Ok(reading)
 }

@@ -1,5 +1,5 @@
 -- Part by part, and file by file.
-use Rattle.std.specs.Prelude.{◌≡◌, ℕ, zero, suc, ◌+◌, ◌-◌, ◌≤◌, ◌<◌, length, replicate}
+use Rattle.std.specs.Prelude.{◌≡◌, ℕ, zero, suc, ◌+◌, ◌-◌, ◌≤◌, ◌<◌, length, replicate, Option, Some, None}
 use Rattle.std.proofs.Math.Path.{refl, ap}
 use Rattle.std.proofs.Common.{sym, ◌∙◌, arith, length-append}
 use Rattle.std.proofs.Math.Bool.{false}
@@ -9,7 +9,7 @@ use Rattle.unicode_io.specs.Line.{empty}
 use Rattle.unicode_io.specs.Reading.{State, state_of, reading, bytes_read, file_ended}
 use Rattle.unicode_io.specs.Reading.Laws.{in_parts}
 use Rattle.unicode_io.specs.declared.reading.Reading.{Reading}
-use Rattle.unicode_table.specs.Files.{bytes_of, PartsRead, Whole, files_read, Files}
+use Rattle.unicode_table.specs.Files.{bytes_of, BytesRead, PartRead, PartsRead, Whole, files_read, Files}
 
 part_more : (file : ℕ) (p : List ℕ) (ps : List (List ℕ)) (s : State) → 0 < length p → bytes_read file s (bytes_of (p ∷ ps)) ≡ bytes_read file (bytes_read file s p) (bytes_of ps)
 unfolding bytes_of
@@ -53,6 +53,15 @@ module _ (file : ℕ) (before r : Reading) (cells mid : List ℕ) (i : ℕ) (z :
   pub asking_ends : 18446744073709551615 ≤ i → i ≤ 18446744073709551615 → PartsRead file before cells mid r
   unfolding bytes_of bytes_read
   asking_ends h k = all_read [] (omega arith) refl
+
+-- the next part is empty, or it is one more
+pub part_stops : (file : ℕ) (before r : Reading) (cells mid after : List ℕ) (i : ℕ) (o : Option Reading) → Asking file before cells mid r i → i < 18446744073709551615 → o ≡ None → PartRead file r mid after o → PartsRead file before cells after r
+part_stops file before r cells mid after i o z k e h = let same : after ≡ mid = rw e at h in rw same (asking_stops file before r cells mid i z k)
+
+pub part_turn : (file : ℕ) (before r q : Reading) (cells mid after : List ℕ) (i : ℕ) (o : Option Reading) → Asking file before cells mid r i → o ≡ Some q → PartRead file r mid after o → Asking file before cells after q (i + 1)
+part_turn file before r q cells mid after i o z e h =
+    let b : BytesRead file r mid after q = rw e at h in
+    asking_turn file before r cells mid i z after q b.part b.some b.read
 
 pub whole_read : (file : ℕ) (before r a : Reading) (cells mid after : List ℕ) → PartsRead file before cells mid r → state_of a after ≡ file_ended file (state_of r mid) → Whole file before cells after a
 whole_read file before r a cells mid after h e = record { parts = h.parts; many = h.many; read = e ∙ ap (file_ended file) h.read }
