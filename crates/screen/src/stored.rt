@@ -48,6 +48,7 @@ pub(crate) fn storable(list: &[u8], size: usize, old: bool) -> Result<(), Refusa
 }
 
 // The head of a record: a length of `size` bytes, and its kind.
+#[inline]
 fn write_head(size: usize, len: usize, kind: usize, out: &mut [u8], at: usize) -> usize
     ensures { sink out.new result ≡ emit (sink out.old at) (length_bytes size len ++ le2 kind) }
 {

@@ -19,6 +19,7 @@ pub struct ClusterStep {
 }
 
 // The cluster that begins at a place with the scalar u, scalar by scalar.
+#[inline(always)]
 fn walk_cluster(profile: Profile, s: &[u8], at: usize, u: Option<Scalar>) -> ClusterStep
     requires { NextClusterReady (profile_of profile) s.now at u }
     ensures { NextCluster (profile_of profile) s.now at result }
@@ -62,6 +63,7 @@ fn walk_cluster(profile: Profile, s: &[u8], at: usize, u: Option<Scalar>) -> Clu
 }
 
 // The same, a printable byte before another told first. To walk through a text, hand `next` on: each scalar is decoded once.
+#[inline(always)]
 pub fn next_cluster(profile: Profile, s: &[u8], at: BytePlace, u: Option<Scalar>) -> ClusterStep
     requires { NextClusterReady (profile_of profile) s.now at.0 u }
     ensures { NextCluster (profile_of profile) s.now at.0 result }
@@ -118,6 +120,16 @@ pub(crate) fn never_joins_before(b: u32) -> bool
     (b < 0x80) & (b != 0x0A)
 }
 
+// Where the cluster that begins at a place with the scalar u ends. It is called: few clusters of a line come here, and the walk drawn into
+// the loop of `convert` slows the others.
+#[inline(never)]
+fn walked_end(profile: Profile, s: &[u8], at: usize, u: Option<Scalar>) -> usize
+    requires { NextClusterReady (profile_of profile) s.now at u }
+    ensures { result ≡ at + first_size (profile_of profile) (text_at s.now at) }
+{
+    walk_cluster(profile, s, at, u).part.end.0
+}
+
 // The end of the cluster at a place, which is the place where a damaged byte stands there.
 pub fn cluster_end(profile: Profile, s: &[u8], at: usize) -> usize
     requires { at < length s.now }
@@ -134,7 +146,7 @@ pub fn cluster_end(profile: Profile, s: &[u8], at: usize) -> usize
     if never_joins_before(byte_at(s, p)) {
         return p;
     }
-    walk_cluster(profile, s, at, u).part.end.0
+    walked_end(profile, s, at, u)
 }
 
 // The same for any place: the next boundary, which is the place where a damaged byte or nothing stands there.

@@ -140,6 +140,7 @@ fn ascii_end(s: &[u8], at: usize) -> usize
 }
 
 // The end of the run of valid text that begins at a place.
+#[inline]
 pub fn run_end(s: &[u8], at: usize) -> usize
     requires { at ≤ length s.now }
     ensures { result ≡ at + size (run_of (decode (drop at s.now))) }
