@@ -17,7 +17,7 @@ use Rattle.spans.proofs.Sequences.{leading_is}
 use lib.ListN.{length-append, length-drop, length, take, drop, get_or, drop_of_length-le, get_or-eq_default}
 use Rattle.std.proofs.Math.Seq.{take-append_seam}
 use Rattle.std.proofs.Common.{append_assoc}
-use lib.Seq.{length-take-le, take-length, drop-cons, drop-drop, drop-nil}
+use lib.Seq.{length-take-le, take-length, drop-cons, drop-drop, drop-nil, get_or-drop}
 use lib.Dec.{eqb, leb, ltb, eqb→eq, ltb→lt, nltb→le}
 use borrow.Author.Tests.{eqb-true, ne_eqb, lt-ltb, le-ltb}
 use Rattle.text.specs.Tests.{cases, and_T, true_T}
@@ -40,6 +40,10 @@ match_other (a ∷ b ∷ s) h =
 
 two_more : (n : ℕ) → 2 + n ≡ suc (suc n)
 two_more n = omega arith
+
+match_unlike_first : (s : List ℕ) → get_or s 0 0 ≢ 0x1B → escape_match s ≡ 0
+unfolding escape_match
+match_unlike_first s h = rw (ne_eqb (get_or s 0 0) 0x1B h) refl
 
 match_is : (s t : List ℕ) (n f : ℕ) → s ≡ 0x1B ∷ 0x5B ∷ t → n ≡ prefix_len sequence_byte t → f ≡ get_or t n 0 → escape_match s ≡ cond (leb n 32 && eqb f 0x6D) (3 + n) 0
 unfolding escape_match
@@ -107,6 +111,11 @@ module _ (s : List ℕ) (at i : ℕ) (z : EscapeLoop s at i) where
   unfolding add_escape
   escape_more h m =
       record { same = ap (escapes_at s) (add-one i) ∙ sym (escapes_at_law s i 0 h (sym m)) ∙ z.same; low = omega (arith, z.low) }
+
+  pub escape_unlike : i < length s → get_or s i 0 ≢ 0x1B → EscapeLoop s at (i + 1)
+  escape_unlike h e =
+      let first : get_or (drop i s) 0 0 ≡ get_or s i 0 = get_or-drop i s 0 0 ∙ ap (λ (k : ℕ). get_or s k 0) (add-zero i) in
+      escape_more h (match_unlike_first (drop i s) (λ f. e (sym first ∙ f)))
 
   pub escape_found : (n : ℕ) → i < length s → EscapeMatched (drop i s) (Some n) → NextEscape s at (Some (record { from = i; upto = i + n }))
   unfolding escapes_of escape_of

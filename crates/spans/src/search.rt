@@ -1,5 +1,5 @@
 // Reading with matches: src/search.rs, ESCAPE_SEQUENCE and trim_trailing_newline; src/line.rs, convert_offset.
-ghost use Rattle.std.specs.Prelude.{◌≡◌, ◌+◌, ◌≤◌, ◌<◌, length, take};
+ghost use Rattle.std.specs.Prelude.{◌≡◌, ◌+◌, ◌≤◌, ◌<◌, length, take, drop};
 ghost use Rattle.std.specs.List.{prefix_len};
 ghost use Rattle.spans.specs.Search.{sequence_byte, trimmed, searched_length, in_order};
 ghost use Rattle.spans.specs.Search.Contracts.{EscapeMatched, NextEscape, EscapesLength, pair_in_order, FirstOffsets, OffsetReady, OffsetAt};
@@ -47,11 +47,12 @@ fn sequence_len(s: &[u8]) -> usize
     s.iter().take_while(|b| is_sequence_byte(**b)).count()
 }
 
-// The length of the ESCAPE_SEQUENCE match that bytes begin with.
-fn escape_match(s: &[u8]) -> Option<usize>
-    ensures { EscapeMatched s.now result }
+// The length of the ESCAPE_SEQUENCE match at a place. It is called: drawn into the look for the next ESC it slows each byte of the line.
+#[inline(never)]
+fn escape_match(s: &[u8], at: usize) -> Option<usize>
+    ensures { EscapeMatched (drop at s.now) result }
 {
-    let rest = s.strip_prefix(b"\x1B[")?;
+    let rest = bytes_from(s, at).strip_prefix(b"\x1B[")?;
     let n = sequence_len(rest);
     if (n <= 32) & (byte_at(rest, n) == b'm') {
         return Some(3 + n);
@@ -64,11 +65,13 @@ fn next_escape(s: &[u8], at: usize) -> Option<Escape>
     ensures { NextEscape s.now at result }
 {
     for from in at..s.len() {
-        if let Some(n) = escape_match(bytes_from(s, from)) {
-            return Some(Escape {
-                from,
-                upto: from + n,
-            });
+        if s[from] == 0x1B {
+            if let Some(n) = escape_match(s, from) {
+                return Some(Escape {
+                    from,
+                    upto: from + n,
+                });
+            }
         }
     }
     None
