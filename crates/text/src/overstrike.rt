@@ -107,6 +107,15 @@ fn backspace(profile: Profile, out: &mut [u8], len: usize, known: usize) -> Eras
     }
 }
 
+// Bytes after the result, by a loop. It is called: drawn into the steps of `convert` it slows them.
+#[inline(never)]
+fn push_many(out: &mut [u8], len: usize, src: &[u8]) -> usize
+    requires { len + length src.now ≤ length out.old }
+    ensures { Pushed out.old out.new len src.now result }
+{
+    buffer::copy(out, len, src)
+}
+
 // Bytes after the result, few at once without a loop.
 fn push(out: &mut [u8], len: usize, src: &[u8]) -> usize
     requires { len + length src.now ≤ length out.old }
@@ -114,7 +123,7 @@ fn push(out: &mut [u8], len: usize, src: &[u8]) -> usize
 {
     let n = src.len();
     if 4 < n {
-        return buffer::copy(out, len, src);
+        return push_many(out, len, src);
     }
     if n == 0 {
         return len;

@@ -157,7 +157,8 @@ fn pack_four(profile: Profile, x: u32) -> Scalar
     pack(profile, 4, x)
 }
 
-// The scalar at a place, where one begins there.
+// The scalar at a place, where one begins there. It is drawn into each walk, which a call for every scalar slows.
+#[inline(always)]
 pub fn scalar_at(profile: Profile, s: &[u8], at: usize) -> Option<Scalar>
     requires { at < length s.now }
     ensures { result ≡ scalar_here (profile_of profile) s.now at }

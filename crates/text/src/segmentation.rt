@@ -120,13 +120,20 @@ pub(crate) fn never_joins_before(b: u32) -> bool
     (b < 0x80) & (b != 0x0A)
 }
 
-// Where the cluster that begins at a place with the scalar u ends. It is called: few clusters of a line come here, and the walk drawn into
-// the loop of `convert` slows the others.
+// The end of the cluster at a place, by its scalars. It is called: drawn into the loop of `convert` it slows the clusters of one byte.
 #[inline(never)]
-fn walked_end(profile: Profile, s: &[u8], at: usize, u: Option<Scalar>) -> usize
-    requires { NextClusterReady (profile_of profile) s.now at u }
+fn walked_end(profile: Profile, s: &[u8], at: usize) -> usize
+    requires { at < length s.now }
     ensures { result ≡ at + first_size (profile_of profile) (text_at s.now at) }
 {
+    let u = scalar_at(profile, s, at);
+    let Some(first) = u else {
+        return at;
+    };
+    let p = at + first.len();
+    if never_joins_before(byte_at(s, p)) {
+        return p;
+    }
     walk_cluster(profile, s, at, u).part.end.0
 }
 
@@ -138,15 +145,7 @@ pub fn cluster_end(profile: Profile, s: &[u8], at: usize) -> usize
     if is_one_byte_cluster(s, at) {
         return at + 1;
     }
-    let u = scalar_at(profile, s, at);
-    let Some(first) = u else {
-        return at;
-    };
-    let p = at + first.len();
-    if never_joins_before(byte_at(s, p)) {
-        return p;
-    }
-    walked_end(profile, s, at, u)
+    walked_end(profile, s, at)
 }
 
 // The same for any place: the next boundary, which is the place where a damaged byte or nothing stands there.
