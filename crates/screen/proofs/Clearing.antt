@@ -2,6 +2,7 @@
 use mathlib.Core.Path.{◌≡◌, ap, ap₂, ◌∙◌}
 use Prim.Native.Nat.{ℕ, ◌-◌, ◌*◌, ◌≤◌}
 use native.Mathlib.Omega.{arith}
+use mathlib.Core.Bool.{not}
 use mathlib.Core.List.{List}
 use lib.ListN.{length, replicate, length-replicate}
 use lib.Seq.{length-sets}
@@ -44,7 +45,7 @@ module _ (list row : List ℕ) (width : ℕ) (t : code.Screen) (color : ℕ) (re
 
   cleared_same : screen_at list width row₂ after ≡ clear width (screen_at list width row t) (part list color 4)
   unfolding screen_at clear
-  cleared_same = rw (← is) (ap (λ (cs : List Cell). screen cs c (eqb t.at width) (body_at list t.attributes) t.passed) cleared_row)
+  cleared_same = rw (← is) (ap (λ (cs : List Cell). screen cs c (eqb t.at width) (body_at list t.attributes) (not (eqb t.passed 0))) cleared_row)
 
   module _ (u : code.Screen) (row₁ : List ℕ) (reach : Reached row t c row₁ u) (long₁ : length row₁ ≡ length row) where
     pub clear_cuts : CellsReady row₁ 0 u.end

@@ -67,12 +67,12 @@ module _ (list row : List ℕ) (width : ℕ) (t : code.Screen) (p e w : ℕ) (re
       some : 0 < w
       some = omega (arith, some_columns)
 
-      pub cluster_passes : width - t.at < w → Stepped list width row t (cluster_on width g w) row (Some (record { at = t.at; attributes = t.attributes; end = t.end; color = t.color; passed = true }))
+      pub cluster_passes : width - t.at < w → Stepped list width row t (cluster_on width g w) row (Some (record { at = t.at; attributes = t.attributes; end = t.end; color = t.color; passed = w }))
       unfolding screen_at row_of cluster_on formed
       cluster_passes h =
           let q = passes_is width t.at w ready.ready.at some ∙ lt-ltb (width - t.at) w h in
           record {
-            same = rw (backspace_is ∙ other, lt-ltb 0 w some, q) refl;
+            same = rw (backspace_is ∙ other, lt-ltb 0 w some, q, ne_eqb w 0 some_columns) refl;
             ready = record { some = ready.ready.some; at = ready.ready.at; end = ready.ready.end; room = ready.ready.room };
           }
 

@@ -28,7 +28,7 @@ pub record Drawing (P : Profile) (list row₀ : List ℕ) (width : ℕ) (row : L
   pub ready : RowReady width row t
   pub long : length row ≡ length row₀
 
-pub draw_begin : (P : Profile) (list row : List ℕ) (width : ℕ) → DrawReady width row → Drawing P list row width row (record { at = 0; attributes = 0; end = 0; color = 0; passed = false }) 0
+pub draw_begin : (P : Profile) (list row : List ℕ) (width : ℕ) → DrawReady width row → Drawing P list row width row (record { at = 0; attributes = 0; end = 0; color = 0; passed = 0 }) 0
 unfolding screen_at row_of blank_screen
 draw_begin P list row width ready =
     record {

@@ -3,11 +3,12 @@ use mathlib.Core.Path.{◌≡◌, refl, sym, ap, ◌∙◌}
 use Prim.Native.Nat.{ℕ, ◌≤◌}
 use native.Mathlib.Omega.{arith}
 use mathlib.Core.Bool.{false, ◌&&◌}
+use mathlib.Core.Logic.{◌≢◌}
 use mathlib.Core.Option.{none, some, Option}
 use mathlib.Core.List.{List}
 use lib.ListN.{replicate, length}
 use lib.Dec.{leb}
-use borrow.Author.Tests.{le-leb}
+use borrow.Author.Tests.{ne_eqb, le-leb}
 use Rattle.text.specs.Class.{Profile}
 use Rattle.text.specs.Class.Code.{profile_of}
 use Rattle.text.specs.Class.Profile01.{profile_is}
@@ -33,11 +34,11 @@ unfolding shown_of
 finish_malformed room = refl
 
 module _ (list : List ℕ) (width : ℕ) (row : List ℕ) (t : code.Screen) (room : ℕ) where
-  pub finish_passed : t.passed ≡ true → written (record { number = 11; count = 0 }) (replicate room 0) ≡ shown_of (some (screen_at list width row t)) room
+  pub finish_passed : t.passed ≢ 0 → written (record { number = 11; count = 0 }) (replicate room 0) ≡ shown_of (some (screen_at list width row t)) room
   unfolding shown_of screen_at
-  finish_passed z = sym (rw z refl)
+  finish_passed z = sym (rw (ne_eqb t.passed 0 z) refl)
 
-  pub finish_row : (l l' : List ℕ) (n : ℕ) (w : Written) → t.passed ≡ false → sink l' n ≡ emit (sink l 0) (row_bytes (row_of list width row t)) → length l' ≡ length l → room ≡ length l → w ≡ kept l' n
+  pub finish_row : (l l' : List ℕ) (n : ℕ) (w : Written) → t.passed ≡ 0 → sink l' n ≡ emit (sink l 0) (row_bytes (row_of list width row t)) → length l' ≡ length l → room ≡ length l → w ≡ kept l' n
       → w ≡ shown_of (some (screen_at list width row t)) room
   unfolding shown_of screen_at
   finish_row l l' n w a wrote long is e = e ∙ kept_bytes l l' (row_bytes (row_of list width row t)) n wrote long ∙ sym (rw (a, is) refl)

@@ -2,7 +2,7 @@
 use mathlib.Core.Path.{◌≡◌, refl, sym, ap, ap₂, ◌∙◌}
 use Prim.Native.Nat.{ℕ, ◌+◌, ◌-◌, ◌*◌, ◌<◌, ◌≤◌}
 use native.Mathlib.Omega.{arith}
-use mathlib.Core.Bool.{false, cond, ◌&&◌}
+use mathlib.Core.Bool.{false, not, cond, ◌&&◌}
 use mathlib.Core.List.{List, [], ◌∷◌, ◌++◌, append_assoc, append-nil}
 use lib.ListN.{length, take, drop, get_or, replicate, length-append, length-drop, length-replicate, take-append-drop, replicate-append-replicate}
 use lib.Seq.{length-take-le, take-take, take_at, drop_at, drop-drop, drop-append-add, take-append-le, length-sets, sets}
@@ -215,7 +215,7 @@ module _ (list row : List ℕ) (width : ℕ) (s : code.Screen) (p e w : ℕ) (re
   unfolding screen_at write
   written_same =
       let n : eqb s.at width ≡ false = ne_eqb s.at width (λ z. omega (arith, z, ready.some, ready.fits)) in
-      rw n (ap (λ (cs : List Cell). screen cs (cursor_of width to) (eqb to width) (body_at list s.attributes) s.passed) written_row)
+      rw n (ap (λ (cs : List Cell). screen cs (cursor_of width to) (eqb to width) (body_at list s.attributes) (not (eqb s.passed 0))) written_row)
 
   module _ (t : code.Screen) (row₁ : List ℕ) (reach : Reached row s s.at row₁ t) (long₁ : length row₁ ≡ length row) where
     pub cut_ready : CellsReady row₁ 0 t.end

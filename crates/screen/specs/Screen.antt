@@ -1,5 +1,5 @@
 -- What the contracts of src/screen.rt say: the screen that the code's numbers stand for, and what a change does to it.
-use Rattle.std.specs.Prelude.{◌≡◌, ℕ, ◌+◌, ◌-◌, ◌*◌, ◌<◌, ◌≤◌, Bool, true, false, ◌&&◌, ◌||◌, List, [], ◌∷◌, ◌++◌, length, take, drop, replicate, eqb, ltb}
+use Rattle.std.specs.Prelude.{◌≡◌, ℕ, ◌+◌, ◌-◌, ◌*◌, ◌<◌, ◌≤◌, Bool, true, false, not, ◌&&◌, ◌||◌, List, [], ◌∷◌, ◌++◌, length, take, drop, replicate, eqb, ltb}
 use Rattle.std.proofs.Math.Bool.{cond}
 use Rattle.std.specs.Prelude.{None, Some, IfSome}
 use Rattle.std.specs.Prelude as std
@@ -57,7 +57,7 @@ row_of list width row t = take t.end (cells_in list row) ++ replicate (width - t
 
 unfoldable pub screen_at : List ℕ → ℕ → List ℕ → code.Screen → Screen
 unfolding row_of
-screen_at list width row t = screen (row_of list width row t) (cursor_of width t.at) (eqb t.at width) (body_at list t.attributes) t.passed
+screen_at list width row t = screen (row_of list width row t) (cursor_of width t.at) (eqb t.at width) (body_at list t.attributes) (not (eqb t.passed 0))
 
 -- none where the list is malformed
 abbrev pub screen_of : List ℕ → ℕ → List ℕ → std.Option code.Screen → Option Screen

@@ -16,15 +16,16 @@ use text::scalar::scalar_at;
 use text::segmentation::next_cluster;
 
 // The column after the last write, which is the row's width while the flag is pending; the place of the attribute body written from now on,
-// 0 for default; the column from which on the row is blank, and the place of the background there, 0 for default; whether a text would have
-// passed the last column.
+// 0 for default; the column from which on the row is blank, and the place of the background there, 0 for default; the width of the last
+// cluster that would have passed the last column, 0 for none. (A flag of one byte would leave bytes unused, and the copies of these make
+// every step slower.)
 #[derive(Clone, Copy)]
 pub struct Screen {
     pub at: usize,
     pub attributes: usize,
     pub end: usize,
     pub color: usize,
-    pub passed: bool,
+    pub passed: usize,
 }
 
 impl Screen {
@@ -161,7 +162,7 @@ fn on_cluster(
         return None;
     }
     if width - t.at < w {
-        return Some(Screen { passed: true, ..t });
+        return Some(Screen { passed: w, ..t });
     }
     Some(write_cluster(list, row, width, t, p, e, w))
 }
@@ -251,7 +252,7 @@ pub(crate) fn draw(profile: Profile, list: &[u8], row: &mut [usize], width: usiz
         attributes: 0,
         end: 0,
         color: 0,
-        passed: false,
+        passed: 0,
     };
     let mut at = 0;
     while at < list.len() {
