@@ -32,7 +32,7 @@
  * threads may call at once, with memory of their own to write; what is only read may be
  * shared. The same arguments always give the same answer.
  *
- * Stack. At most CONSOLE_STACK bytes for a call, the caller's frame apart (101,809 were measured,
+ * Stack. At most CONSOLE_STACK bytes for a call, the caller's frame apart (101,745 were measured,
  * by compare/sizes); nothing recurses. */
 #ifndef CONSOLE_LINES_H
 #define CONSOLE_LINES_H
