@@ -94,31 +94,23 @@ module _ (s : List ℕ) (p q : ℕ) (h : p ≤ length s) (e : q ≡ p + ascii_le
   ascii_inside : q ≤ length s
   ascii_inside = omega (arith, ascii_le (drop p s), length-drop p s)
 
--- the byte behind those below 80 is none of them
-stops_high : (s : List ℕ) → ascii_length s < length s → 0x7F < get_or s (ascii_length s) 0
-unfolding ascii_length
-stops_high [] h = absurd (omega arith)
-stops_high (b ∷ s) h =
-    cases (ltb b 0x80)
-    (λ e. rw e (stops_high s (let k : suc (ascii_length s) < suc (length s) = rw e at h in omega arith)))
-    (λ e. rw e (omega (arith, ltb-false b 0x80 e)))
-
-ascii_high : (s : List ℕ) (p q : ℕ) → p ≤ length s → q ≡ p + ascii_length (drop p s) → q < length s → 0x7F < get_or s q 0
-ascii_high s p q h e k =
-    let l : ascii_length (drop p s) < length (drop p s) = omega (arith, length-drop p s) in
-    rw (e, ← get_or-drop p s (ascii_length (drop p s)) 0) (stops_high (drop p s) l)
-
 pub record RunLoop (s : List ℕ) (at p : ℕ) : Type 0 where
   pub same : at + size (run_of (decode (drop at s))) ≡ p + size (run_of (decode (drop p s)))
   pub low : p ≤ length s
-  pub high : p < length s → 0x7F < get_or s p 0
 
-pub run_begins : (s : List ℕ) (at q : ℕ) → at ≤ length s → q ≡ at + ascii_length (drop at s) → RunLoop s at q
-run_begins s at q h e = record { same = run_ascii s at q h e; low = ascii_inside s at q h e; high = ascii_high s at q h e }
+pub run_begins : (s : List ℕ) (at : ℕ) → at ≤ length s → RunLoop s at at
+run_begins s at h = record { same = refl; low = h }
 
 module _ (s : List ℕ) (at p : ℕ) (w : RunLoop s at p) where
-  pub run_long : p < length s → (p < length s) × (0x7F < get_or s p 0)
-  run_long h = (h, w.high h)
+  module _ (h : p < length s) (b : get_or s p 0 < 0x80) (q : ℕ) (i : q ≡ p + ascii_length (drop p s)) where
+    pub run_low_again : RunLoop s at q
+    run_low_again = record { same = w.same ∙ run_ascii s p q w.low i; low = ascii_inside s p q w.low i }
+
+    pub run_low_falls : length s - q < length s - p
+    unfolding ascii_length
+    run_low_falls =
+        let e : ascii_length (drop p s) ≡ suc (ascii_length (drop (suc p) s)) = rw (drop-cons s p 0 h, lt-ltb (get_or s p 0) 0x80 b) refl in
+        omega (arith, e, i)
 
   pub run_ends : length s ≤ p → p ≡ at + size (run_of (decode (drop at s)))
   run_ends h = size_end s p (at + size (run_of (decode (drop at s)))) h w.same
@@ -136,14 +128,8 @@ module _ (s : List ℕ) (at p : ℕ) (w : RunLoop s at p) where
       pub run_place : p + u.len ≤ length s
       run_place = run_room s p u h read.0 read.1
 
-      module _ (q : ℕ) (i : q ≡ p + u.len + ascii_length (drop (p + u.len) s)) where
-        pub run_again : RunLoop s at q
-        run_again =
-            record {
-              same = size_on s p u h read.0 (at + size (run_of (decode (drop at s)))) w.same read.1 ∙ run_ascii s (p + u.len) q run_place i;
-              low = ascii_inside s (p + u.len) q run_place i;
-              high = ascii_high s (p + u.len) q run_place i;
-            }
+      pub run_again : RunLoop s at (p + u.len)
+      run_again = record { same = size_on s p u h read.0 (at + size (run_of (decode (drop at s)))) w.same read.1; low = run_place }
 
-        pub run_falls : length s - q < length s - p
-        run_falls = omega (arith, read.1)
+      pub run_falls : length s - (p + u.len) < length s - p
+      run_falls = omega (arith, read.1)

@@ -145,12 +145,16 @@ pub fn run_end(s: &[u8], at: usize) -> usize
     requires { at ≤ length s.now }
     ensures { result ≡ at + size (run_of (decode (drop at s.now))) }
 {
-    let mut p = ascii_end(s, at);
+    let mut p = at;
     while p < s.len() {
-        let Some(u) = decode_long(s, p) else {
-            return p;
-        };
-        p = ascii_end(s, p + u.len);
+        if s[p] < 0x80 {
+            p = ascii_end(s, p);
+        } else {
+            let Some(u) = decode_long(s, p) else {
+                return p;
+            };
+            p += u.len;
+        }
     }
     p
 }
