@@ -5,6 +5,12 @@ ghost use Rattle.std.specs.Prelude.{◌≡◌, ◌+◌, ◌%◌, ◌^◌, ◌<�
 ghost use Rattle.buffer.specs.Sink.{sink, put, emit, Copied, cleared};
 ghost use Rattle.buffer.specs.Numbers.{le2, le4, hex_digit};
 
+pub use any::{push, push_all};
+
+mod any;
+#[cfg(test)]
+mod tests;
+
 // The byte at a place, or 0 past the end.
 pub fn byte_at(s: &[u8], at: usize) -> u8
     ensures { result ≡ get_or s.now at 0 }
@@ -12,7 +18,7 @@ pub fn byte_at(s: &[u8], at: usize) -> u8
     s.get(at).copied().unwrap_or(0)
 }
 
-// What is written into lent memory: any count of such elements is a usize.
+// What push_element writes: any count of such elements is a usize.
 pub trait Element: Copy {
     // The count past the end.
     fn past(out: &[Self]) -> usize
@@ -32,7 +38,7 @@ impl Element for usize {
 }
 
 // Writes one more element at the count `at`, and returns the next count.
-pub fn push<T: Element>(out: &mut [T], at: usize, x: T) -> usize
+pub fn push_element<T: Element>(out: &mut [T], at: usize, x: T) -> usize
     ensures { sink out.new result ≡ put (sink out.old at) x }
 {
     if at < out.len() {
@@ -60,13 +66,13 @@ fn push_each<T: Element>(out: &mut [T], at: usize, src: &[T]) -> usize
 {
     let mut end = at;
     for x in src {
-        end = push(out, end, *x);
+        end = push_element(out, end, *x);
     }
     end
 }
 
 // Writes the elements of src in order.
-pub fn push_all<T: Element>(out: &mut [T], at: usize, src: &[T]) -> usize
+pub fn push_elements<T: Element>(out: &mut [T], at: usize, src: &[T]) -> usize
     ensures { sink out.new result ≡ emit (sink out.old at) src.now }
 {
     if at <= out.len() {
@@ -83,14 +89,14 @@ pub fn push_part(out: &mut [u8], at: usize, src: &[u8], place: usize, len: usize
 {
     let from = place.min(src.len());
     let n = len.min(src.len() - from);
-    push_all(out, at, &src[from..from + n])
+    push_elements(out, at, &src[from..from + n])
 }
 
 // A number in two bytes, little-endian.
 pub fn push_le2(out: &mut [u8], at: usize, n: usize) -> usize
     ensures { sink out.new result ≡ emit (sink out.old at) (le2 n) }
 {
-    push_all(out, at, &[(n % 256) as u8, (n / 256 % 256) as u8])
+    push_elements(out, at, &[(n % 256) as u8, (n / 256 % 256) as u8])
 }
 
 // A number in four bytes, little-endian.
@@ -103,7 +109,7 @@ pub fn push_le4(out: &mut [u8], at: usize, n: usize) -> usize
         (n / 65536 % 256) as u8,
         (n / 16777216 % 256) as u8,
     ];
-    push_all(out, at, &bytes)
+    push_elements(out, at, &bytes)
 }
 
 // The lowest hexadecimal digit of n, in capitals.

@@ -6,7 +6,7 @@ ghost use Rattle.cache.specs.Wraps.{key, find, heads_in, has_block, well_kept, k
 ghost use Rattle.cache.specs.Wraps.Contracts.{head_at, HeadAtReady, InHeads, Kept, option_of, kept_rows, new_heads, HeadsReady, NewBlock, AddReady, KeepReady, listed, ListReady};
 ghost use Rattle.cache.specs.Calls.Contracts.{RememberReady, Remembered};
 
-use buffer::{copy, push_all};
+use buffer::{copy, push_elements};
 use rows::{Mode, Request};
 use text::Answer;
 
@@ -144,7 +144,7 @@ fn push_head(heads: &mut [usize], at: usize, head: Head) -> usize
     ensures { sink heads.new result ≡ emit (sink heads.old at) (head_numbers (head ∷ [])) }
 {
     let key = head.key;
-    push_all(
+    push_elements(
         heads,
         at,
         &[key.version, key.width, key.mode, head.count, head.block],

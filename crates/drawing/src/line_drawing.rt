@@ -6,7 +6,7 @@ ghost use Rattle.text.specs.TextParts.{text_at};
 ghost use Rattle.drawing.specs.Marks.{replacements, line_drawn};
 ghost use Rattle.drawing.specs.LineDrawing.{Replaceable, has_replacements};
 
-use buffer::push_all;
+use buffer::push_elements;
 use text::utf8::decode;
 
 // What replaces 5F to 7E.
@@ -21,7 +21,7 @@ fn push_replacement(out: &mut [u8], at: usize, code: u32) -> usize
     ensures { sink out.new result ≡ emit (sink out.old at) (get_or replacements (code - 0x5F) []) }
 {
     let replacement = REPLACEMENTS[(code - 0x5F) as usize];
-    push_all(out, at, replacement.as_bytes())
+    push_elements(out, at, replacement.as_bytes())
 }
 
 // A text as line drawing shows it.
@@ -38,7 +38,7 @@ fn convert_line_drawing(out: &mut [u8], text: &[u8]) -> usize
         if (0x5F <= scalar.code) & (scalar.code <= 0x7E) {
             a = push_replacement(out, a, scalar.code);
         } else {
-            a = push_all(out, a, &text[p..end]);
+            a = push_elements(out, a, &text[p..end]);
         }
         p = end;
     }

@@ -6,13 +6,13 @@ ghost use Rattle.text.specs.Utf8.{bytes_of};
 ghost use Rattle.drawing.specs.Marks.{byte_mark, upper_digits, scalar_mark};
 ghost use Rattle.marks.specs.Composed.{change, clipped_change, plain_change, arrow_changes, left_edge, letter_change, seen_changes, right_edge, shown_from, composed_list};
 
-use buffer::{hex_digit, push, push_all, push_le2, push_le4};
+use buffer::{hex_digit, push_element, push_elements, push_le2, push_le4};
 
 // A digit of a scalar's number.
 fn push_digit(out: &mut [u8], at: usize, digit: u32) -> usize
     ensures { sink out.new result ≡ emit (sink out.old at) (hex_digit (digit % 16) ∷ []) }
 {
-    push(out, at, hex_digit((digit % 16) as u8))
+    push_element(out, at, hex_digit((digit % 16) as u8))
 }
 
 // The digits above the lowest four.
@@ -43,20 +43,20 @@ fn push_lower_digits(out: &mut [u8], at: usize, code: u32) -> usize
 pub(crate) fn push_scalar_mark(out: &mut [u8], code: u32) -> usize
     ensures { sink out.new result ≡ emit (sink out.old 0) (bytes_of (scalar_mark code)) }
 {
-    let a = push_all(out, 0, b"<U+");
+    let a = push_elements(out, 0, b"<U+");
     let b = push_upper_digits(out, a, code);
     let c = push_lower_digits(out, b, code);
-    push(out, c, b'>')
+    push_element(out, c, b'>')
 }
 
 // The mark of a byte.
 pub(crate) fn push_byte_mark(out: &mut [u8], byte: u8) -> usize
     ensures { sink out.new result ≡ emit (sink out.old 0) (bytes_of (byte_mark byte)) }
 {
-    let a = push(out, 0, b'<');
-    let b = push(out, a, hex_digit(byte / 16));
-    let c = push(out, b, hex_digit(byte % 16));
-    push(out, c, b'>')
+    let a = push_element(out, 0, b'<');
+    let b = push_element(out, a, hex_digit(byte / 16));
+    let c = push_element(out, b, hex_digit(byte % 16));
+    push_element(out, c, b'>')
 }
 
 // How far a is right of b.
@@ -75,7 +75,7 @@ fn push_change(list: &mut [u8], at: usize, kind: usize, body: &[u8]) -> usize
 {
     let a = push_le4(list, at, body.len());
     let b = push_le2(list, a, kind);
-    push_all(list, b, body)
+    push_elements(list, b, body)
 }
 
 // The columns of a mark from one to another, as a text.

@@ -31,7 +31,7 @@ pub fn with_part(line: &mut [u8], state: Input, part: &[u8]) -> Input
     let p = read_part(state.first, part);
     let first = p.first;
     let at = p.at;
-    let end = buffer::push_all(line, state.count, &part[at..]);
+    let end = buffer::push_elements(line, state.count, &part[at..]);
     Input {
         first,
         count: end.min(line.len()),

@@ -6,7 +6,7 @@ ghost use Rattle.rows_io.specs.Output.{decimal, row_line, row_lines, refusal, an
 
 use super::first_line::width_of;
 use super::input::Input;
-use buffer::{push, push_all};
+use buffer::{push_element, push_elements};
 use text::Answer;
 
 pub fn push_decimal(out: &mut [u8], at: usize, n: usize) -> usize
@@ -14,18 +14,18 @@ pub fn push_decimal(out: &mut [u8], at: usize, n: usize) -> usize
 {
     let mut digits = [0u8; 20];
     let k = io::decimal(n as u64, &mut digits);
-    push_all(out, at, &digits[..k])
+    push_elements(out, at, &digits[..k])
 }
 
 fn push_row(out: &mut [u8], at: usize, index: usize, start: usize, end: usize) -> usize
     ensures { sink out.new result ≡ emit (sink out.old at) (row_line index start end) }
 {
     let a = push_decimal(out, at, index);
-    let b = push(out, a, 0x20);
+    let b = push_element(out, a, 0x20);
     let c = push_decimal(out, b, start);
-    let d = push(out, c, 0x20);
+    let d = push_element(out, c, 0x20);
     let e = push_decimal(out, d, end);
-    push(out, e, 0x0A)
+    push_element(out, e, 0x0A)
 }
 
 // A start and an end of `pairs` for each row.
@@ -42,9 +42,9 @@ fn push_rows(out: &mut [u8], at: usize, pairs: &[usize]) -> usize
 fn push_refusal(out: &mut [u8], at: usize, number: usize) -> usize
     ensures { sink out.new result ≡ emit (sink out.old at) (refusal number) }
 {
-    let a = push_all(out, at, b"refused ");
+    let a = push_elements(out, at, b"refused ");
     let b = push_decimal(out, a, number);
-    push(out, b, 0x0A)
+    push_element(out, b, 0x0A)
 }
 
 // How many of n numbers are the first `count` pairs.

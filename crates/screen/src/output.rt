@@ -9,7 +9,7 @@ ghost use Rattle.screen.specs.Output.{cell_bytes};
 use super::BODY_SIZE;
 use super::row::part_len;
 use super::screen::Screen;
-use buffer::{push_all, push_le4, push_part};
+use buffer::{push_elements, push_le4, push_part};
 
 // The attribute body at a place, 0 for default.
 fn write_body(list: &[u8], place: usize, out: &mut [u8], at: usize) -> usize
@@ -17,7 +17,7 @@ fn write_body(list: &[u8], place: usize, out: &mut [u8], at: usize) -> usize
 {
     if place == 0 {
         let plain = [0u8; BODY_SIZE];
-        return push_all(out, at, &plain);
+        return push_elements(out, at, &plain);
     }
     push_part(out, at, list, place, BODY_SIZE)
 }
@@ -27,9 +27,9 @@ fn write_background(list: &[u8], place: usize, out: &mut [u8], at: usize) -> usi
     ensures { sink out.new result ≡ emit (sink out.old at) (with_background (part list.now place 4)) }
 {
     let zeros = [0u8; 13];
-    let a = push_all(out, at, &zeros[..8]);
+    let a = push_elements(out, at, &zeros[..8]);
     let b = push_part(out, a, list, place, 4);
-    push_all(out, b, &zeros)
+    push_elements(out, b, &zeros)
 }
 
 // A blank, with the background at a place.
@@ -37,7 +37,7 @@ fn write_blank(list: &[u8], place: usize, out: &mut [u8], at: usize) -> usize
     ensures { sink out.new result ≡ emit (sink out.old at) (cell_bytes (blank_at list.now place)) }
 {
     let space = [1u8, 0, 0, 0, 0x20];
-    let a = push_all(out, at, &space);
+    let a = push_elements(out, at, &space);
     if place == 0 {
         return write_body(list, 0, out, a);
     }

@@ -10,7 +10,7 @@ ghost use Rattle.screen.specs.Stored.Contracts.{is_formed, refusal_in, refusal_o
 use super::BODY_SIZE;
 use super::body::{OLD_SIZE, is_of_kind};
 use super::records::{Head, head_at};
-use buffer::{push, push_all, push_le2, push_le4};
+use buffer::{push_element, push_elements, push_le2, push_le4};
 use text::Refusal;
 
 // Is it a whole record, with a body of its kind?
@@ -66,11 +66,11 @@ fn write_record(kind: usize, body: &[u8], size: usize, out: &mut [u8], at: usize
 {
     if (kind == 2) & (body.len() == OLD_SIZE) {
         let a = write_head(size, BODY_SIZE, kind, out, at);
-        let b = push_all(out, a, body);
-        return push(out, b, 0);
+        let b = push_elements(out, a, body);
+        return push_element(out, b, 0);
     }
     let a = write_head(size, body.len(), kind, out, at);
-    push_all(out, a, body)
+    push_elements(out, a, body)
 }
 
 // The records of a list, their lengths of `from` bytes written in `to` bytes.

@@ -5,7 +5,7 @@ ghost use Rattle.screen.specs.Records.{little_endian};
 ghost use Rattle.show_io.specs.Ansi.{cells, valued, colored, font_of, flags_of, colors_of, further, style_order, uri, link_order, alike, change, row_text};
 ghost use Rattle.show_io.specs.Ansi.Contracts.{style_change, link_change, same_body, places_at, InRow, cell_text};
 
-use buffer::{byte_at, push, push_all, push_part};
+use buffer::{byte_at, push_element, push_elements, push_part};
 use rows_io::output::push_decimal;
 use screen::BODY_SIZE;
 use screen::records::read_length;
@@ -22,7 +22,7 @@ struct Places {
 fn push_parameter(out: &mut [u8], at: usize, p: u8) -> usize
     ensures { sink out.new result ≡ emit (sink out.old at) (further (p ∷ [])) }
 {
-    let a = push(out, at, 0x3B);
+    let a = push_element(out, at, 0x3B);
     push_decimal(out, a, p as usize)
 }
 
@@ -103,12 +103,12 @@ fn push_colors(out: &mut [u8], at: usize, body: &[u8]) -> usize
 fn push_style(out: &mut [u8], at: usize, body: &[u8]) -> usize
     ensures { sink out.new result ≡ emit (sink out.old at) (style_order body.now) }
 {
-    let a = push_all(out, at, b"\x1b[0");
+    let a = push_elements(out, at, b"\x1b[0");
     let b = push_font(out, a, body);
     let c = push_flags(out, b, byte_at(body, 3));
     let d = push_colors(out, c, body);
     let e = push_value(out, d, byte_at(body, 24), 73, 74);
-    push(out, e, 0x6D)
+    push_element(out, e, 0x6D)
 }
 
 // The number in 4 bytes at a place; past the end they are 0.
@@ -133,9 +133,9 @@ fn push_uri(out: &mut [u8], at: usize, line: &[u8], body: &[u8]) -> usize
 fn push_link(out: &mut [u8], at: usize, line: &[u8], body: &[u8]) -> usize
     ensures { sink out.new result ≡ emit (sink out.old at) (link_order (uri line.now body.now)) }
 {
-    let a = push_all(out, at, b"\x1b]8;;");
+    let a = push_elements(out, at, b"\x1b]8;;");
     let b = push_uri(out, a, line, body);
-    push_all(out, b, b"\x1b\\")
+    push_elements(out, b, b"\x1b\\")
 }
 
 // Are n bytes alike in two bodies, from a place on?
@@ -218,10 +218,10 @@ fn push_cell(out: &mut [u8], at: usize, line: &[u8], row: &[u8], was: Places, ce
     let body = cell.body;
     let end = cell.end;
     if are_same(&row[from..to], &row[body..end]) {
-        return push_all(out, at, &row[start..body]);
+        return push_elements(out, at, &row[start..body]);
     }
     let a = push_change(out, at, line, &row[from..to], &row[body..end]);
-    push_all(out, a, &row[start..body])
+    push_elements(out, a, &row[start..body])
 }
 
 // The text of a screen row, whose URIs stand in the converted line.

@@ -5,7 +5,7 @@ ghost use Rattle.show_io.specs.Input.{line_length, pieces, is_end, next_number, 
 ghost use Rattle.show_io.specs.Input.Contracts.{Kept, state_of, read_of, last_of};
 
 use super::lines::{View, push_line, push_refusal};
-use buffer::push_all;
+use buffer::push_elements;
 
 // From so many printed bytes on, no further line is begun.
 const ENOUGH: usize = 65536;
@@ -66,7 +66,7 @@ fn keep(line: &mut [u8], kept: usize, piece: &[u8]) -> usize
 {
     let from = kept.min(line.len());
     let n = piece.len().min(line.len() - from);
-    push_all(line, from, &piece[..n])
+    push_elements(line, from, &piece[..n])
 }
 
 // Did a line print more than it may?

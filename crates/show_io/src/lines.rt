@@ -13,7 +13,7 @@ ghost use Rattle.show_io.specs.Lines.Contracts.{PrintedTo, AnswerOf, answer_text
 use super::ansi::push_row;
 use super::few_spans;
 use super::span_text::push_numbers;
-use buffer::{push, push_all};
+use buffer::{push_element, push_elements};
 use drawing::numbers::{draw_row_numbers, draw_window_numbers};
 use rows::numbers::{height_numbers, rows_numbers};
 use rows_io::output::push_decimal;
@@ -57,7 +57,7 @@ fn print_list(
     }
     let n = t.count.min(cells.len());
     let a = push_row(out, at, line, &cells[..n]);
-    Ok(push(out, a, 0x0A))
+    Ok(push_element(out, a, 0x0A))
 }
 
 // The same of a drawing, by its answer.
@@ -289,40 +289,40 @@ fn push_words(out: &mut [u8], at: usize, number: usize) -> usize
     ensures { sink out.new result ≡ emit (sink out.old at) (words number) }
 {
     if number == 1 {
-        return push_all(out, at, b"the line has more than 4,096 bytes");
+        return push_elements(out, at, b"the line has more than 4,096 bytes");
     }
     if number == 4 {
-        return push_all(out, at, b"more spans than the list has places");
+        return push_elements(out, at, b"more spans than the list has places");
     }
     if number == 5 {
-        return push_all(out, at, b"a number beyond its limit");
+        return push_elements(out, at, b"a number beyond its limit");
     }
     if number == 8 {
-        return push_all(out, at, b"a cluster wider than the window");
+        return push_elements(out, at, b"a cluster wider than the window");
     }
     if number == 9 {
-        return push_all(out, at, b"more to print than there is room for");
+        return push_elements(out, at, b"more to print than there is room for");
     }
-    push_all(out, at, b"not drawn")
+    push_elements(out, at, b"not drawn")
 }
 
 // `refused`, a refusal's number and its words.
 fn push_refused(out: &mut [u8], at: usize, number: usize) -> usize
     ensures { sink out.new result ≡ emit (sink out.old at) (refused_text number) }
 {
-    let a = push_all(out, at, b": refused ");
+    let a = push_elements(out, at, b": refused ");
     let b = push_decimal(out, a, number);
-    let c = push_all(out, b, b": ");
+    let c = push_elements(out, b, b": ");
     let d = push_words(out, c, number);
-    push(out, d, 0x0A)
+    push_element(out, d, 0x0A)
 }
 
 // `NAME:LINE: refused N: words`.
 pub fn push_refusal(out: &mut [u8], at: usize, name: &[u8], line: usize, number: usize) -> usize
     ensures { sink out.new result ≡ emit (sink out.old at) (refusal_text name.now line number) }
 {
-    let a = push_all(out, at, name);
-    let b = push(out, a, 0x3A);
+    let a = push_elements(out, at, name);
+    let b = push_element(out, a, 0x3A);
     let c = push_decimal(out, b, line);
     push_refused(out, c, number)
 }

@@ -4,7 +4,7 @@ ghost use Rattle.buffer.specs.Sink.{sink, emit};
 ghost use Rattle.show_io.specs.SpanText.{sequence_word, kind_word, visible_byte, visible, shown, head_text, place_text, span_text};
 ghost use Rattle.show_io.specs.SpanText.Contracts.{numbers_text};
 
-use buffer::{push, push_all};
+use buffer::{push_element, push_elements};
 use drawing::mark::push_byte_mark;
 use rows_io::output::push_decimal;
 
@@ -13,18 +13,18 @@ fn push_sequence_word(out: &mut [u8], at: usize, kind: usize) -> usize
     ensures { sink out.new result ≡ emit (sink out.old at) (sequence_word kind) }
 {
     if kind == 6 {
-        return push_all(out, at, b"style-order");
+        return push_elements(out, at, b"style-order");
     }
     if kind == 7 {
-        return push_all(out, at, b"hyperlink");
+        return push_elements(out, at, b"hyperlink");
     }
     if kind == 8 {
-        return push_all(out, at, b"line-drawing");
+        return push_elements(out, at, b"line-drawing");
     }
     if kind == 9 {
-        return push_all(out, at, b"ignored-sequence");
+        return push_elements(out, at, b"ignored-sequence");
     }
-    push_all(out, at, b"erase-to-end")
+    push_elements(out, at, b"erase-to-end")
 }
 
 // The kind in words.
@@ -32,28 +32,28 @@ fn push_kind_word(out: &mut [u8], at: usize, kind: usize) -> usize
     ensures { sink out.new result ≡ emit (sink out.old at) (kind_word kind) }
 {
     if kind == 1 {
-        return push_all(out, at, b"text");
+        return push_elements(out, at, b"text");
     }
     if kind == 2 {
-        return push_all(out, at, b"match");
+        return push_elements(out, at, b"match");
     }
     if kind == 3 {
-        return push_all(out, at, b"control");
+        return push_elements(out, at, b"control");
     }
     if kind == 4 {
-        return push_all(out, at, b"invalid");
+        return push_elements(out, at, b"invalid");
     }
     if kind == 5 {
-        return push_all(out, at, b"unprintable");
+        return push_elements(out, at, b"unprintable");
     }
     if kind == 10 {
-        return push_all(out, at, b"tab");
+        return push_elements(out, at, b"tab");
     }
     if kind == 11 {
-        return push_all(out, at, b"cr-lf");
+        return push_elements(out, at, b"cr-lf");
     }
     if kind == 12 {
-        return push_all(out, at, b"lf");
+        return push_elements(out, at, b"lf");
     }
     push_sequence_word(out, at, kind)
 }
@@ -62,7 +62,7 @@ fn push_visible_byte(out: &mut [u8], at: usize, b: u8) -> usize
     ensures { sink out.new result ≡ emit (sink out.old at) (visible_byte b) }
 {
     if (0x20 <= b) & (b <= 0x7E) {
-        return push(out, at, b);
+        return push_element(out, at, b);
     }
     push_byte_mark(out, at, b)
 }
@@ -82,7 +82,7 @@ fn push_shown(out: &mut [u8], at: usize, kind: usize, s: &[u8]) -> usize
     ensures { sink out.new result ≡ emit (sink out.old at) (shown kind s.now) }
 {
     if kind == 1 {
-        return push_all(out, at, s);
+        return push_elements(out, at, s);
     }
     push_visible(out, at, s)
 }
@@ -101,9 +101,9 @@ fn push_head(out: &mut [u8], at: usize, number: usize, kind: usize) -> usize
     ensures { sink out.new result ≡ emit (sink out.old at) (head_text number kind) }
 {
     let a = push_decimal(out, at, number);
-    let b = push_all(out, a, b": ");
+    let b = push_elements(out, a, b": ");
     let c = push_kind_word(out, b, kind);
-    push(out, c, 0x20)
+    push_element(out, c, 0x20)
 }
 
 // `0 8 `.
@@ -111,9 +111,9 @@ fn push_place(out: &mut [u8], at: usize, place: usize, len: usize) -> usize
     ensures { sink out.new result ≡ emit (sink out.old at) (place_text place len) }
 {
     let a = push_decimal(out, at, place);
-    let b = push(out, a, 0x20);
+    let b = push_element(out, a, 0x20);
     let c = push_decimal(out, b, len);
-    push(out, c, 0x20)
+    push_element(out, c, 0x20)
 }
 
 fn push_span(
@@ -130,7 +130,7 @@ fn push_span(
     let a = push_head(out, at, number, kind);
     let b = push_place(out, a, place, len);
     let c = push_part(out, b, conv, kind, place, len);
-    push(out, c, 0x0A)
+    push_element(out, c, 0x0A)
 }
 
 // Kind, place, length and match number of each span.

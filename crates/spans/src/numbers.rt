@@ -7,7 +7,7 @@ ghost use Rattle.spans.specs.Calls.{no_record, read_call};
 ghost use Rattle.spans.specs.Numbers.{numbers_of_all, places_in, ReadNumbers};
 
 use super::{Span, read};
-use buffer::{clear, push_all};
+use buffer::{clear, push_elements};
 use text::Answer;
 
 // How many places of the list are lent where so many numbers are to hold the records.
@@ -31,7 +31,7 @@ pub fn write_numbers(spans: &[Span], numbers: &mut [usize])
 {
     let mut at = 0;
     for span in spans {
-        at = push_all(
+        at = push_elements(
             numbers,
             at,
             &[span.kind, span.place.0, span.len, span.matched],

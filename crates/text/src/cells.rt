@@ -5,7 +5,7 @@ ghost use Rattle.buffer.specs.Numbers.{smaller_of};
 ghost use Rattle.text.specs.Cells.{are_cells, cell_style, is_cell, overstruck, overstruck_cells};
 ghost use Rattle.text.specs.Cells.Code.{overstruck_length};
 
-use buffer::push;
+use buffer::push_element;
 
 // Is this a cell: a byte 20 to 7E except 5F, and a style 0 to 3?
 fn is_cell(byte: u8, style: u8) -> bool
@@ -59,9 +59,9 @@ pub(crate) fn written_len(cells: &[u8]) -> usize
 fn push_struck(out: &mut [u8], at: usize, under: u8, upper: u8) -> usize
     ensures { sink out.new result ≡ emit (sink out.old at) (under ∷ 0x08 ∷ upper ∷ []) }
 {
-    let a = push(out, at, under);
-    let b = push(out, a, 0x08);
-    push(out, b, upper)
+    let a = push_element(out, at, under);
+    let b = push_element(out, a, 0x08);
+    push_element(out, b, upper)
 }
 
 // A byte in a style.
@@ -69,13 +69,13 @@ fn push_overstruck(out: &mut [u8], at: usize, byte: u8, style: u8) -> usize
     ensures { sink out.new result ≡ emit (sink out.old at) (overstruck (cell_style style) byte) }
 {
     match style {
-        0 => push(out, at, byte),
+        0 => push_element(out, at, byte),
         1 => push_struck(out, at, byte, byte),
         2 => push_struck(out, at, 0x5F, byte),
         _ => {
             let a = push_struck(out, at, 0x5F, byte);
-            let b = push(out, a, 0x08);
-            push(out, b, byte)
+            let b = push_element(out, a, 0x08);
+            push_element(out, b, byte)
         }
     }
 }

@@ -5,23 +5,23 @@ ghost use Rattle.unicode_io.specs.Digits.{decimal, hexadecimal};
 ghost use Rattle.unicode_io.specs.Output.{number_line, part_size, gap, head, numbers, head_of, foot_of, row_text, refusal};
 
 use super::rows::Row;
-use buffer::push_all;
+use buffer::push_elements;
 
 fn push_decimal(out: &mut [u8], at: usize, n: usize) -> usize
     ensures { sink out.new result ≡ emit (sink out.old at) (decimal n) }
 {
     let mut digits = [0u8; 20];
     let k = io::decimal(n as u64, &mut digits);
-    push_all(out, at, &digits[..k])
+    push_elements(out, at, &digits[..k])
 }
 
 // A number on a line of its own.
 fn push_number(out: &mut [u8], at: usize, n: usize) -> usize
     ensures { sink out.new result ≡ emit (sink out.old at) (number_line n) }
 {
-    let a = push_all(out, at, b"    0x");
+    let a = push_elements(out, at, b"    0x");
     let b = push_hexadecimal(out, a, n);
-    push_all(out, b, b",\n")
+    push_elements(out, b, b",\n")
 }
 
 fn push_hexadecimal(out: &mut [u8], at: usize, n: usize) -> usize
@@ -29,7 +29,7 @@ fn push_hexadecimal(out: &mut [u8], at: usize, n: usize) -> usize
 {
     let mut digits = [0u8; 16];
     let k = io::hex(n as u64, 1, &mut digits);
-    push_all(out, at, &digits[..k])
+    push_elements(out, at, &digits[..k])
 }
 
 fn push_numbers(out: &mut [u8], at: usize, row: Row) -> usize
@@ -47,7 +47,7 @@ fn push_gap(out: &mut [u8], at: usize, part: usize) -> usize
     if part == 0 {
         return at;
     }
-    push_all(out, at, b"\n")
+    push_elements(out, at, b"\n")
 }
 
 fn push_head(out: &mut [u8], at: usize, part: usize, rows: usize) -> usize
@@ -55,11 +55,11 @@ fn push_head(out: &mut [u8], at: usize, part: usize, rows: usize) -> usize
     ensures { sink out.new result ≡ emit (sink out.old at) (head part rows) }
 {
     let g = push_gap(out, at, part);
-    let a = push_all(out, g, b"pub(crate) const PART_");
+    let a = push_elements(out, g, b"pub(crate) const PART_");
     let b = push_decimal(out, a, part);
-    let c = push_all(out, b, b": [u32; ");
+    let c = push_elements(out, b, b": [u32; ");
     let d = push_decimal(out, c, rows * 3);
-    push_all(out, d, b"] = [\n")
+    push_elements(out, d, b"] = [\n")
 }
 
 fn part_size(total: usize) -> usize
@@ -85,7 +85,7 @@ fn push_foot_of(out: &mut [u8], at: usize, total: usize, i: usize) -> usize
     let size = part_size(total);
     let rest = total.saturating_sub(i);
     if (i % size + 1 == size) | (rest == 1) {
-        return push_all(out, at, b"];\n");
+        return push_elements(out, at, b"];\n");
     }
     at
 }
@@ -102,7 +102,7 @@ pub fn push_row(out: &mut [u8], at: usize, total: usize, i: usize, row: Row) -> 
 pub fn push_refusal(out: &mut [u8], at: usize, number: usize) -> usize
     ensures { sink out.new result ≡ emit (sink out.old at) (refusal number) }
 {
-    let a = push_all(out, at, b"refused ");
+    let a = push_elements(out, at, b"refused ");
     let b = push_decimal(out, a, number);
-    push_all(out, b, b"\n")
+    push_elements(out, b, b"\n")
 }

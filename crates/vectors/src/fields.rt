@@ -3,7 +3,7 @@
 ghost use Rattle.std.specs.Prelude.{◌≡◌, ◌+◌, drop};
 ghost use Rattle.vectors.specs.Fields.{start_of, field_of, digit_of, index_of, with_digit, decimal, listed, hex_byte, hex_bytes, Filled};
 
-use buffer::{byte_at, push};
+use buffer::{byte_at, push_element};
 
 // Where the n-th field begins, or the end where there are fewer.
 fn field_start(s: &[u8], n: usize) -> usize
@@ -96,13 +96,13 @@ pub(crate) fn numbers(text: &[u8], out: &mut [usize]) -> usize
     let mut n = 0;
     for b in text {
         if *b == b',' {
-            at = push(out, at, n);
+            at = push_element(out, at, n);
             n = 0;
             continue;
         }
         n = with_digit(n, *b);
     }
-    push(out, at, n).min(out.len())
+    push_element(out, at, n).min(out.len())
 }
 
 fn hex_byte(high: u8, low: u8) -> u8
@@ -117,7 +117,7 @@ pub(crate) fn bytes(text: &[u8], out: &mut [u8]) -> usize
 {
     let mut at = 0;
     for i in 0..text.len() / 2 {
-        at = push(out, at, hex_byte(text[2 * i], text[2 * i + 1]));
+        at = push_element(out, at, hex_byte(text[2 * i], text[2 * i + 1]));
     }
     at.min(out.len())
 }

@@ -7,7 +7,7 @@ ghost use Rattle.vectors.specs.Program.{input_at, input_len, part_of};
 use super::fields;
 use super::fields::{field, number};
 use super::output::{print, print_hex, print_number};
-use buffer::{byte_at, push};
+use buffer::{byte_at, push_element};
 use rows_io::input::{Input, begin, with_part};
 
 // The byte at a place of the input.
@@ -45,7 +45,7 @@ fn fill(
 {
     let mut n = 0;
     for i in at..end {
-        n = push(part, n, input_byte(prefix, byte, times, suffix, i));
+        n = push_element(part, n, input_byte(prefix, byte, times, suffix, i));
     }
     n.min(part.len())
 }

@@ -14,8 +14,8 @@ overflow_add-end c = omega (arith, (convert_step c.loop-p.invariant.0 c.loop-p-t
 pub push_replacement-a-requires : goal.push_replacement-a-requires
 push_replacement-a-requires c = search replaceable
 
-pub slice_bounds-push_all-end : goal.slice_bounds-push_all-end
-slice_bounds-push_all-end c = (convert_step c.loop-p.invariant.0 c.loop-p-test.true _ c.decode.ensures _ c.in-Some.is).1
+pub slice_bounds-push_elements-end : goal.slice_bounds-push_elements-end
+slice_bounds-push_elements-end c = (convert_step c.loop-p.invariant.0 c.loop-p-test.true _ c.decode.ensures _ c.in-Some.is).1
 
 pub loop-p-smaller-then-scalar : goal.loop-p-smaller-then-scalar
 loop-p-smaller-then-scalar c = let a = (convert_step c.loop-p.invariant.0 c.loop-p-test.true _ c.decode.ensures _ c.in-Some.is) in omega (arith, a.0, a.1)

@@ -5,4 +5,4 @@ use Rattle.drawing.proofs.line_drawing.push_replacement.Goals as goal
 
 pub returns : goal.returns
 unfolding replacements
-returns c = c.push_all.ensures ∙ rw (c.as_bytes.ensures.value, bytes_at) refl
+returns c = c.push_elements.ensures ∙ rw (c.as_bytes.ensures.value, bytes_at) refl

@@ -8,4 +8,4 @@ returns c = let c₁ = c.before.before in
     let c₄ = c₃.before.before.before.before in
     let c₅ = c₄.before.before.before.before in
     let c₆ = c₅.before.before.before.before in
-    row_pushed _ _ _ _ _ _ _ _ _ _ c₆.push_decimal-a.ensures c₅.push-b.ensures c₄.push_decimal-c.ensures c₃.push-d.ensures c₂.push_decimal-e.ensures c₁.push.ensures
+    row_pushed _ _ _ _ _ _ _ _ _ _ c₆.push_decimal-a.ensures c₅.push_element-b.ensures c₄.push_decimal-c.ensures c₃.push_element-d.ensures c₂.push_decimal-e.ensures c₁.push_element.ensures

@@ -7,8 +7,8 @@ use Rattle.show_io.proofs.input.keep.Goals as goal
 pub overflow_sub-line : goal.overflow_sub-line
 overflow_sub-line c = search smaller_right
 
-pub slice_bounds-push_all-end : goal.slice_bounds-push_all-end
-slice_bounds-push_all-end c = sym (length-take-le _ _ (search smaller_left))
+pub slice_bounds-push_elements-end : goal.slice_bounds-push_elements-end
+slice_bounds-push_elements-end c = sym (length-take-le _ _ (search smaller_left))
 
 pub returns : goal.returns
 returns c = search kept_is

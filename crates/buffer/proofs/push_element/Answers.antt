@@ -1,5 +1,5 @@
 use Rattle.buffer.specs.Sink.Laws.{put_in, put_past}
-use Rattle.buffer.proofs.push.Goals as goal
+use Rattle.buffer.proofs.push_element.Goals as goal
 
 pub returns-then-at-out : goal.returns-then-at-out
 returns-then-at-out g c = search put_in
