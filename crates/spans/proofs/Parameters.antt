@@ -14,7 +14,7 @@ use borrow.Author.Tests.{eq-eqb, ne_eqb, le-leb, lt-leb, leb-true, leb-false}
 use Rattle.std.specs.Prelude.{Option, Some, None, MatchOption, fold, take, ⊤}
 use Rattle.std.specs.Option.{is_some, unwrap_or}
 use Rattle.std.specs.List.{prefix_len}
-use Rattle.std.specs.Iterator.{MakesProgress, item_count}
+use Rattle.std.specs.Iterator.{MakesProgress, YieldsFirst, item_count}
 use lib.Pointwise.{pointwise}
 use Rattle.std.proofs.lemmas.Slice.Eq.{strip_prefix_is}
 use Rattle.std.proofs.lemmas.Bool.Decides.{Decides-eqb}
@@ -22,7 +22,7 @@ use denote.Ref.{Bor}
 use Rattle.text.specs.Tests.{cases, and_T, true_T}
 use Rattle.spans.specs.Sgr.{digit, parameters, all_at_most, allowed, meaning_after, follow, orders_from, orders}
 use Rattle.spans.specs.Sequence.{leading, parameter_byte}
-use Rattle.spans.specs.Sgr.Contracts.{more, numbers, Scanned, Stand, beginning, ending, stand_of, stand, number_from, next_number, numbers_at, onward, next_from, next_order, orders_left, orders_of, next_of}
+use Rattle.spans.specs.Sgr.Contracts.{more, numbers, Scanned, Stand, beginning, ending, stand_of, stand, number_from, next_number, GivesNumber, numbers_at, numbers_left, onward, next_from, next_order, orders_left, orders_of, next_of}
 use Rattle.spans.specs.declared.sgr.Parameters.{Parameters}
 use Rattle.spans.specs.declared.sgr.Orders.{Orders}
 use Rattle.spans.specs.declared.sgr.Sgr.{Sgr}
@@ -264,6 +264,10 @@ pub no_number : (c : Stand) → c.further ≡ false → next_number c ≡ None
 unfolding next_number
 no_number c f = rw f refl
 
+-- where no parameter is left the reading stands where it stood
+pub stays : (c d : Stand) → c.further ≡ false → d.rest ≡ c.rest → d.further ≡ false → d ≡ c
+stays c d e f g = rw (f, g, e) refl
+
 pub one_number : (p q : Parameters) (n x : ℕ) (d : List ℕ) (a : Bor (List ℕ)) (r : Option (Bor (List ℕ))) → p.further ≡ true → n ≡ prefix_len digit p.rest.now → d ≡ take n p.rest.now → a.now ≡ drop n p.rest.now → x ≡ fold more 0 d
     → MatchOption r (pointwise eqb (take 1 a.now) (0x3B ∷ []) ≡ false) (λ y. (pointwise eqb (take 1 a.now) (0x3B ∷ []) ≡ true) × (y.now ≡ drop 1 a.now) × (length y.now + 1 ≡ length a.now))
     → q.rest ≡ unwrap_or r a → q.further ≡ is_some r → next_number (stand_of p) ≡ Some (x, stand_of q)
@@ -289,6 +293,16 @@ number_is c d n e f = same (number_from 0 c.rest) (rw f at e)
     same : (x : ℕ × Stand) → Some x ≡ Some (n, d) → x ≡ (n, d)
     same x h = cc
 
+none_left : (c : Stand) → next_number c ≡ None → numbers_at c ≡ []
+unfolding next_number
+none_left c e =
+    cases c.further
+    (λ f. absurd (some_none (rw f at e)))
+    (λ f. rw f refl)
+  where
+    some_none : Some (number_from 0 c.rest) ≡ None → ⊥
+    some_none h = cc
+
 pub left_after : (c d : Stand) (n : ℕ) → next_number c ≡ Some (n, d) → numbers_at c ≡ n ∷ numbers_at d
 unfolding next_number
 left_after c d n e =
@@ -298,6 +312,11 @@ left_after c d n e =
   where
     none_some : ◌≡◌ {A = Option (ℕ × Stand)} None (Some (n, d)) → ⊥
     none_some h = cc
+
+-- so the numbers come one after the other, and where none is left none is left after the call either
+pub yields_first : (p q : Parameters) (r : Option ℕ) → GivesNumber p r q → YieldsFirst numbers_left p r q
+yields_first p q None h = let e : numbers_left p ≡ [] = none_left (stand_of p) h.0 in (e, ap numbers_at h.1 ∙ e)
+yields_first p q (Some n) h = left_after (stand_of p) (stand_of q) n h
 
 pub orders_at_law : (s t : List ℕ) → t ≡ s → orders_from Ready (numbers 0 t) ≡ orders (parameters 0 s)
 unfolding orders

@@ -79,7 +79,7 @@ next_number c = cond c.further (Some (number_from 0 c.rest)) None
 
 -- the next number, where there is one, and where the reading stands after it
 abbrev pub GivesNumber : Parameters → Option ℕ → Parameters → Type 0
-GivesNumber p r q = MatchOption r (next_number (stand_of p) ≡ None) (λ n. next_number (stand_of p) ≡ Some (n, stand_of q))
+GivesNumber p r q = MatchOption r ((next_number (stand_of p) ≡ None) × (stand_of q ≡ stand_of p)) (λ n. next_number (stand_of p) ≡ Some (n, stand_of q))
 
 -- the numbers that a reading of parameters has before it
 abbrev pub numbers_at : Stand → List ℕ

@@ -24,7 +24,7 @@ pub returns-in-Unknown-clause-orders : goal.returns-in-Unknown-clause-orders
 returns-in-Unknown-clause-orders c = orders_given c.args.self None (reading_stops _ _ _ c.loop-p.invariant _ (stand_of c.next.new.self) c.in-Some.ensures.steps _ c.meaning_after.ensures c.in-Unknown.is)
 
 pub returns-clause-exact : goal.returns-clause-exact
-returns-clause-exact c = reading_ends _ _ _ c.loop-p.invariant c.in_default.ensures.steps
+returns-clause-exact c = reading_ends _ _ _ c.loop-p.invariant c.in_default.ensures.steps.0
 
 pub returns-clause-orders : goal.returns-clause-orders
-returns-clause-orders c = orders_given c.args.self None (reading_ends _ _ _ c.loop-p.invariant c.in_default.ensures.steps)
+returns-clause-orders c = orders_given c.args.self None (reading_ends _ _ _ c.loop-p.invariant c.in_default.ensures.steps.0)
