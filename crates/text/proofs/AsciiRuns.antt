@@ -94,6 +94,20 @@ module _ (s : List ℕ) (p q : ℕ) (h : p ≤ length s) (e : q ≡ p + ascii_le
   ascii_inside : q ≤ length s
   ascii_inside = omega (arith, ascii_le (drop p s), length-drop p s)
 
+-- the byte after those below 80 is none of them
+stops_high : (s : List ℕ) → ascii_length s < length s → 0x7F < get_or s (ascii_length s) 0
+unfolding ascii_length
+stops_high [] h = absurd (omega arith)
+stops_high (b ∷ s) h =
+    cases (ltb b 0x80)
+    (λ e. rw e (stops_high s (let k : suc (ascii_length s) < suc (length s) = rw e at h in omega arith)))
+    (λ e. rw e (omega (arith, ltb-false b 0x80 e)))
+
+pub ascii_high : (s : List ℕ) (p q : ℕ) → p ≤ length s → q ≡ p + ascii_length (drop p s) → q < length s → 0x7F < get_or s q 0
+ascii_high s p q h e k =
+    let l : ascii_length (drop p s) < length (drop p s) = omega (arith, length-drop p s) in
+    rw (e, ← get_or-drop p s (ascii_length (drop p s)) 0) (stops_high (drop p s) l)
+
 pub record RunLoop (s : List ℕ) (at p : ℕ) : Type 0 where
   pub same : at + size (run_of (decode (drop at s))) ≡ p + size (run_of (decode (drop p s)))
   pub low : p ≤ length s
@@ -102,13 +116,13 @@ pub run_begins : (s : List ℕ) (at : ℕ) → at ≤ length s → RunLoop s at 
 run_begins s at h = record { same = refl; low = h }
 
 module _ (s : List ℕ) (at p : ℕ) (w : RunLoop s at p) where
-  module _ (h : p < length s) (b : get_or s p 0 < 0x80) (q : ℕ) (i : q ≡ p + ascii_length (drop p s)) where
+  module _ (q : ℕ) (i : q ≡ p + ascii_length (drop p s)) where
     pub run_low_again : RunLoop s at q
     run_low_again = record { same = w.same ∙ run_ascii s p q w.low i; low = ascii_inside s p q w.low i }
 
-    pub run_low_falls : length s - q < length s - p
+    pub run_low_falls : p < length s → get_or s p 0 < 0x80 → length s - q < length s - p
     unfolding ascii_length
-    run_low_falls =
+    run_low_falls h b =
         let e : ascii_length (drop p s) ≡ suc (ascii_length (drop (suc p) s)) = rw (drop-cons s p 0 h, lt-ltb (get_or s p 0) 0x80 b) refl in
         omega (arith, e, i)
 
