@@ -42,6 +42,14 @@ row_handed l l' total i n row taken h e k = handed_pushed l l' (row_text total i
 
 -- ---- the rows, one after the other
 
+-- the place after i rows: each takes a kind at least, and none goes past the last
+pub record Placed (kinds : List ℕ) (i place : ℕ) : Type 0 where
+  pub few : i ≤ place
+  pub within : place ≤ length kinds
+
+pub placed_begins : (kinds : List ℕ) → Placed kinds 0 0
+placed_begins kinds = record { few = omega arith; within = omega arith }
+
 module _ (kinds : List ℕ) (total : ℕ) where
   abbrev left : ℕ → List Row
   left place = rows_from place (drop place kinds)
@@ -65,9 +73,16 @@ module _ (kinds : List ℕ) (total : ℕ) where
       many : i + suc (length (left r.end)) ≡ total
       many = let n : length (left place) ≡ suc (length (left r.end)) = ap (length {A = Row}) answer.first in omega (arith, n, z.many)
 
+      -- a row ends after the place from which it was looked for
+      pub printing_less : Placed kinds i place → length kinds - r.end < length kinds - place
+      printing_less y = omega (arith, answer.further, answer.inside y.within)
+
+      pub placed_turn : Placed kinds i place → Placed kinds (i + 1) r.end
+      placed_turn y = record { few = omega (arith, y.few, answer.further); within = answer.inside y.within }
+
       -- a row is found only where fewer than all are printed
-      pub printing_less : total - (i + 1) < total - i
-      printing_less = omega (arith, many)
+      pub rows_less : total - (i + 1) < total - i
+      rows_less = omega (arith, many)
 
       pub printing_fits : total < 2 ^ 64 → i + 1 < 2 ^ 64
       printing_fits h = omega (arith, many)
