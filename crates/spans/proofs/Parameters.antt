@@ -16,6 +16,7 @@ use Rattle.std.specs.Option.{is_some, unwrap_or}
 use Rattle.std.specs.List.{prefix_len}
 use Rattle.std.specs.Iterator.{MakesProgress, YieldsFirst, item_count}
 use lib.Pointwise.{pointwise}
+use Rattle.std.proofs.lemmas.Option.{none-some, same_Some}
 use Rattle.std.proofs.lemmas.Slice.Eq.{strip_prefix_is}
 use Rattle.std.proofs.lemmas.Bool.Decides.{Decides-eqb}
 use denote.Ref.{Bor}
@@ -288,30 +289,21 @@ number_left (b ∷ s) v =
 
 number_is : (c d : Stand) (n : ℕ) → next_number c ≡ Some (n, d) → c.further ≡ true → number_from 0 c.rest ≡ (n, d)
 unfolding next_number
-number_is c d n e f = same (number_from 0 c.rest) (rw f at e)
-  where
-    same : (x : ℕ × Stand) → Some x ≡ Some (n, d) → x ≡ (n, d)
-    same x h = cc
+number_is c d n e f = same_Some (number_from 0 c.rest) (n, d) (rw f at e)
 
 none_left : (c : Stand) → next_number c ≡ None → numbers_at c ≡ []
 unfolding next_number
 none_left c e =
     cases c.further
-    (λ f. absurd (some_none (rw f at e)))
+    (λ f. absurd (none-some (number_from 0 c.rest) (sym (rw f at e))))
     (λ f. rw f refl)
-  where
-    some_none : Some (number_from 0 c.rest) ≡ None → ⊥
-    some_none h = cc
 
 pub left_after : (c d : Stand) (n : ℕ) → next_number c ≡ Some (n, d) → numbers_at c ≡ n ∷ numbers_at d
 unfolding next_number
 left_after c d n e =
     cases c.further
     (λ f. rw f (rw (number_is c d n e f) at (number_left c.rest 0)))
-    (λ f. absurd (none_some (rw f at e)))
-  where
-    none_some : ◌≡◌ {A = Option (ℕ × Stand)} None (Some (n, d)) → ⊥
-    none_some h = cc
+    (λ f. absurd (none-some (n, d) (rw f at e)))
 
 -- so the numbers come one after the other, and where none is left none is left after the call either
 pub yields_first : (p q : Parameters) (r : Option ℕ) → GivesNumber p r q → YieldsFirst numbers_left p r q
@@ -346,11 +338,8 @@ module _ (w : ColorState) (c : Stand) (z : Option (Sgr × Stand)) (i : go_on w c
   unfolding next_number go_on
   reading_ends e =
       cases c.further
-      (λ f. absurd (none_some (rw f at e)))
+      (λ f. absurd (none-some (number_from 0 c.rest) (sym (rw f at e))))
       (λ f. rw f at i)
-    where
-      none_some : Some (number_from 0 c.rest) ≡ None → ⊥
-      none_some h = cc
 
   module _ (p : ℕ) (d : Stand) (e : next_number c ≡ Some (p, d)) (t : Meaning) (f : t ≡ meaning_after w p) where
     said : onward t d (λ x. go_on x d) ≡ z
@@ -358,10 +347,7 @@ module _ (w : ColorState) (c : Stand) (z : Option (Sgr × Stand)) (i : go_on w c
     said =
         cases c.further
         (λ g. rw f (sym (rw (number_is c d p e g) at (number_said c.rest w 0)) ∙ (rw g at i)))
-        (λ g. absurd (none_some (rw g at e)))
-      where
-        none_some : ◌≡◌ {A = Option (ℕ × Stand)} None (Some (p, d)) → ⊥
-        none_some h = cc
+        (λ g. absurd (none-some (p, d) (rw g at e)))
 
     pub reading_order : (o : Sgr) → t ≡ step.Order o → Some (o, d) ≡ z
     unfolding onward

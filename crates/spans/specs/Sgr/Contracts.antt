@@ -2,6 +2,7 @@
 use Rattle.std.specs.Prelude.{◌≡◌, ℕ, suc, ◌+◌, ◌-◌, ◌*◌, ◌%◌, ◌≤◌, Bool, true, false, cond, List, [], ◌∷◌, length, drop, eqb, leb, Option, Some, None, MatchOption}
 use Rattle.std.proofs.Math.Path.{refl}
 use Rattle.std.proofs.Common.{arith}
+use Rattle.std.proofs.lemmas.Option.{none-some}
 use Rattle.text.specs.Tests.{cases}
 use Rattle.spans.specs.Sgr.{digit, parameters, allowed, Known, eight, meaning_after, orders_from, orders}
 use Rattle.spans.specs.Sequence.{leading, parameter_byte}
@@ -77,7 +78,7 @@ unfoldable pub next_number : Stand → Option (ℕ × Stand)
 unfolding number_from
 next_number c = cond c.further (Some (number_from 0 c.rest)) None
 
--- the next number, where there is one, and where the reading stands after it
+-- the next number, and where the reading stands after it; or none, and it stands where it stood
 abbrev pub GivesNumber : Parameters → Option ℕ → Parameters → Type 0
 GivesNumber p r q = MatchOption r ((next_number (stand_of p) ≡ None) × (stand_of q ≡ stand_of p)) (λ n. next_number (stand_of p) ≡ Some (n, stand_of q))
 
@@ -167,10 +168,7 @@ unfolding next_order
 next_inside c o d e =
     cases c.further
     (λ f. found (next_from Ready 0 c.rest) (rw f at e) (inside_from c.rest Ready 0))
-    (λ f. absurd (none_some (rw f at e)))
+    (λ f. absurd (none-some (o, d) (rw f at e)))
   where
     found : (r : Option (Sgr × Stand)) → r ≡ Some (o, d) → Inside c.rest r → EndsWith c.rest d.rest
     found r h k = rw h at k
-
-    none_some : ◌≡◌ {A = Option (Sgr × Stand)} None (Some (o, d)) → ⊥
-    none_some h = cc
